@@ -1,0 +1,12 @@
+pub mod Device
+pub mod Names
+pub mod Tree
+pub mod Document
+pub mod Matching
+pub mod Lex
+pub mod Written
+pub mod View
+pub mod Table
+pub mod Lines
+pub mod Pyx
+pub mod PyxFaults

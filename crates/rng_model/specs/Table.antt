@@ -1,0 +1,99 @@
+-- A simple grammar in tables, and the trees that it stands for.
+use Rattle.std.specs.Prelude.{◌≡◌, ℕ, ◌+◌, ◌<◌, ⊤, List, [], ◌∷◌, ◌++◌, length, fold, map, All, slice_get, slice_index_or, Option, Some, None}
+use Rattle.rng_model.specs.Names as names
+use Rattle.rng_model.specs.Names.{In}
+use Rattle.rng_model.specs.Tree as tree
+use Rattle.rng_model.specs.Tree.{Tree, choice, group, IsSimpleBody, as_tree}
+use Rattle.rng_model.specs.Document.{Item}
+use Rattle.rng_model.specs.Matching.{Leaves, Texts, IsValid}
+use Rattle.rng_model.specs.Lex.{HasText}
+use Rattle.rng_model.specs.Written.{Nothing}
+use Rattle.rng_model.specs.View.{class_of}
+use Rattle.rng_model.specs.declared.name.NameClass.{NameClass}
+use Rattle.rng_model.specs.declared.simple.PatternId.{PatternId}
+use Rattle.rng_model.specs.declared.simple.ElementId.{ElementId}
+use Rattle.rng_model.specs.declared.simple.Simple.{Simple}
+use Rattle.rng_model.specs.declared.simple.Simple.TheVariants as simple
+
+-- the patterns, the elements (a name class and the position of a body), and where to start
+pub record Table : Type 0 where
+  pub patterns : List Simple
+  pub elements : List (NameClass × PatternId)
+  pub start : PatternId
+
+-- one pattern as a tree, given the trees of its children
+abbrev pub shape : (PatternId → tree.Simple ℕ) → Simple → tree.Simple ℕ
+shape of simple.NotAllowed = tree.s_not_allowed
+shape of simple.Empty = tree.s_empty
+shape of simple.Text = tree.s_text
+shape of (simple.Element e) = tree.s_leaf e.0
+shape of (simple.Attribute class body) = tree.s_attribute (class_of class) (of body)
+shape of (simple.Group a b) = tree.s_joined group (of a) (of b)
+shape of (simple.Choice a b) = tree.s_joined choice (of a) (of b)
+
+abbrev pub tree_in : List (tree.Simple ℕ) → PatternId → tree.Simple ℕ
+tree_in ts id = slice_index_or ts id.0 tree.s_not_allowed
+
+abbrev pub with_tree : List (tree.Simple ℕ) → Simple → List (tree.Simple ℕ)
+with_tree ts p = ts ++ shape (tree_in ts) p ∷ []
+
+-- the tree of each pattern, made of those before it
+unfoldable pub trees : List Simple → List (tree.Simple ℕ)
+trees ps = fold with_tree [] ps
+
+-- the tree of a pattern of the table
+abbrev pub tree_at : List Simple → PatternId → tree.Simple ℕ
+tree_at ps = tree_in (trees ps)
+
+-- what a table stands for: a start, and the class and the body of each element
+pub record Grammar : Type 0 where
+  pub start : tree.Simple ℕ
+  pub elements : List (names.NameClass × tree.Simple ℕ)
+
+abbrev pub grammar_of : Table → Grammar
+grammar_of t = record {
+  start = tree_at t.patterns t.start;
+  elements = map (λ e. (class_of e.0, tree_at t.patterns e.1)) t.elements;
+}
+
+-- the grammar is in the simple syntax (RELAX NG Specification, section 5): no notAllowed but as a whole start or body
+pub record IsInSimpleSyntax (g : Grammar) : Type 0 where
+  pub start : IsSimpleBody g.start
+  pub bodies : All (λ e. IsSimpleBody e.1) g.elements
+
+-- ---- a grammar read by the rules of matching
+
+-- the grammar lists this class and this body for the element
+pub data IsListed (g : Grammar) : Unit {0} → ℕ → names.NameClass → Unit {0} → Tree ℕ → Type 0 where
+  is_listed : {x y : Unit {0}} {k : ℕ} {c : names.NameClass} {t : Tree ℕ} {s : tree.Simple ℕ} → slice_get g.elements k ≡ Some (c, s) → t ≡ as_tree s → IsListed g x k c y t
+
+abbrev pub grammar_leaves : Grammar → Texts → Leaves (Unit {0}) ℕ
+grammar_leaves g texts = record { StandsFor = Nothing (Unit {0}) ℕ; IsElement = IsListed g; Excepts = λ x a w. HasText texts a w }
+
+-- the document with this root is valid by the grammar
+abbrev pub IsValidBy : Grammar → Texts → Item → Type 0
+IsValidBy g texts root = IsValid (grammar_leaves g texts) In texts tt (as_tree g.start) root
+
+-- ---- what holds of the tables
+
+-- each child stands below n
+abbrev pub AreChildrenBelow : ℕ → Simple → Type 0
+AreChildrenBelow n (simple.Attribute class body) = body.0 < n
+AreChildrenBelow n (simple.Group a b) = (a.0 < n) × (b.0 < n)
+AreChildrenBelow n (simple.Choice a b) = (a.0 < n) × (b.0 < n)
+AreChildrenBelow n _ = ⊤
+
+-- a ref is one of the n elements
+abbrev pub IsLeafListed : ℕ → Simple → Type 0
+IsLeafListed n (simple.Element e) = e.0 < n
+IsLeafListed n _ = ⊤
+
+-- each pattern's children stand before it
+abbrev pub Falls : List Simple → Type 0
+Falls ps = (i : ℕ) (p : Simple) → slice_get ps i ≡ Some p → AreChildrenBelow i p
+
+pub record IsTable (t : Table) : Type 0 where
+  pub start : t.start.0 < length t.patterns
+  pub bodies : All (λ e. e.1.0 < length t.patterns) t.elements
+  pub falls : Falls t.patterns
+  pub listed : All (IsLeafListed (length t.elements)) t.patterns

@@ -1,0 +1,47 @@
+-- What the values of the code are, apart from where they lie in memory.
+use Rattle.std.specs.Prelude.{ℕ, List, [], ◌∷◌, map, string_bytes}
+use Rattle.rng_model.specs.declared.name.Name.{Name}
+use Rattle.rng_model.specs.declared.name.NameClass.{NameClass}
+use Rattle.rng_model.specs.declared.name.NameClass.TheVariants as classes
+use Rattle.rng_model.specs.declared.document.Attr.{Attr}
+use Rattle.rng_model.specs.declared.document.Item.{Item, fold-Item}
+use Rattle.rng_model.specs.declared.document.Item.TheOpen.{Item-F}
+use Rattle.rng_model.specs.declared.pattern.Pattern.{Pattern, fold-Pattern}
+use Rattle.rng_model.specs.declared.pattern.Pattern.TheOpen.{Pattern-F}
+use Rattle.rng_model.specs.Names as names
+use Rattle.rng_model.specs.Tree.{group, choice}
+use Rattle.rng_model.specs.Document as document
+use Rattle.rng_model.specs.Written as written
+
+abbrev pub name_of : Name → names.Name
+name_of n = record { ns = string_bytes n.ns; local = string_bytes n.local }
+
+abbrev pub class_of : NameClass → names.NameClass
+class_of (classes.Name n) = names.name_is (name_of n)
+
+abbrev pub attribute_of : Attr → document.Attribute
+attribute_of a = record { name = name_of a.name; content = string_bytes a.value }
+
+abbrev pub items_of : List document.Item → document.Items
+items_of [] = document.no_items
+items_of (n ∷ ns) = document.item_and n (items_of ns)
+
+-- one level of an item, with each child already seen as its tree
+abbrev pub item_step : Item-F document.Item → document.Item
+item_step (Item-F.Text s) = document.a_text (string_bytes s)
+item_step (Item-F.Element name attrs children) = document.an_element (name_of name) (map attribute_of attrs.items) (items_of children.items)
+
+abbrev pub item_of : Item → document.Item
+item_of = fold-Item document.Item item_step
+
+-- one level of a pattern, with each pattern inside already seen as its tree
+abbrev pub pattern_step : Pattern-F written.Pattern → written.Pattern
+pattern_step Pattern-F.Empty = written.empty
+pattern_step Pattern-F.Text = written.text
+pattern_step (Pattern-F.Element class body) = written.element (class_of class) body.value
+pattern_step (Pattern-F.Attribute class body) = written.attribute (class_of class) body.value
+pattern_step (Pattern-F.Group all) = written.members group all.items
+pattern_step (Pattern-F.Choice all) = written.members choice all.items
+
+abbrev pub pattern_of : Pattern → written.Pattern
+pattern_of = fold-Pattern written.Pattern pattern_step

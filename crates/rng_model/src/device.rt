@@ -1,0 +1,98 @@
+// A reader or a writer that counts its failed calls.
+ghost use Rattle.std.specs.Prelude.{◌≡◌, ◌+◌, ◌-◌, ◌^◌, ◌<◌, ◌≤◌, length, is_ok, IfOk, IsErr, OnOk, MatchResult, if◌then◌else◌};
+ghost use Rattle.std.specs.Io.{ReadsAtMost, WritesAtMost};
+ghost use Rattle.std.specs.Io.KnownBytes.{ReadConsumes, WriteAppends, Keeps};
+ghost use Rattle.rng_model.specs.Device.{device_inner, device_failures, device_taken};
+
+use std::io::{Read, Write};
+
+/// A call of a device failed, and the device counted it.
+#[derive(Clone, Copy, Debug, PartialEq, Eq)]
+pub struct DeviceFault;
+
+/// A `Read` or a `Write` that counts its failed calls.
+#[derive(Drop)]
+pub struct Device<T> {
+    inner: T,
+    failures: u64,
+    taken: u64,
+}
+
+/// Once this many bytes were read, a further read is refused, so that every loop of reads ends.
+const READ_LIMIT: u64 = 1 << 62;
+
+impl<T> Device<T> {
+    /// A device that has counted no failure and read no byte. Takes no memory.
+    pub fn new(inner: T) -> Self
+        ensures inner { device_inner result ≡ inner }
+        ensures failures { device_failures result ≡ 0 }
+        ensures taken { device_taken result ≡ 0 }
+    {
+        Device {
+            inner,
+            failures: 0,
+            taken: 0,
+        }
+    }
+
+    /// How many calls failed. Takes no memory.
+    pub fn failures(&self) -> u64
+        ensures { result ≡ device_failures self.now }
+    {
+        self.failures
+    }
+}
+
+impl<R: Read> Device<R> {
+    /// Reads into the front of a slice, and answers how many bytes. Takes no memory.
+    ///
+    /// Every error of the reader counts as a failed call, that of an interrupted one too. Once 2^62 or more bytes
+    /// were read, the reader is not asked, and the call counts as failed.
+    pub fn read(&mut self, buf: &mut [u8]) -> Result<usize, DeviceFault>
+        requires { device_failures self.old < 2 ^ 64 - 1 }
+        ensures bound { ReadsAtMost result buf.new }
+        ensures bytes { ReadConsumes (R.remaining (device_inner self.old)) (R.remaining (device_inner self.new)) result buf.new }
+        ensures failures { device_failures self.new ≡ device_failures self.old + (if is_ok result then 0 else 1) }
+        ensures taken { MatchResult result (λ n. device_taken self.new ≡ device_taken self.old + n) (λ _. device_taken self.new ≡ device_taken self.old) }
+        // Past the limit the call fails, and the reader was not asked.
+        ensures limit { 2 ^ 62 ≤ device_taken self.old → IsErr result × (device_inner self.new ≡ device_inner self.old) × (buf.new ≡ buf.old) }
+    {
+        if self.taken >= READ_LIMIT {
+            self.failures += 1;
+            return Err(DeviceFault);
+        }
+        match self.inner.read(buf) {
+            Ok(n) => {
+                self.taken += n as u64;
+                Ok(n)
+            }
+            Err(_) => {
+                self.failures += 1;
+                Err(DeviceFault)
+            }
+        }
+    }
+}
+
+impl<W: Write> Device<W> {
+    /// Writes the front of a slice, and answers how many bytes were taken: at least one, unless the slice is empty.
+    /// Takes no memory.
+    ///
+    /// A call that takes nothing of a slice that is not empty counts as failed, as every error of the writer does.
+    pub fn write(&mut self, buf: &[u8]) -> Result<usize, DeviceFault>
+        requires { device_failures self.old < 2 ^ 64 - 1 }
+        ensures bound { WritesAtMost result buf.now }
+        ensures some { IfOk result (λ n. 0 < length buf.now → 0 < n) }
+        ensures bytes { WriteAppends (W.contents (device_inner self.old)) (W.contents (device_inner self.new)) result buf.now }
+        ensures taken { device_taken self.new ≡ device_taken self.old }
+        ensures failures { device_failures self.new ≡ device_failures self.old + (if is_ok result then 0 else 1) }
+    {
+        match self.inner.write(buf) {
+            Ok(n) if n > 0 || buf.is_empty() => Ok(n),
+            _ => {
+                self.failures += 1;
+                Err(DeviceFault)
+            }
+        }
+    }
+}

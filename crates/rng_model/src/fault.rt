@@ -1,0 +1,44 @@
+// Why a call did not answer.
+ghost use Rattle.std.specs.Prelude.{◌≡◌};
+ghost use Rattle.rng_model.specs.declared.fault.SchemaFault.TheVariants as faults;
+
+use std::alloc::{AllocError, AllocFailed};
+
+/// There was no memory for what a call had to keep.
+#[derive(Clone, Copy, Debug, PartialEq, Eq)]
+pub struct OutOfMemory;
+
+impl From<AllocError> for OutOfMemory {
+    fn from(_e: AllocError) -> OutOfMemory {
+        OutOfMemory
+    }
+}
+
+impl<T: Drop> From<AllocFailed<T>> for OutOfMemory {
+    fn from(_e: AllocFailed<T>) -> OutOfMemory {
+        OutOfMemory
+    }
+}
+
+/// Why a schema has no answer.
+#[derive(Debug, Drop)]
+pub enum SchemaFault {
+    /// There was no memory for what the call had to keep.
+    Memory,
+}
+
+impl From<AllocError> for SchemaFault {
+    ghost from_gives = { λ _ e. e ≡ faults.Memory };
+
+    fn from(_e: AllocError) -> SchemaFault {
+        SchemaFault::Memory
+    }
+}
+
+impl<T: Drop> From<AllocFailed<T>> for SchemaFault {
+    ghost from_gives = { λ _ e. e ≡ faults.Memory };
+
+    fn from(_e: AllocFailed<T>) -> SchemaFault {
+        SchemaFault::Memory
+    }
+}

@@ -1,0 +1,77 @@
+// A simple grammar in tables.
+ghost use Rattle.std.specs.Prelude.{◌≡◌, ◌<◌, length, slice_get, option_copied, IfSome};
+ghost use Rattle.rng_model.specs.Table.{IsTable, AreChildrenBelow, tree_at, shape};
+
+use crate::name::NameClass;
+use crate::simple::{ElementId, PatternId, Simple};
+use std::marker::Model;
+
+/// A grammar in simple form: a table of patterns, a table of elements (a name class and a body each), and the start.
+///
+/// RELAX NG Specification, section 5. The start and each body are positions in the table of patterns, a child's
+/// position is smaller than its parent's, and every ref is a position in the table of elements. Contracts see the
+/// tables; `Rattle.rng_model.specs.Table.grammar_of` gives the trees that they stand for.
+#[derive(Debug, Drop)]
+pub struct SimpleGrammar {
+    patterns: Vec<Simple>,
+    elements: Vec<(NameClass, PatternId)>,
+    start: PatternId,
+}
+
+impl Model for SimpleGrammar {
+    ghost use Rattle.rng_model.specs.Table.{Table, IsTable};
+
+    ghost Value = { Table };
+
+    ghost view = { λ g. record { patterns = g.patterns.items; elements = g.elements.items; start = g.start } };
+
+    ghost invariant = { λ g. IsTable (record { patterns = g.patterns.items; elements = g.elements.items; start = g.start }) };
+}
+
+impl SimpleGrammar {
+    /// The grammar of these tables. Takes no memory.
+    pub fn new(
+        patterns: Vec<Simple>,
+        elements: Vec<(NameClass, PatternId)>,
+        start: PatternId,
+    ) -> Self
+        requires { IsTable (record { patterns = patterns.items; elements = elements.items; start = start }) }
+        ensures { result ≡ record { patterns = patterns.items; elements = elements.items; start = start } }
+    {
+        SimpleGrammar {
+            patterns,
+            elements,
+            start,
+        }
+    }
+
+    /// Where matching starts. Takes no memory.
+    pub fn start(&self) -> PatternId
+        ensures start { result ≡ self.now.start }
+        ensures valid { IsTable self.now }
+    {
+        self.start
+    }
+
+    /// The pattern at a position, or `None` past the table. Takes no memory.
+    pub fn pattern(&self, id: PatternId) -> Option<&Simple>
+        ensures value { option_copied result ≡ slice_get self.now.patterns id.0 }
+        ensures below { IfSome result (λ p. AreChildrenBelow id.0 p.now) }
+        ensures tree { IfSome result (λ p. tree_at self.now.patterns id ≡ shape (tree_at self.now.patterns) p.now) }
+    {
+        found_at(self.patterns.as_slice(), id.0)
+    }
+
+    /// The name class and the body of the element at a position, or `None` past the table. Takes no memory.
+    pub fn element(&self, id: ElementId) -> Option<&(NameClass, PatternId)>
+        ensures { option_copied result ≡ slice_get self.now.elements id.0 }
+    {
+        found_at(self.elements.as_slice(), id.0)
+    }
+}
+
+fn found_at<T>(items: &[T], place: usize) -> Option<&T>
+    ensures { option_copied result ≡ slice_get items.now place }
+{
+    items.get(place)
+}

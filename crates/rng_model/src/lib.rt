@@ -1,0 +1,24 @@
+//! What the crates of `rncv` share: names, patterns as written and in simple form, documents, and devices.
+//!
+//! The definitions that every other crate's contracts cite stand in this crate's `specs/`: which names a class
+//! holds, which documents a pattern matches, and which lines are a document. Its own calls keep the tables of a
+//! simple grammar in order, and count the failed calls of a reader or a writer.
+#![tactic(auto)]
+
+mod device;
+mod document;
+mod fault;
+mod grammar;
+mod name;
+mod pattern;
+mod simple;
+#[cfg(test)]
+mod tests;
+
+pub use device::{Device, DeviceFault};
+pub use document::{Attr, Item};
+pub use fault::{OutOfMemory, SchemaFault};
+pub use grammar::SimpleGrammar;
+pub use name::{Name, NameClass};
+pub use pattern::Pattern;
+pub use simple::{ElementId, PatternId, Simple};

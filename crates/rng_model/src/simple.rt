@@ -1,0 +1,25 @@
+// One pattern of a simple grammar's table.
+use crate::name::NameClass;
+
+/// A position in a grammar's table of patterns, from 0.
+#[derive(Clone, Copy, Debug, PartialEq, Eq, PartialOrd, Ord, Hash)]
+pub struct PatternId(pub usize);
+
+/// A position in a grammar's table of elements, from 0.
+#[derive(Clone, Copy, Debug, PartialEq, Eq, PartialOrd, Ord, Hash)]
+pub struct ElementId(pub usize);
+
+/// A pattern in simple form, its children named by their positions.
+///
+/// RELAX NG Specification, section 5.
+#[derive(Debug, Drop)]
+pub enum Simple {
+    NotAllowed,
+    Empty,
+    Text,
+    /// A ref to an element that the grammar lists.
+    Element(ElementId),
+    Attribute(NameClass, PatternId),
+    Group(PatternId, PatternId),
+    Choice(PatternId, PatternId),
+}
