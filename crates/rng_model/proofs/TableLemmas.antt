@@ -84,3 +84,11 @@ tree_of_pushed ps qs p id more at =
 pub tree_stays_after_push : (ps qs : List Simple) (p : Simple) (id : PatternId) → qs ≡ ps ++ p ∷ [] → id.0 < length ps → tree_at qs id ≡ tree_at ps id
 tree_stays_after_push ps qs p id more inside =
     rw (more, trees-push) (get_or_append_left (trees ps) _ tree.s_not_allowed id.0 (omega (arith, length-trees ps)))
+
+-- tables that begin with others have the trees of those
+pub tree_stays : (ps qs : List Simple) (id : PatternId) → take (length ps) qs ≡ ps → id.0 < length ps → tree_at qs id ≡ tree_at ps id
+unfolding trees
+tree_stays ps qs id front inside =
+    let split : qs ≡ ps ++ drop (length ps) qs = sym (take-append-drop (length ps) qs) ∙ ap (λ xs. xs ++ drop (length ps) qs) front in
+    let long : id.0 < length (trees ps) = omega (arith, length-trees ps) in
+    ap (λ xs. tree_at xs id) split ∙ ap (λ ts. tree_in ts id) (fold-append with_tree [] ps (drop (length ps) qs)) ∙ front_stays (trees ps) (drop (length ps) qs) id.0 long

@@ -1,5 +1,5 @@
 -- A simple grammar in tables, and the trees that it stands for.
-use Rattle.std.specs.Prelude.{◌≡◌, ℕ, ◌+◌, ◌<◌, ⊤, List, [], ◌∷◌, ◌++◌, length, fold, map, All, slice_get, slice_index_or, Option, Some, None}
+use Rattle.std.specs.Prelude.{◌≡◌, ℕ, ◌<◌, ⊤, List, [], ◌∷◌, ◌++◌, length, fold, map, All, slice_get, slice_index_or, Some}
 use Rattle.rng_model.specs.Names as names
 use Rattle.rng_model.specs.Names.{In}
 use Rattle.rng_model.specs.Tree as tree
@@ -11,7 +11,6 @@ use Rattle.rng_model.specs.Written.{Nothing}
 use Rattle.rng_model.specs.View.{class_of}
 use Rattle.rng_model.specs.declared.name.NameClass.{NameClass}
 use Rattle.rng_model.specs.declared.simple.PatternId.{PatternId}
-use Rattle.rng_model.specs.declared.simple.ElementId.{ElementId}
 use Rattle.rng_model.specs.declared.simple.Simple.{Simple}
 use Rattle.rng_model.specs.declared.simple.Simple.TheVariants as simple
 

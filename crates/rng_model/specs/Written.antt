@@ -5,7 +5,7 @@ use Rattle.rng_model.specs.Names.{NameClass, In}
 use Rattle.rng_model.specs.Tree.{Datatype, Connector, choice, group, interleave}
 use Rattle.rng_model.specs.Tree.{Tree, Trees}
 use Rattle.rng_model.specs.Tree as tree
-use Rattle.rng_model.specs.Document.{Attribute, Item}
+use Rattle.rng_model.specs.Document.{Item}
 use Rattle.rng_model.specs.Matching.{Leaves, Texts, IsValid}
 use Rattle.rng_model.specs.Lex.{HasText}
 

@@ -41,6 +41,15 @@ impl<T> Device<T> {
     {
         self.failures
     }
+
+    /// Counts a failed call.
+    fn failure(&mut self) -> DeviceFault
+        requires { device_failures self.old < 2 ^ 64 - 1 }
+        ensures { self.new ≡ record self.old { failures = device_failures self.old + 1 } }
+    {
+        self.failures += 1;
+        DeviceFault
+    }
 }
 
 impl<R: Read> Device<R> {
@@ -58,18 +67,14 @@ impl<R: Read> Device<R> {
         ensures limit { 2 ^ 62 ≤ device_taken self.old → IsErr result × (device_inner self.new ≡ device_inner self.old) × (buf.new ≡ buf.old) }
     {
         if self.taken >= READ_LIMIT {
-            self.failures += 1;
-            return Err(DeviceFault);
+            return Err(self.failure());
         }
         match self.inner.read(buf) {
             Ok(n) => {
                 self.taken += n as u64;
                 Ok(n)
             }
-            Err(_) => {
-                self.failures += 1;
-                Err(DeviceFault)
-            }
+            Err(_) => Err(self.failure()),
         }
     }
 }
@@ -89,10 +94,7 @@ impl<W: Write> Device<W> {
     {
         match self.inner.write(buf) {
             Ok(n) if n > 0 || buf.is_empty() => Ok(n),
-            _ => {
-                self.failures += 1;
-                Err(DeviceFault)
-            }
+            _ => Err(self.failure()),
         }
     }
 }

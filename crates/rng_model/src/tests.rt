@@ -1,1 +1,102 @@
-// Tests of what no contract says.
+// What no contract says: that working devices are not counted as failed, and the calls once on their happy path.
+use crate::{Device, DeviceFault, ElementId, Name, NameClass, PatternId, Simple, SimpleGrammar};
+use std::alloc::{AllocError, Global};
+use std::io;
+use std::io::{Read, Write};
+use std::test::Fail;
+
+/// A reader that fails at its first call, as one that is interrupted.
+#[derive(Drop)]
+struct Interrupted;
+
+impl Read for Interrupted {
+    fn read(&mut self, _buf: &mut [u8]) -> io::Result<usize> {
+        Err(io::Error::from(io::ErrorKind::Interrupted))
+    }
+}
+
+/// A writer that takes this many bytes at most in a call.
+#[derive(Drop)]
+struct Narrow(usize);
+
+impl Write for Narrow {
+    fn write(&mut self, buf: &[u8]) -> io::Result<usize> {
+        Ok(self.0.min(buf.len()))
+    }
+
+    fn flush(&mut self) -> io::Result<()> {
+        Ok(())
+    }
+}
+
+#[test]
+fn counts_failed_reads_alone(rt: HostRuntime) -> Result<(), Fail> {
+    let mut chunk = [0u8; 4];
+    let mut working = Device::new(b"abcdef".as_slice());
+    assert!(rt; working.read(&mut chunk) == Ok(4));
+    assert!(rt; working.read(&mut chunk) == Ok(2));
+    assert!(rt; working.read(&mut chunk) == Ok(0));
+    assert_eq!(rt; working.failures(), 0);
+    let mut broken = Device::new(Interrupted);
+    assert!(rt; broken.failures() < 9);
+    assert!(rt; broken.read(&mut chunk) == Err(DeviceFault));
+    assert_eq!(rt; broken.failures(), 1);
+    Ok(())
+}
+
+#[test]
+fn counts_failed_writes_alone(rt: HostRuntime) -> Result<(), Fail> {
+    let mut narrow = Device::new(Narrow(2));
+    assert!(rt; narrow.write(b"abc") == Ok(2));
+    assert!(rt; narrow.write(b"") == Ok(0));
+    assert_eq!(rt; narrow.failures(), 0);
+    let mut full = Device::new(Narrow(0));
+    assert!(rt; full.write(b"") == Ok(0));
+    assert_eq!(rt; full.failures(), 0);
+    assert!(rt; full.write(b"abc") == Err(DeviceFault));
+    assert_eq!(rt; full.failures(), 1);
+    Ok(())
+}
+
+fn class(alloc: Global, local: &str) -> Result<NameClass, AllocError> {
+    Ok(NameClass::Name(Name {
+        ns: String::new(alloc),
+        local: String::from_str(alloc, local)?,
+    }))
+}
+
+/// An element that is empty or has an attribute with any text.
+fn small_grammar(alloc: Global) -> Result<SimpleGrammar, AllocError> {
+    let attribute = class(alloc, "x")?;
+    let patterns = vec![in alloc;
+        Simple::Empty,
+        Simple::Text,
+        Simple::Attribute(attribute, PatternId(1)),
+        Simple::Choice(PatternId(0), PatternId(2)),
+        Simple::Element(ElementId(0)),
+    ]?;
+    let elements = vec![in alloc; (class(alloc, "a")?, PatternId(3))]?;
+    Ok(SimpleGrammar::new(patterns, elements, PatternId(4)))
+}
+
+#[test]
+fn reads_a_grammar(rt: HostRuntime) -> Result<(), Fail> {
+    let grammar = small_grammar(rt.alloc())?;
+    assert!(rt; grammar.start() == PatternId(4));
+    assert!(rt;
+        matches!(
+            grammar.pattern(PatternId(4)),
+            Some(Simple::Element(ElementId(0)))
+        )
+    );
+    assert!(rt;
+        matches!(
+            grammar.pattern(PatternId(3)),
+            Some(Simple::Choice(PatternId(0), PatternId(2)))
+        )
+    );
+    assert!(rt; grammar.pattern(PatternId(5)).is_none());
+    assert!(rt; matches!(grammar.element(ElementId(0)), Some((_, PatternId(3)))));
+    assert!(rt; grammar.element(ElementId(1)).is_none());
+    Ok(())
+}

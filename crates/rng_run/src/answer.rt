@@ -1,0 +1,68 @@
+// What a run answers.
+ghost use Rattle.std.specs.Prelude.{◌≡◌, IfOk, string_bytes};
+ghost use Rattle.rng_run.specs.Answer as answer;
+ghost use Rattle.rng_run.specs.Answer.{line_of, status_of};
+ghost use Rattle.rng_run.specs.AnswerView.{answer_of};
+
+use std::alloc::{AllocError, Global};
+
+/// What a document is by a grammar.
+#[derive(Clone, Copy, Debug, PartialEq, Eq)]
+pub enum Verdict {
+    Valid,
+    /// The clause that is broken first, 0 for a line outside the fragment of the format, and its line, from 1.
+    Malformed { clause: u8, line: u64 },
+    /// The number of the document's lines.
+    Invalid(u64),
+}
+
+/// What a run found. The exit status of the program is 0, 1, 2 or 3, in this order.
+#[derive(Clone, Copy, Debug, PartialEq, Eq)]
+pub enum Status {
+    Good,
+    Invalid,
+    Malformed,
+    Refused,
+}
+
+/// What a run answers with one line.
+#[derive(Clone, Copy, Debug, PartialEq, Eq)]
+pub enum Answer {
+    /// The schema breaks this clause, or is outside what is served: clause 0.
+    Refused(u8),
+    Judged(Verdict),
+}
+
+impl Answer {
+    /// The status that goes with the line. Takes no memory.
+    pub fn status(self) -> Status
+        ensures { result ≡ status_of (answer_of self) }
+    {
+        match self {
+            Answer::Refused(_) => Status::Refused,
+            Answer::Judged(Verdict::Valid) => Status::Good,
+            Answer::Judged(Verdict::Invalid(_)) => Status::Invalid,
+            Answer::Judged(Verdict::Malformed { .. }) => Status::Malformed,
+        }
+    }
+
+    /// The line, ended by a line feed.
+    pub fn line(self, alloc: Global) -> Result<String, AllocError>
+        ensures { IfOk result (λ line. string_bytes line ≡ line_of (answer_of self)) }
+    {
+        match self {
+            Answer::Refused(clause) => format!(in alloc; "refused S{clause}\n"),
+            Answer::Judged(Verdict::Valid) => String::from_str(alloc, "valid\n"),
+            Answer::Judged(Verdict::Invalid(line)) => format!(in alloc; "invalid line {line}\n"),
+            Answer::Judged(Verdict::Malformed { clause, line }) => {
+                malformed_line(alloc, clause, line)
+            }
+        }
+    }
+}
+
+fn malformed_line(alloc: Global, clause: u8, line: u64) -> Result<String, AllocError>
+    ensures { IfOk result (λ text. string_bytes text ≡ line_of (answer.judged (Verdict.Malformed clause line))) }
+{
+    format!(in alloc; "malformed P{clause} line {line}\n")
+}

@@ -1,0 +1,95 @@
+-- Tables that grow: what stays true of what was there before.
+use Rattle.std.proofs.Common.{inl, inr, get_or, Some, length-append, ◌≡◌, ℕ, ◌+◌, ◌<◌, ◌≤◌, List, [], ◌∷◌, ◌++◌, length, take, All, slice_index_or, sym, ap, subst, refl, arith, ◌∙◌}
+use Rattle.std.proofs.lemmas.List.{length-take, take_min, get_or_push, get_or_append_left}
+use Rattle.std.proofs.lemmas.Bool.{cases_lt}
+use Rattle.std.proofs.lemmas.Option.{slice_get_within, get_or_from_slice_get, slice_get-get_or}
+use Rattle.std.proofs.Math.Seq.{take-take}
+use Rattle.std.proofs.lemmas.List.Elements.{All-map}
+use Rattle.rng_model.specs.Table.{tree_at, Falls, AreChildrenBelow, Table, IsInSimpleSyntax, grammar_of}
+use Rattle.rng_model.specs.Tree.{IsSimpleBody, IsFreeOfNotAllowed, s_empty, s_joined, choice}
+use Rattle.rng_model.specs.View.{class_of}
+use Rattle.rng_model.specs.declared.simple.PatternId.{PatternId}
+use Rattle.rng_model.specs.declared.simple.Simple.{Simple}
+use Rattle.rng_model.specs.declared.simple.Simple.TheVariants as simple
+use Rattle.rng_model.proofs.TableLemmas.{tree_stays, tree_stays_after_push}
+use Rattle.rng_simple.specs.Draft.{Tables, IsDraft, Extends, cut}
+use Rattle.rng_simple.specs.Part.{IsPart}
+use Rattle.rng_simple.specs.declared.simplification.Part.{Part}
+use Rattle.rng_simple.specs.declared.simplification.Part.TheVariants as parts
+use Rattle.rng_simple.specs.declared.draft.Mark.{Mark}
+
+-- a pattern whose children stand before it leaves it so
+pub falls_after_push : (ps qs : List Simple) (p : Simple) → Falls ps → qs ≡ ps ++ p ∷ [] → AreChildrenBelow (length ps) p → Falls qs
+falls_after_push ps qs p falls more below i q found =
+    let inside = slice_get_within qs i q found in
+    let long : length qs ≡ length ps + 1 = omega (arith, ap length more, length-append ps (p ∷ [])) in
+    let at : get_or qs i q ≡ q = get_or_from_slice_get qs i q q found in
+    elim (cases_lt i (length ps)) [
+      | inl old ↦
+          let same : get_or ps i q ≡ q = sym (get_or_append_left ps (p ∷ []) q i old) ∙ ap (λ xs. get_or xs i q) (sym more) ∙ at in
+          falls i q (slice_get-get_or ps i q old ∙ ap (λ x. Some x) same)
+      | inr new ↦
+          let last : length ps ≡ i = omega arith in
+          let same : p ≡ q = sym (get_or_push ps p q i last) ∙ ap (λ xs. get_or xs i q) (sym more) ∙ at in
+          subst (λ x. AreChildrenBelow i x) same (subst (λ n. AreChildrenBelow n p) last below)
+    ]
+
+-- a pattern more leaves each body in the simple syntax
+pub bodies_stay : (d : Tables) (qs : List Simple) (p : Simple) → IsDraft d → qs ≡ d.patterns ++ p ∷ [] → All (λ e. IsSimpleBody (tree_at qs e.1)) d.elements
+bodies_stay d qs p draft more k e inside =
+    let body = slice_index_or d.elements k e in
+    subst IsSimpleBody (sym (tree_stays_after_push d.patterns qs p body.1 more (draft.bodies k e inside))) (draft.simple k e inside)
+
+-- a list that begins with another is at least as long
+front_is_shorter : {X : Type 0} (xs ys : List X) → take (length xs) ys ≡ xs → length xs ≤ length ys
+front_is_shorter xs ys front = omega (arith, length-take (length xs) ys, ap length front)
+
+-- the front of a front
+front_of_front : {X : Type 0} (xs ys zs : List X) → take (length xs) ys ≡ xs → take (length ys) zs ≡ ys → take (length xs) zs ≡ xs
+front_of_front xs ys zs f g =
+    sym (take-take (length xs) (length ys) zs (front_is_shorter xs ys f)) ∙ ap (take (length xs)) g ∙ f
+
+front_itself : {X : Type 0} (n : ℕ) (xs : List X) → take (length (take n xs)) xs ≡ take n xs
+front_itself n xs = rw (length-take n xs) (take_min n xs)
+
+-- tables that begin with tables that begin with others
+pub extends_twice : (a b c : Tables) → Extends a b → Extends b c → Extends a c
+extends_twice a b c e f = record {
+  patterns = front_of_front a.patterns b.patterns c.patterns e.patterns f.patterns;
+  elements = front_of_front a.elements b.elements c.elements e.elements f.elements;
+}
+
+-- a part stays one as tables grow
+pub part_stays : (old new : Tables) (p : Part) → Extends old new → IsPart old.patterns p → IsPart new.patterns p
+part_stays old new parts.NotAllowed e is = tt
+part_stays old new parts.Empty e is = tt
+part_stays old new (parts.Pattern id) e is =
+    (omega (arith, is.0, front_is_shorter old.patterns new.patterns e.patterns), subst IsFreeOfNotAllowed (sym (tree_stays old.patterns new.patterns id e.patterns is.0)) is.1)
+
+-- tables that have grown, cut where they had ended
+pub cut_again : (mark : Mark) (old new : Tables) → mark.patterns ≡ length old.patterns → mark.elements ≡ length old.elements → Extends old new → cut mark new ≡ old
+cut_again mark old new p e more = rw (p, e, more.patterns, more.elements) refl
+
+-- what is cut off the tables is no part of what they begin with
+pub cut_extends : (mark : Mark) (old new : Tables) → Extends old new → Extends (cut mark old) new
+cut_extends mark old new more = record {
+  patterns = front_of_cut mark.patterns old.patterns new.patterns more.patterns;
+  elements = front_of_cut mark.elements old.elements new.elements more.elements;
+} where
+  front_of_cut : {X : Type 0} (n : ℕ) (xs ys : List X) → take (length xs) ys ≡ xs → take (length (take n xs)) ys ≡ take n xs
+  front_of_cut n xs ys front = front_of_front (take n xs) xs ys (front_itself n xs) front
+
+-- a choice of empty and a pattern that is free of notAllowed is so too
+pub empty_or_is_free : (ps qs rs : List Simple) (empty other joined : PatternId) → qs ≡ ps ++ simple.Empty ∷ [] →
+    other.0 < length ps → IsFreeOfNotAllowed (tree_at ps other) → tree_at qs empty ≡ s_empty →
+    tree_at rs joined ≡ s_joined choice (tree_at qs empty) (tree_at qs other) → IsFreeOfNotAllowed (tree_at rs joined)
+empty_or_is_free ps qs rs empty other joined more inside free is_empty is_joined =
+    subst IsFreeOfNotAllowed (sym is_joined)
+    (subst IsFreeOfNotAllowed (sym is_empty) tt, subst IsFreeOfNotAllowed (sym (tree_stays_after_push ps qs simple.Empty other more inside)) free)
+
+-- a table whose start and bodies are in the simple syntax
+pub in_simple_syntax : (t : Table) → IsSimpleBody (tree_at t.patterns t.start) → All (λ e. IsSimpleBody (tree_at t.patterns e.1)) t.elements → IsInSimpleSyntax (grammar_of t)
+in_simple_syntax t start bodies = record {
+  start = start;
+  bodies = All-map (λ e. IsSimpleBody e.1) (λ e. (class_of e.0, tree_at t.patterns e.1)) t.elements bodies;
+}

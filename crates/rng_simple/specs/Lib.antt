@@ -1,0 +1,3 @@
+pub mod Schema
+pub mod Draft
+pub mod Part

@@ -1,0 +1,14 @@
+//! From a schema as it is written to its simple form (RELAX NG Specification, sections 4.12 to 4.21).
+//!
+//! A schema is one pattern for now. The answer is a grammar in the simple syntax of section 5. Only want of memory is
+//! a fault.
+#![tactic(auto)]
+
+mod draft;
+mod schema;
+mod simplification;
+#[cfg(test)]
+mod tests;
+
+pub use schema::Schema;
+pub use simplification::simplify;

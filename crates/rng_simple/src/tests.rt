@@ -1,0 +1,176 @@
+// Simple forms of small schemas, written out.
+use crate::{Schema, simplify};
+use rng_model::{
+    ElementId, Name, NameClass, Pattern, PatternId, SchemaFault, Simple, SimpleGrammar,
+};
+use std::alloc::{AllocError, Global};
+use std::test::Fail;
+
+fn class(alloc: Global, local: &str) -> Result<NameClass, AllocError> {
+    Ok(NameClass::Name(Name {
+        ns: String::new(alloc),
+        local: String::from_str(alloc, local)?,
+    }))
+}
+
+fn element(alloc: Global, local: &str, body: Pattern) -> Result<Pattern, AllocError> {
+    Ok(Pattern::Element(class(alloc, local)?, Box::new(alloc, body)?))
+}
+
+fn attribute(alloc: Global, local: &str, body: Pattern) -> Result<Pattern, AllocError> {
+    Ok(Pattern::Attribute(class(alloc, local)?, Box::new(alloc, body)?))
+}
+
+/// A choice of no members, which matches nothing.
+fn not_allowed(alloc: Global) -> Pattern {
+    Pattern::Choice(Vec::new(alloc))
+}
+
+fn group(alloc: Global, first: Pattern, second: Pattern) -> Result<Pattern, AllocError> {
+    Ok(Pattern::Group(vec![in alloc; first, second]?))
+}
+
+fn choice(alloc: Global, first: Pattern, second: Pattern) -> Result<Pattern, AllocError> {
+    Ok(Pattern::Choice(vec![in alloc; first, second]?))
+}
+
+/// One pattern of a table as a text, its children by their places.
+fn pattern_text(alloc: Global, pattern: &Simple) -> Result<String, AllocError> {
+    match pattern {
+        Simple::NotAllowed => String::from_str(alloc, "notAllowed"),
+        Simple::Empty => String::from_str(alloc, "empty"),
+        Simple::Text => String::from_str(alloc, "text"),
+        Simple::Element(ElementId(number)) => format!(in alloc; "e{number}"),
+        Simple::Attribute(NameClass::Name(name), PatternId(body)) => {
+            let local = &name.local;
+            format!(in alloc; "@{local} {body}")
+        }
+        Simple::Group(PatternId(a), PatternId(b)) => format!(in alloc; "{a},{b}"),
+        Simple::Choice(PatternId(a), PatternId(b)) => format!(in alloc; "{a}|{b}"),
+    }
+}
+
+/// The tables of a grammar as a text: its patterns, its elements, and its start.
+fn shown(alloc: Global, grammar: &SimpleGrammar) -> Result<String, AllocError> {
+    let mut text = String::new(alloc);
+    for place in 0..32 {
+        if let Some(pattern) = grammar.pattern(PatternId(place)) {
+            text.push_str(pattern_text(alloc, pattern)?.as_str())?;
+            text.push_str("; ")?;
+        }
+    }
+    for place in 0..32 {
+        if let Some((NameClass::Name(name), PatternId(body))) = grammar.element(ElementId(place)) {
+            let local = &name.local;
+            text.push_str(format!(in alloc; "{local} {body}; ")?.as_str())?;
+        }
+    }
+    let PatternId(start) = grammar.start();
+    text.push_str(format!(in alloc; "start {start}")?.as_str())?;
+    Ok(text)
+}
+
+fn simple(alloc: Global, pattern: Pattern) -> Result<String, SchemaFault> {
+    let grammar = simplify(alloc, &Schema::single(pattern))?;
+    Ok(shown(alloc, &grammar)?)
+}
+
+/// The tables of `element a { body }`.
+fn with_body(alloc: Global, body: Pattern) -> Result<String, SchemaFault> {
+    simple(alloc, element(alloc, "a", body)?)
+}
+
+#[test]
+fn empties_go_and_choices_change_sides(rt: HostRuntime) -> Result<(), Fail> {
+    let alloc = rt.alloc();
+    let body = choice(
+        alloc,
+        group(alloc, Pattern::Empty, Pattern::Text)?,
+        Pattern::Empty,
+    )?;
+    assert_eq!(rt;
+        with_body(alloc, body)?.as_str(),
+        "text; empty; 1|0; e0; a 2; start 3"
+    );
+    let body = group(
+        alloc,
+        attribute(alloc, "x", Pattern::Empty)?,
+        Pattern::Empty,
+    )?;
+    assert_eq!(rt;
+        with_body(alloc, body)?.as_str(),
+        "empty; @x 0; e0; a 1; start 2"
+    );
+    let body = choice(alloc, Pattern::Empty, Pattern::Empty)?;
+    assert_eq!(rt; with_body(alloc, body)?.as_str(), "empty; e0; a 0; start 1");
+    Ok(())
+}
+
+#[test]
+fn not_allowed_takes_a_group_with_it(rt: HostRuntime) -> Result<(), Fail> {
+    let alloc = rt.alloc();
+    let body = group(alloc, Pattern::Text, not_allowed(alloc))?;
+    assert_eq!(rt;
+        with_body(alloc, body)?.as_str(),
+        "notAllowed; e0; a 0; start 1"
+    );
+    let dead = group(alloc, Pattern::Text, not_allowed(alloc))?;
+    assert_eq!(rt;
+        with_body(alloc, choice(alloc, dead, Pattern::Empty)?)?.as_str(),
+        "empty; e0; a 0; start 1"
+    );
+    let body = attribute(alloc, "x", not_allowed(alloc))?;
+    assert_eq!(rt;
+        with_body(alloc, body)?.as_str(),
+        "notAllowed; e0; a 0; start 1"
+    );
+    assert_eq!(rt;
+        simple(alloc, not_allowed(alloc))?.as_str(),
+        "notAllowed; start 0"
+    );
+    Ok(())
+}
+
+#[test]
+fn an_element_that_is_not_reached_is_not_listed(rt: HostRuntime) -> Result<(), Fail> {
+    let alloc = rt.alloc();
+    let inner = element(alloc, "b", Pattern::Empty)?;
+    let dead = group(alloc, inner, not_allowed(alloc))?;
+    assert_eq!(rt;
+        with_body(alloc, choice(alloc, dead, Pattern::Text)?)?.as_str(),
+        "text; e0; a 0; start 1"
+    );
+    let inner = element(alloc, "b", not_allowed(alloc))?;
+    assert_eq!(rt;
+        with_body(alloc, inner)?.as_str(),
+        "notAllowed; e0; e1; b 0; a 1; start 2"
+    );
+    Ok(())
+}
+
+#[test]
+fn members_are_nested_from_the_left(rt: HostRuntime) -> Result<(), Fail> {
+    let alloc = rt.alloc();
+    let members = vec![in alloc;
+        element(alloc, "b", Pattern::Empty)?,
+        Pattern::Text,
+        element(alloc, "c", Pattern::Text)?,
+    ]?;
+    assert_eq!(rt;
+        with_body(alloc, Pattern::Group(members))?.as_str(),
+        "empty; e0; text; 1,2; text; e1; 3,5; e2; b 0; c 4; a 6; start 7"
+    );
+    Ok(())
+}
+
+#[test]
+fn a_long_choice_is_a_loop(rt: HostRuntime) -> Result<(), Fail> {
+    let alloc = rt.alloc();
+    let mut members = Vec::new(alloc);
+    for _ in 0..200_000 {
+        members.push(Pattern::Text)?;
+    }
+    let grammar = simplify(alloc, &Schema::single(Pattern::Choice(members)))?;
+    assert!(rt; grammar.start() == PatternId(399_998));
+    Ok(())
+}
