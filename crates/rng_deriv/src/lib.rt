@@ -1,9 +1,15 @@
-//! stub
+//! Whether a document matches a simple grammar, by derivatives of patterns.
+//!
+//! A pattern's derivative by an item matches what may follow that item. So the root is valid if the start's derivative
+//! by it matches nothing more. Patterns are numbered and equal ones share a number, so that each is judged once for an
+//! item, however often the grammar's tree holds it.
 #![tactic(auto)]
-use rng_model::{Item, OutOfMemory, SimpleGrammar};
-use std::alloc::Global;
-pub fn is_valid(alloc: Global, grammar: &SimpleGrammar, root: &Item) -> Result<bool, OutOfMemory> {
-    let _ = alloc;
-    let _ = grammar.start();
-    Ok(matches!(root, Item::Text(_)))
-}
+
+mod derivative;
+mod names;
+mod residual;
+#[cfg(test)]
+mod tests;
+mod valid;
+
+pub use valid::is_valid;

@@ -10,3 +10,4 @@ pub mod Table
 pub mod Lines
 pub mod Pyx
 pub mod PyxFaults
+pub mod Texts

@@ -1,8 +1,46 @@
+// Reads the bytes of a document into one element tree.
+ghost use Rattle.std.specs.Prelude.{IfOk, IfErr};
+ghost use Rattle.rng_model.specs.Document as document;
+ghost use Rattle.rng_model.specs.Lines.{lines};
+ghost use Rattle.rng_model.specs.Pyx.{IsDocument};
+ghost use Rattle.rng_model.specs.View.{item_of};
+ghost use Rattle.rng_run.specs.DocumentAnswer.{IsAnswer, IsFaultOf};
+ghost use Rattle.rng_run.specs.DocumentMachine as machine;
+ghost use Rattle.rng_run.specs.DocumentView.{Gives};
+
+mod fault;
+mod line;
+mod machine;
+#[cfg(test)]
+mod tests;
+
+pub use fault::DocumentFault;
+
+use crate::document::line::first_line;
+use crate::document::machine::Machine;
 use rng_model::Item;
 use std::alloc::Global;
-#[derive(Clone, Copy, Debug, PartialEq, Eq)]
-pub enum DocumentFault { Memory, At { clause: u8, line: u64 } }
-pub fn read_document(alloc: Global, bytes: &[u8]) -> Result<Item, DocumentFault> {
-    if bytes.is_empty() { return Err(DocumentFault::At { clause: 13, line: 0 }); }
-    Ok(Item::Text(String::new(alloc)))
+
+#[tactic(auto, unfolding(crate::specs::DocumentMachine::document_read))]
+fn read_lines(alloc: Global, bytes: &[u8]) -> Result<Item, DocumentFault>
+    ensures { Gives item_of result (machine.document_read (lines bytes.now)) }
+{
+    let mut machine = Machine::new(alloc);
+    let mut rest = bytes;
+    'lines: while let Some((line, after)) = first_line(rest) {
+        machine.line(line)?;
+        rest = after;
+    }
+    machine.finish()
+}
+
+/// The element tree of a document, in one pass over its bytes. Takes memory for the tree.
+///
+/// Its lines are those of PYX without escapes, in printable ASCII. The fault that is answered stands at the least
+/// line, and has the least clause there; 0 is the clause of a line that is outside this fragment.
+pub fn read_document(alloc: Global, bytes: &[u8]) -> Result<Item, DocumentFault>
+    ensures found { IfOk result (λ root. IsDocument bytes.now (item_of root)) }
+    ensures only { (root : document.Item) → IsDocument bytes.now root → IsAnswer root result }
+{
+    read_lines(alloc, bytes)
 }

@@ -1,5 +1,6 @@
 // Judging a document by a grammar.
-ghost use Rattle.std.specs.Prelude.{◌≡◌, ◌==◌, count_by};
+ghost use Rattle.std.specs.Prelude.{◌≡◌, ◌==◌, count_by, IfOk};
+ghost use Rattle.rng_run.specs.Verdict.{IsVerdict};
 
 use crate::answer::Verdict;
 use crate::document::{DocumentFault, read_document};
@@ -17,7 +18,9 @@ pub fn judge(
     alloc: Global,
     grammar: &SimpleGrammar,
     document: &[u8],
-) -> Result<Verdict, OutOfMemory> {
+) -> Result<Verdict, OutOfMemory>
+    ensures { IfOk result (IsVerdict document.now) }
+{
     match read_document(alloc, document) {
         Ok(root) => {
             if is_valid(alloc, grammar, &root)? {

@@ -3,7 +3,8 @@ ghost use Rattle.std.specs.Prelude.{◌≡◌, ◌-◌, ◌^◌, ◌<◌, length
 ghost use Rattle.rng_model.specs.Device.{device_inner, device_failures};
 ghost use Rattle.rng_run.specs.Answer.{status_of};
 ghost use Rattle.rng_run.specs.AnswerView.{answer_of};
-ghost use Rattle.rng_run.specs.Run.{WritesLine, WrittenAfter};
+ghost use Rattle.rng_run.specs.Run.{IsAnswer, WritesLine, WrittenAfter};
+ghost use Rattle.rng_run.specs.Compiled.{IsCompiled, main_bytes};
 
 use crate::answer::{Answer, Status};
 use crate::judging::judge;
@@ -50,10 +51,12 @@ pub fn run<R: Read, W: Write>(
     requires input { device_failures input.old < 2 ^ 64 - 1 }
     requires output { device_failures output.old < 2 ^ 64 - 1 }
 
-    // Where it answers, no call failed, and the line is all that was written.
+    // Where it answers, no call failed, and the line of the answer is all that was written.
     ensures calm_input { OnOk result (device_failures input.new ≡ device_failures input.old) }
     ensures calm_output { OnOk result (device_failures output.new ≡ device_failures output.old) }
-    ensures line { IfOk result (λ status. WritesLine status (W.contents (device_inner output.old)) (W.contents (device_inner output.new))) }
+    ensures line { IfOk result (λ status. WritesLine
+        (IsAnswer (main_bytes files.now) (R.remaining (device_inner input.old)) (R.remaining (device_inner input.new)))
+        status (W.contents (device_inner output.old)) (W.contents (device_inner output.new))) }
 
     // A refused schema leaves the document unread.
     ensures unread { IfOk result (λ status. status ≡ Status.Refused → input.new ≡ input.old) }
@@ -61,10 +64,12 @@ pub fn run<R: Read, W: Write>(
     // A fault of a device is answered only where that device counted one.
     ensures read { IsErrOf result RunFault.Read → device_failures input.old < device_failures input.new }
     ensures write { IsErrOf result RunFault.Write → device_failures output.old < device_failures output.new }
-    ensures written { IfErr result (λ fault. WrittenAfter fault (W.contents (device_inner output.old)) (W.contents (device_inner output.new))) }
+    ensures written { IfErr result (λ fault. WrittenAfter
+        (IsAnswer (main_bytes files.now) (R.remaining (device_inner input.old)) (R.remaining (device_inner input.new)))
+        fault (W.contents (device_inner output.old)) (W.contents (device_inner output.new))) }
 {
     let Command::Valid = command;
-    let answer = answer_for(alloc, &files[0].1, input)?;
+    let answer = answer_for(alloc, main_file(files), input)?;
     let Ok(line) = answer.line(alloc) else {
         return Err(RunFault::Memory);
     };
@@ -72,6 +77,17 @@ pub fn run<R: Read, W: Write>(
         return Err(RunFault::Write);
     }
     Ok(answer.status())
+}
+
+/// The bytes of the first file.
+fn main_file(files: &[(String, Vec<u8>)]) -> &[u8]
+    requires { 0 < length files.now }
+    ensures { result.now ≡ main_bytes files.now }
+{
+    match files {
+        [(_, bytes), ..] => bytes.as_slice(),
+        [] => unreachable!(),
+    }
 }
 
 /// What is to be said of the document by the schema in this file.
@@ -85,6 +101,7 @@ fn answer_for<R: Read>(
     ensures unread { IfOk result (λ answer. status_of (answer_of answer) ≡ Status.Refused → input.new ≡ input.old) }
     ensures read { IsErrOf result RunFault.Read → device_failures input.old < device_failures input.new }
     ensures no_write { IsErrOf result RunFault.Write → ⊥ }
+    ensures answer { IfOk result (λ answer. IsAnswer file.now (R.remaining (device_inner input.old)) (R.remaining (device_inner input.new)) (answer_of answer)) }
 {
     let Some(grammar) = compiled(alloc, file)? else {
         return Ok(Answer::Refused(0));
@@ -102,7 +119,8 @@ fn answer_for<R: Read>(
 
 /// The grammar of the schema in this file, or `None` where the file is outside the fragment.
 fn compiled(alloc: Global, file: &[u8]) -> Result<Option<SimpleGrammar>, RunFault>
-    ensures { IfErr result (λ fault. fault ≡ RunFault.Memory) }
+    ensures fault { IfErr result (λ fault. fault ≡ RunFault.Memory) }
+    ensures grammar { IfOk result (IsCompiled file.now) }
 {
     let pattern = match read_schema(alloc, file) {
         Ok(pattern) => pattern,

@@ -1,0 +1,3 @@
+mod Beginning
+mod Matches
+mod Unreadable

@@ -1,0 +1,44 @@
+-- What the words of a command line ask for, by the form `COMMAND FILES..` and clap's reading of it.
+use Rattle.std.specs.Prelude.{◌≡◌, ◌<◌, List, [], Option, Some, None, codes, length, true, option_and_then, if◌then◌else◌, IsSome, IfSome}
+use Rattle.std.specs.Str.{bytes_eq}
+use Rattle.clap.specs.Lexer.{usize_max}
+use Rattle.clap.specs.Words.{App, Row, Rule, Text, all_of, fault_of, first_of, matches_of, new_app, new_rule, with_rule}
+use Rattle.clap.specs.Simple.{on_top}
+use Rattle.clap.specs.declared.builder.action.ArgAction.TheVariants.{Set}
+use Rattle.rng_run.specs.declared.running.Command.{Command}
+use Rattle.rng_run.specs.declared.running.Command.TheVariants.{Valid}
+
+-- the first word
+abbrev pub command_rule : Rule
+command_rule = record (new_rule (codes "command")) { required = true; action = Some Set }
+
+-- the words after it, one or more
+abbrev pub files_rule : Rule
+files_rule = record (new_rule (codes "files")) { required = true; range = Some (record { start_inclusive = 1; end_inclusive = usize_max }) }
+
+-- the program before its arguments: it is not named, and there is no call for help
+abbrev pub bare_form : App
+bare_form = on_top (λ s. record s { no_binary_name = true; disable_help_flag = true }) (new_app (codes "rncv"))
+
+-- the form of a command line
+abbrev pub form : App
+form = with_rule (with_rule bare_form command_rule) files_rule
+
+-- the command of this name
+abbrev pub command_named : Text → Option Command
+command_named name = if bytes_eq name (codes "valid") then Some Valid else None
+
+-- the command that was found
+abbrev pub command_in : List Row → Option Command
+command_in rows = option_and_then command_named (first_of (codes "command") rows)
+
+-- the names of files that were found
+abbrev pub files_in : List Row → Option (List Text)
+files_in rows = all_of (codes "files") rows
+
+-- the words are a command line of the program
+pub record IsCommandLine (words : List Text) : Type 0 where
+  pub parses : fault_of form words ≡ []
+  pub command : IsSome (command_in (matches_of form words))
+  pub files : IsSome (files_in (matches_of form words))
+  pub some : IfSome (files_in (matches_of form words)) (λ names. 0 < length names)

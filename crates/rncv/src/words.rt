@@ -1,0 +1,12 @@
+// What the command line asks for.
+
+use rng_run::Command;
+
+/// What the words after the program's name ask for.
+#[derive(Debug, Drop)]
+pub struct Words {
+    /// What to do with the files.
+    pub command: Command,
+    /// The names of the files, as they were given: the main file first, then the others in order, repeats kept.
+    pub files: Vec<String>,
+}

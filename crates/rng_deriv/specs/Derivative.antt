@@ -1,0 +1,60 @@
+-- What the derivative of a pattern by a symbol is.
+use Rattle.std.specs.Prelude.{◌≡◌, ℕ, ◌+◌, ◌*◌, ◌<◌, List, [], ◌∷◌, ◌++◌, length, slice_get, Option, Some, None, nat_eq}
+use Rattle.std.specs.HashMap.{HashMap, get}
+use Rattle.rng_model.specs.Table.{Table}
+use Rattle.rng_deriv.specs.declared.residual.Node.{Node}
+use Rattle.rng_deriv.specs.declared.residual.Node.TheVariants as node
+use Rattle.rng_deriv.specs.declared.residual.Residual.{Residual}
+use Rattle.rng_deriv.specs.declared.derivative.Symbol.{Symbol}
+use Rattle.rng_deriv.specs.declared.derivative.Symbol.TheVariants as symbol
+
+-- a derivative by an attribute may ask for derivatives by its value, and these ask for none of their own
+abbrev pub rank : Table → Symbol → ℕ
+rank t (symbol.Attribute a) = 3 * length t.patterns + 6
+rank t (symbol.Text s) = 0
+rank t (symbol.Element es) = 0
+
+-- the first side of a group or a choice
+abbrev pub first_side : Node → Option ℕ
+first_side node.NotAllowed = None
+first_side node.Empty = None
+first_side node.Text = None
+first_side (node.Element e) = None
+first_side (node.Attribute a) = None
+first_side (node.Group a b) = Some a
+first_side (node.Choice a b) = Some a
+
+-- the pattern at parent is a group or a choice with this first side
+pub record IsFirstSide (rs : List Residual) (parent first : ℕ) : Type 0 where
+  pub residual : Residual
+  pub found : slice_get rs parent ≡ Some residual
+  pub side : first_side residual.node ≡ Some first
+  pub below : first < parent
+
+-- the groups and choices from a pattern down along first sides, and the first side of the last
+pub data IsSpine (rs : List Residual) (top : ℕ) : List ℕ → ℕ → Type 0 where
+  at_top : IsSpine rs top [] top
+  further : {parents all : List ℕ} {parent first : ℕ} → IsSpine rs top parents parent → IsFirstSide rs parent first → all ≡ parents ++ parent ∷ [] → IsSpine rs top all first
+
+-- the pattern has no first side
+abbrev pub IsLeaf : List Residual → ℕ → Type 0
+IsLeaf rs number = (r : Residual) → slice_get rs number ≡ Some r → first_side r.node ≡ None
+
+-- the pattern has no first side, or a known derivative
+abbrev pub IsBottom : {Z : Type 0} → List Residual → HashMap ℕ ℕ Z → ℕ → Type 0
+IsBottom rs memo number = get nat_eq memo number ≡ None → IsLeaf rs number
+
+-- left is the derivative of the pattern of this number by the symbol
+pub record IsAfter (t : Table) (rs : List Residual) (s : Symbol) (number left : ℕ) : Type 0 where
+  pub inside : number < length rs
+  pub left_inside : left < length rs
+
+-- each derivative that is kept is one
+abbrev pub Knows : {Z : Type 0} → Table → List Residual → Symbol → HashMap ℕ ℕ Z → Type 0
+Knows t rs s memo = (number left : ℕ) → get nat_eq memo number ≡ Some left → IsAfter t rs s number left
+
+-- the first side of a group or a choice has this derivative
+pub record IsFirstAfter (t : Table) (rs : List Residual) (s : Symbol) (parent left : ℕ) : Type 0 where
+  pub first : ℕ
+  pub side : IsFirstSide rs parent first
+  pub after : IsAfter t rs s first left

@@ -1,0 +1,213 @@
+// What is left of a pattern after an attribute, a string or an element.
+ghost use Rattle.std.specs.Prelude.{◌≡◌, ◌<◌, length, IfOk, OnOk, MatchOption};
+ghost use Rattle.rng_deriv.specs.Residual.{AreCopied, Longer};
+ghost use Rattle.rng_deriv.specs.Derivative.{IsAfter, IsBottom, IsFirstAfter, IsFirstSide, IsLeaf, IsSpine, Knows};
+
+use crate::names::{holds, is_blank};
+use crate::residual::{Node, Residuals};
+use rng_model::{Attr, OutOfMemory, PatternId, Simple, SimpleGrammar};
+use std::alloc::Global;
+use std::collections::{HashMap, HashSet};
+
+/// What a pattern takes: an attribute, a string, or an element that matches these elements of the grammar.
+#[derive(Drop)]
+pub enum Symbol<'a> {
+    Attribute(&'a Attr),
+    Text(&'a str),
+    Element(HashSet<usize>),
+}
+
+/// The derivatives by one symbol that are known, by number.
+pub type Memo = HashMap<usize, usize>;
+
+/// The number of what is left of a pattern after a symbol.
+#[cycle(derivative)]
+pub fn after(
+    alloc: Global,
+    grammar: &SimpleGrammar,
+    residuals: &mut Residuals,
+    symbol: &Symbol,
+    memo: &mut Memo,
+    number: usize,
+) -> Result<usize, OutOfMemory>
+    requires inside { number < length residuals.old }
+    requires copied { AreCopied grammar.now residuals.old }
+    requires known { Knows grammar.now residuals.old symbol.now memo.old }
+    ensures longer { OnOk result (Longer residuals.old residuals.new) }
+    ensures known { OnOk result (Knows grammar.now residuals.new symbol.now memo.new) }
+    ensures after { IfOk result (IsAfter grammar.now residuals.new symbol.now number) }
+{
+    let (mut parents, bottom) = spine(alloc, residuals, memo, number)?;
+    let mut left = after_bottom(alloc, grammar, residuals, symbol, memo, bottom)?;
+    'parents: while let Some(parent) = parents.pop() {
+        left = after_parent(alloc, grammar, residuals, symbol, memo, parent, left)?;
+        memo.insert(parent, left)?;
+    }
+    Ok(left)
+}
+
+/// The groups and choices from a pattern down along first sides, and the first side of the last of them, which is no
+/// group or choice or has a known derivative.
+fn spine(
+    alloc: Global,
+    residuals: &Residuals,
+    memo: &Memo,
+    number: usize,
+) -> Result<(Vec<usize>, usize), OutOfMemory>
+    requires { number < length residuals.now }
+    ensures spine { IfOk result (λ s. IsSpine residuals.now number s.0.items s.1) }
+    ensures bottom { IfOk result (λ s. IsBottom residuals.now memo.now s.1) }
+{
+    let mut parents = Vec::new(alloc);
+    let mut bottom = number;
+    'sides: while let Some(first) = unknown_first(residuals, memo, bottom) {
+        parents.push(bottom)?;
+        bottom = first;
+    }
+    Ok((parents, bottom))
+}
+
+/// The first side of a pattern without a known derivative.
+fn unknown_first(residuals: &Residuals, memo: &Memo, number: usize) -> Option<usize>
+    requires { number < length residuals.now }
+    ensures { MatchOption result (IsBottom residuals.now memo.now number) (IsFirstSide residuals.now number) }
+{
+    if memo.contains_key(&number) {
+        return None;
+    }
+    match residuals.at(number).node {
+        Node::Group(first, _) | Node::Choice(first, _) => Some(first),
+        _ => None,
+    }
+}
+
+/// The derivative of a pattern that has a known one, or is no group and no choice.
+#[cycle(derivative)]
+fn after_bottom(
+    alloc: Global,
+    grammar: &SimpleGrammar,
+    residuals: &mut Residuals,
+    symbol: &Symbol,
+    memo: &mut Memo,
+    number: usize,
+) -> Result<usize, OutOfMemory>
+    requires inside { number < length residuals.old }
+    requires copied { AreCopied grammar.now residuals.old }
+    requires known { Knows grammar.now residuals.old symbol.now memo.old }
+    requires bottom { IsBottom residuals.old memo.old number }
+    ensures longer { OnOk result (Longer residuals.old residuals.new) }
+    ensures known { OnOk result (Knows grammar.now residuals.new symbol.now memo.new) }
+    ensures after { IfOk result (IsAfter grammar.now residuals.new symbol.now number) }
+{
+    if let Some(left) = memo.get(&number) {
+        return Ok(*left);
+    }
+    let left = after_leaf(alloc, grammar, residuals, symbol, number)?;
+    memo.insert(number, left)?;
+    Ok(left)
+}
+
+/// The derivative of a group or choice whose first side has this derivative.
+#[cycle(derivative)]
+fn after_parent(
+    alloc: Global,
+    grammar: &SimpleGrammar,
+    residuals: &mut Residuals,
+    symbol: &Symbol,
+    memo: &mut Memo,
+    parent: usize,
+    left: usize,
+) -> Result<usize, OutOfMemory>
+    requires first { IsFirstAfter grammar.now residuals.old symbol.now parent left }
+    requires copied { AreCopied grammar.now residuals.old }
+    requires known { Knows grammar.now residuals.old symbol.now memo.old }
+    ensures longer { OnOk result (Longer residuals.old residuals.new) }
+    ensures known { OnOk result (Knows grammar.now residuals.new symbol.now memo.new) }
+    ensures after { IfOk result (IsAfter grammar.now residuals.new symbol.now parent) }
+{
+    match residuals.at(parent).node {
+        Node::Choice(_, second) => {
+            let right = after(alloc, grammar, residuals, symbol, memo, second)?;
+            residuals.choice(left, right)
+        }
+        Node::Group(first, second) => {
+            let front = residuals.group(left, second)?;
+            if let Symbol::Attribute(_) = symbol {
+                let right = after(alloc, grammar, residuals, symbol, memo, second)?;
+                let back = residuals.group(first, right)?;
+                return residuals.choice(front, back);
+            }
+            if !residuals.at(first).nullable {
+                return Ok(front);
+            }
+            let right = after(alloc, grammar, residuals, symbol, memo, second)?;
+            residuals.choice(front, right)
+        }
+        _ => unreachable!(),
+    }
+}
+
+/// The derivative of a pattern that is no group and no choice.
+#[cycle(derivative)]
+fn after_leaf(
+    alloc: Global,
+    grammar: &SimpleGrammar,
+    residuals: &mut Residuals,
+    symbol: &Symbol,
+    number: usize,
+) -> Result<usize, OutOfMemory>
+    requires inside { number < length residuals.old }
+    requires copied { AreCopied grammar.now residuals.old }
+    requires leaf { IsLeaf residuals.old number }
+    ensures longer { OnOk result (Longer residuals.old residuals.new) }
+    ensures after { IfOk result (IsAfter grammar.now residuals.new symbol.now number) }
+{
+    let takes = match (residuals.at(number).node, symbol) {
+        (Node::Text, Symbol::Text(_)) => return Ok(number),
+        (Node::Element(element), Symbol::Element(elements)) => elements.contains(&element.0),
+        (Node::Attribute(pattern), Symbol::Attribute(attr)) => {
+            takes_attribute(alloc, grammar, residuals, pattern, attr)?
+        }
+        _ => false,
+    };
+    residuals.number_of(if takes { Node::Empty } else { Node::NotAllowed })
+}
+
+/// Whether an attribute pattern of the grammar matches an attribute.
+#[cycle(derivative)]
+fn takes_attribute(
+    alloc: Global,
+    grammar: &SimpleGrammar,
+    residuals: &mut Residuals,
+    pattern: PatternId,
+    attr: &Attr,
+) -> Result<bool, OutOfMemory>
+    requires copied { AreCopied grammar.now residuals.old }
+    ensures longer { OnOk result (Longer residuals.old residuals.new) }
+{
+    match grammar.pattern(pattern) {
+        Some(Simple::Attribute(class, body)) if holds(class, &attr.name) => {
+            takes_text(alloc, grammar, residuals, attr.value.as_str(), body.0)
+        }
+        _ => Ok(false),
+    }
+}
+
+/// Whether a pattern weakly matches one string alone.
+#[cycle(derivative)]
+pub fn takes_text(
+    alloc: Global,
+    grammar: &SimpleGrammar,
+    residuals: &mut Residuals,
+    text: &str,
+    number: usize,
+) -> Result<bool, OutOfMemory>
+    requires inside { number < length residuals.old }
+    requires copied { AreCopied grammar.now residuals.old }
+    ensures longer { OnOk result (Longer residuals.old residuals.new) }
+{
+    let mut memo = HashMap::new(alloc);
+    let symbol = Symbol::Text(text);
+    let left = after(alloc, grammar, residuals, &symbol, &mut memo, number)?;
+    Ok(residuals.at(left).nullable || residuals.at(number).nullable && is_blank(text))
+}

@@ -1,0 +1,144 @@
+// Grammars and documents for the tests.
+ghost use Rattle.std.specs.Bool.{OnTrue};
+ghost use Rattle.rng_model.specs.Table.{AreChildrenBelow, IsLeafListed};
+
+use rng_model::{Attr, Item, Name, NameClass, PatternId, Simple, SimpleGrammar};
+use std::alloc::{AllocError, Global};
+use std::marker::Model;
+use std::test::Fail;
+
+/// A grammar that is being made, with refs to this many elements.
+#[derive(Drop)]
+pub struct Draft {
+    patterns: Vec<Simple>,
+    elements: Vec<(NameClass, PatternId)>,
+    count: usize,
+}
+
+impl Model for Draft {
+    ghost use Rattle.std.specs.Prelude.{◌<◌, ℕ, List, length, All};
+    ghost use Rattle.rng_model.specs.Table.{Falls, IsLeafListed};
+    ghost use Rattle.rng_model.specs.declared.simple.Simple.{Simple};
+    ghost use Rattle.rng_model.specs.declared.simple.PatternId.{PatternId};
+    ghost use Rattle.rng_model.specs.declared.name.NameClass.{NameClass};
+
+    ghost Value = { List Simple × List (NameClass × PatternId) × ℕ };
+
+    ghost view = { λ d. (d.patterns.items, d.elements.items, d.count) };
+
+    ghost invariant = { λ d. Falls d.patterns.items × All (IsLeafListed d.count) d.patterns.items × All (λ e. e.1.0 < length d.patterns.items) d.elements.items };
+}
+
+impl Draft {
+    pub fn new(alloc: Global, count: usize) -> Self {
+        Draft {
+            patterns: Vec::new(alloc),
+            elements: Vec::new(alloc),
+            count,
+        }
+    }
+
+    /// Adds a pattern whose sides are there.
+    pub fn add(&mut self, pattern: Simple) -> Result<PatternId, Fail> {
+        let next = self.patterns.len();
+        let fits = fits(&pattern, next, self.count);
+        if !fits {
+            return Err(Fail::from("a side is not there"));
+        }
+        self.patterns.push(pattern)?;
+        Ok(PatternId(next))
+    }
+
+    /// Adds the next element.
+    pub fn list(&mut self, alloc: Global, local: &str, body: PatternId) -> Result<(), Fail> {
+        if body.0 >= self.patterns.len() {
+            return Err(Fail::from("the body is not there"));
+        }
+        self.elements
+            .push((NameClass::Name(name(alloc, local)?), body))?;
+        Ok(())
+    }
+
+    /// The grammar, where all its elements are listed.
+    pub fn finish(self, start: PatternId) -> Result<SimpleGrammar, Fail> {
+        if self.elements.len() != self.count || start.0 >= self.patterns.len() {
+            return Err(Fail::from("an element is not listed"));
+        }
+        Ok(SimpleGrammar::new(self.patterns, self.elements, start))
+    }
+}
+
+/// Whether the sides of a pattern are below `next`, and its ref below `count`.
+fn fits(pattern: &Simple, next: usize, count: usize) -> bool
+    ensures { OnTrue result (AreChildrenBelow next pattern.now × IsLeafListed count pattern.now) }
+{
+    match pattern {
+        Simple::Element(element) => element.0 < count,
+        Simple::Attribute(_, body) => body.0 < next,
+        Simple::Group(first, second) | Simple::Choice(first, second) => {
+            first.0 < next && second.0 < next
+        }
+        _ => true,
+    }
+}
+
+pub fn name(alloc: Global, local: &str) -> Result<Name, AllocError> {
+    Ok(Name {
+        ns: String::new(alloc),
+        local: String::from_str(alloc, local)?,
+    })
+}
+
+/// The root of a document in lines that are parted by `/`.
+pub fn document(alloc: Global, lines: &str) -> Result<Item, Fail> {
+    let mut open: Vec<(Name, Vec<Attr>, Vec<Item>)> = Vec::new(alloc);
+    for line in lines.split('/') {
+        if let Some(local) = line.strip_prefix('(') {
+            open.push((name(alloc, local)?, Vec::new(alloc), Vec::new(alloc)))?;
+        } else if let Some(closed) = add_line(alloc, &mut open, line)? {
+            return Ok(closed);
+        }
+    }
+    Err(Fail::from("no end of the root"))
+}
+
+/// Adds a line that opens no element, and answers the root where the line ends it.
+fn add_line(
+    alloc: Global,
+    open: &mut Vec<(Name, Vec<Attr>, Vec<Item>)>,
+    line: &str,
+) -> Result<Option<Item>, Fail> {
+    let Some((name_here, mut attrs, mut children)) = open.pop() else {
+        return Err(Fail::from("no element is open"));
+    };
+    if let Some(text) = line.strip_prefix('-') {
+        children.push(Item::Text(String::from_str(alloc, text)?))?;
+    } else if let Some((local, value)) = line.split_once(' ') {
+        let local = local.strip_prefix('A').unwrap_or(local);
+        attrs.push(Attr {
+            name: name(alloc, local)?,
+            value: String::from_str(alloc, value)?,
+        })?;
+    } else {
+        return close(
+            open,
+            Item::Element {
+                name: name_here,
+                attrs,
+                children,
+            },
+        );
+    }
+    open.push((name_here, attrs, children))?;
+    Ok(None)
+}
+
+/// Puts an element into the open one, or answers it where none is open.
+fn close(open: &mut Vec<(Name, Vec<Attr>, Vec<Item>)>, item: Item) -> Result<Option<Item>, Fail> {
+    let Some((name_here, attrs, mut children)) = open.pop() else {
+        return Ok(Some(item));
+    };
+    children.push(item)?;
+    open.push((name_here, attrs, children))?;
+    Ok(None)
+}

@@ -1,0 +1,33 @@
+-- How many lines there are where each is ended: as many as line feeds.
+use Rattle.std.proofs.Common.{◌≡◌, ◌==◌, ◌+◌, Bool, true, false, if◌then◌else◌, ℕ, List, [], ◌∷◌, length, sym, ap, ◌∙◌, refl, arith}
+use Rattle.std.specs.List.{count_by}
+use Rattle.std.proofs.lemmas.List.Sums.{sum_by-cons}
+use Rattle.rng_model.specs.Lines.{Line, Shape, lines, with_first}
+use Rattle.rng_model.specs.Pyx.{AreLines, no_lines, line_and}
+
+-- each line is ended
+abbrev AreEnded : List Line → Type 0
+AreEnded [] = Unit {0}
+AreEnded (l ∷ ls) = (l.ended ≡ true) × AreEnded ls
+
+are_ended : (ls : List Line) (xs : List Shape) → AreLines ls xs → AreEnded ls
+are_ended [] xs d = tt
+are_ended (l ∷ ls) xs (line_and {xs = ys} is d) = (is.ended, are_ended ls ys d)
+
+
+-- one byte more, whether it is a line feed or not
+one_more : (c : ℕ) (ls : List Line) (n : ℕ) (b : Bool) → (AreEnded ls → n ≡ length ls) →
+    AreEnded (if b then record { bytes = []; ended = true } ∷ ls else with_first c ls) →
+    (if b then 1 else 0) + n ≡ length (if b then record { bytes = []; ended = true } ∷ ls else with_first c ls)
+one_more c ls n true h (e, es) = let k = h es in omega arith
+one_more c [] n false h (e, es) = absurd (cc)
+one_more c (l ∷ ls) n false h e = let k = h e in omega arith
+
+pub lines_ended : (bytes : List ℕ) → AreEnded (lines bytes) → count_by (λ c. c == 10) bytes ≡ length (lines bytes)
+unfolding lines
+lines_ended [] e = refl
+lines_ended (c ∷ cs) e = sum_by-cons _ c cs ∙ one_more c (lines cs) (count_by (λ c. c == 10) cs) (c == 10) (lines_ended cs) e
+
+-- a document has as many lines as line feeds
+pub document_lines : (bytes : List ℕ) (xs : List Shape) → AreLines (lines bytes) xs → count_by (λ c. c == 10) bytes ≡ length (lines bytes)
+document_lines bytes xs d = lines_ended bytes (are_ended (lines bytes) xs d)
