@@ -6,10 +6,10 @@ use Rattle.rncv.specs.declared.fault.Fault.{Fault}
 use Rattle.rncv.specs.declared.fault.Fault.TheVariants.{Memory, Read, Write, File, Usage}
 
 -- the fault of the program where a run gave up
-abbrev pub fault_of : RunFault → Fault
-fault_of causes.Memory = Memory
-fault_of causes.Read = Read
-fault_of causes.Write = Write
+abbrev pub fault_of_run : RunFault → Fault
+fault_of_run causes.Memory = Memory
+fault_of_run causes.Read = Read
+fault_of_run causes.Write = Write
 
 -- what a run may answer
 abbrev pub IsMemoryOrDevice : Fault → Type 0

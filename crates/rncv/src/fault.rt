@@ -1,7 +1,7 @@
 // Why the program ends without an answer.
 ghost use Rattle.std.specs.Prelude.{◌≡◌};
 ghost use Rattle.rncv.specs.ExitStatus.{exit_status_of};
-ghost use Rattle.rncv.specs.Faults.{fault_of};
+ghost use Rattle.rncv.specs.Faults.{fault_of_run};
 
 use rng_run::RunFault;
 use thiserror::Error;
@@ -39,7 +39,7 @@ impl Fault {
 }
 
 impl From<RunFault> for Fault {
-    ghost from_gives = { λ cause fault. fault ≡ fault_of cause };
+    ghost from_gives = { λ cause fault. fault ≡ fault_of_run cause };
 
     fn from(cause: RunFault) -> Fault {
         match cause {

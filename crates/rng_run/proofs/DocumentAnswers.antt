@@ -1,6 +1,6 @@
 -- What reading a document answers.
 use Rattle.std.proofs.Common.{◌≡◌, ℕ, List, Result, Ok, Err, refl, sym, ◌∙◌}
-use Rattle.std.specs.Prelude.{IfOk}
+use Rattle.std.specs.Prelude.{IfOk, IfErr}
 use Rattle.rng_model.specs.Document as document
 use Rattle.rng_model.specs.View.{item_of}
 use Rattle.rng_model.specs.declared.document.Item.{Item}
@@ -13,6 +13,8 @@ use Rattle.rng_run.specs.DocumentMachine.{Read, document_read}
 use Rattle.rng_run.specs.DocumentView.{Gives}
 use Rattle.rng_run.specs.DocumentAnswer.{IsAnswer, IsFaultOf}
 use Rattle.rng_run.proofs.DocumentWhole.{complete, sound}
+use Rattle.rng_run.proofs.DocumentFaults.{least}
+use Rattle.rng_run.proofs.DocumentBroken.{broken}
 
 pub found : (bytes : List ℕ) (result : Result Item DocumentFault) → Gives item_of result (document_read (lines bytes)) → IfOk result (λ root. IsDocument bytes (item_of root))
 found bytes (Ok x) g = sound bytes (item_of x) g
@@ -28,3 +30,8 @@ pub only : (bytes : List ℕ) (result : Result Item DocumentFault) → Gives ite
 only bytes (Ok x) g root d = item_same (item_of x) root (sym g ∙ complete d)
 only bytes (Err faults.Memory) g root d = tt
 only bytes (Err (faults.At clause line)) g root d = ok_err root (record { clause = clause; line = line }) (sym (complete d) ∙ g)
+
+pub fault : (bytes : List ℕ) (result : Result Item DocumentFault) → Gives item_of result (document_read (lines bytes)) → IfErr result (IsFaultOf bytes)
+fault bytes (Ok x) g = tt
+fault bytes (Err faults.Memory) g = tt
+fault bytes (Err (faults.At clause line)) g = record { broken = broken (lines bytes) (record { clause = clause; line = line }) g; least = least (lines bytes) (record { clause = clause; line = line }) g }

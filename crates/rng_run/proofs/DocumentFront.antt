@@ -1,5 +1,5 @@
 -- Beginnings of contents and of elements.
-use Rattle.std.proofs.Common.{◌≡◌, ℕ, suc, ◌+◌, ◌≤◌, ◌<◌, List, [], ◌∷◌, ◌++◌, length, refl, sym, ap, subst, ◌∙◌, append_assoc, arith, rules}
+use Rattle.std.proofs.Common.{◌≡◌, ℕ, suc, ◌+◌, ◌≤◌, ◌<◌, Bool, true, false, List, [], ◌∷◌, ◌++◌, length, refl, sym, ap, subst, ◌∙◌, append_assoc, arith, rules}
 use Rattle.std.proofs.lemmas.List.{append-nil, length-append}
 use Rattle.rng_model.specs.Document.{Attribute, Item, an_element, Items, no_items, item_and, list_of}
 use Rattle.rng_model.specs.View.{items_of}
@@ -22,6 +22,18 @@ pub data Opens : ℕ → List Shape → List Element → Type 0 where
       Opens (suc n) xs outer → AreAttributes ts attrs → length ts ≤ attribute_limit → Distinct attrs → Front n ys ks t →
       all ≡ xs ++ (start name ∷ (ts ++ ys)) → opened ≡ outer ++ tagged name attrs (ks ++ texts_of t) ∷ [] → Opens n all opened
 
+abbrev pub is_closing : Shape → Bool
+is_closing (text v) = true
+is_closing (end name) = true
+is_closing _ = false
+
+-- the last line is a text or an end
+pub record EndsPlain (all : List Shape) : Type 0 where
+  pub before : List Shape
+  pub last : Shape
+  pub parts : all ≡ before ++ last ∷ []
+  pub plain : is_closing last ≡ true
+
 -- the state after the lines of a beginning of a document
 pub data Begun : List Shape → State → Type 0 where
   nothing : {xs : List Shape} {s : State} → xs ≡ [] → s ≡ inside [] [] 0 → Begun xs s
@@ -29,7 +41,7 @@ pub data Begun : List Shape → State → Type 0 where
       Opens (suc n) xs outer → AreAttributes ts attrs → length ts ≤ attribute_limit → all ≡ xs ++ (start name ∷ ts) → s ≡ in_tag outer name attrs (length all) → Begun all s
   content : {n : ℕ} {all xs ts ys : List Shape} (name : List ℕ) {t : List ℕ} {attrs : List Attribute} {ks : List Item} {outer : List Element} {s : State} →
       Opens (suc n) xs outer → AreAttributes ts attrs → length ts ≤ attribute_limit → Distinct attrs → Front n ys ks t →
-      all ≡ xs ++ (start name ∷ (ts ++ ys)) → s ≡ inside (outer ++ tagged name attrs ks ∷ []) t (length all) → Begun all s
+      all ≡ xs ++ (start name ∷ (ts ++ ys)) → EndsPlain all → s ≡ inside (outer ++ tagged name attrs ks ∷ []) t (length all) → Begun all s
   whole : {all : List Shape} {node : Item} {s : State} → IsElement open_limit all node → s ≡ behind_root node (length all) → Begun all s
 
 -- ---- contents

@@ -13,7 +13,7 @@ use Rattle.rng_run.specs.DocumentMachine.{Element, State, Read, has_repeat, text
 use Rattle.rng_run.proofs.DocumentDistinct.{distinct_of, bytes_same}
 use Rattle.rng_run.proofs.DocumentSteps.{is_attribute, shape_read, shapes_read, inside, in_tag, tagged, behind_root, attribute_step, text_step, first_step, start_step, end_step, last_step, early}
 use Rattle.rng_run.proofs.DocumentRefused.{refusal, attribute_full, repeat_refused, attribute_inside, start_deep, text_long, end_other, text_first, end_first, attribute_behind, start_behind, text_behind, end_behind}
-use Rattle.rng_run.proofs.DocumentFront.{Front, only_text, Opens, none_opened, one_opened, Begun, nothing, a_tag, content, whole, front_text, front_element, opens_depth, attributes_length, attributes_snoc, element_ends}
+use Rattle.rng_run.proofs.DocumentFront.{is_closing, EndsPlain, Front, only_text, Opens, none_opened, one_opened, Begun, nothing, a_tag, content, whole, front_text, front_element, opens_depth, attributes_length, attributes_snoc, element_ends}
 
 ok_err : (f : Fault) (t : State) → ◌≡◌ {A = Read State} (Err f) (Ok t) → ⊥
 ok_err f t e = cc
@@ -73,6 +73,9 @@ attribute_line {n} {all} {xs} {ts} name {attrs} {outer} d tag few parts a v t q 
 
 -- ---- inside an element
 
+ends_plain : (all : List Shape) (x : Shape) → is_closing x ≡ true → EndsPlain (all ++ x ∷ [])
+ends_plain all x e = record { before = all; last = x; parts = refl; plain = e }
+
 content_parts : (all xs ts ys : List Shape) (name : List ℕ) (x : Shape) → all ≡ xs ++ (start name ∷ (ts ++ ys)) → all ++ x ∷ [] ≡ xs ++ (start name ∷ (ts ++ (ys ++ x ∷ [])))
 content_parts all xs ts ys name x e = rw (e, append_assoc xs (start name ∷ (ts ++ ys)) (x ∷ []), append_assoc ts ys (x ∷ [])) refl
 
@@ -96,7 +99,7 @@ text_line {n} {all} {xs} {ts} {ys} name {t} {attrs} {ks} {outer} d tag few un f 
   go : (b : Bool) → nat_le (length t + length v) text_limit ≡ b → Begun (all ++ text v ∷ []) u
   go true p =
       arrives (inside (outer ++ tagged name attrs ks ∷ []) (t ++ v) (length all + 1)) u (text_step outer (tagged name attrs ks) t (length all) v p) q
-      (content name d tag few un (front_text f v (omega (arith, leb-true (length t + length v) text_limit p, length-append t v))) (content_parts all xs ts ys name (text v) parts) (rw (length-snoc all (text v)) refl))
+      (content name d tag few un (front_text f v (omega (arith, leb-true (length t + length v) text_limit p, length-append t v))) (content_parts all xs ts ys name (text v) parts) (ends_plain all (text v) refl) (rw (length-snoc all (text v)) refl))
   go false p = refused _ 0 (length all + 1) u (text_long outer (tagged name attrs ks) t (length all) v p) q
 
 -- an element ends inside another, or it is the root
@@ -109,18 +112,18 @@ closing_parts all xs ts ys name e = content_parts all xs ts ys name (end name) e
 inner_parts : (all xs ws ts ys vs : List Shape) (name : List ℕ) → all ≡ xs ++ vs → xs ≡ ws ++ (start name ∷ (ts ++ ys)) → all ≡ ws ++ (start name ∷ (ts ++ (ys ++ vs)))
 inner_parts all xs ws ts ys vs name e p = rw (e, p, append_assoc ws (start name ∷ (ts ++ ys)) vs, append_assoc ts ys vs) refl
 
-element_line : {n : ℕ} {xs all vs : List Shape} {outer : List Element} {node : Item} (e : Element) (t : List ℕ) (m : ℕ) → Opens (suc n) xs outer → IsElement (suc n) vs node → node ≡ item_of_element (with_text t e) → all ≡ xs ++ vs → m + 1 ≡ length all →
+element_line : {n : ℕ} {xs all vs : List Shape} {outer : List Element} {node : Item} (e : Element) (t : List ℕ) (m : ℕ) → Opens (suc n) xs outer → IsElement (suc n) vs node → node ≡ item_of_element (with_text t e) → all ≡ xs ++ vs → EndsPlain all → m + 1 ≡ length all →
     (u : State) → shape_read (end e.name) (inside (outer ++ e ∷ []) t m) ≡ Ok u → Begun all u
-element_line {n} {xs} {all} {vs} {outer} {node} e t m (none_opened deep p o) el same parts count u q =
+element_line {n} {xs} {all} {vs} {outer} {node} e t m (none_opened deep p o) el same parts last count u q =
     let r : shape_read (end e.name) (inside (e ∷ []) t m) ≡ Ok u = subst (λ (x : List Element). shape_read (end e.name) (inside (x ++ e ∷ []) t m) ≡ Ok u) o q in
     let here : all ≡ vs = parts ∙ rw p refl in
     arrives (behind_root (item_of_element (with_text t e)) (m + 1)) u (last_step e t m) r
     (whole {node = node} (subst (λ (k : ℕ). IsElement k all node) deep (rw here el)) (rw (same, count) refl))
-element_line {n} {xs} {all} {vs} {outer} {node} e t m (one_opened {xs = ws} {ts} {ys} name {t = w} {attrs} {ks} {outer = outs} d tag few un f inner o) el same parts count u q =
+element_line {n} {xs} {all} {vs} {outer} {node} e t m (one_opened {xs = ws} {ts} {ys} name {t = w} {attrs} {ks} {outer = outs} d tag few un f inner o) el same parts last count u q =
     let p : Element = tagged name attrs (ks ++ texts_of w) in
     let r : shape_read (end e.name) (inside ((outs ++ p ∷ []) ++ e ∷ []) t m) ≡ Ok u = subst (λ (x : List Element). shape_read (end e.name) (inside (x ++ e ∷ []) t m) ≡ Ok u) o q in
     arrives (inside (outs ++ with_child (item_of_element (with_text t e)) p ∷ []) [] (m + 1)) u (end_step outs p e t m) r
-    (content name d tag few un (front_element f el) (inner_parts all xs ws ts ys vs name parts inner) (rw (same, count, append_assoc ks (texts_of w) (item_of_element (with_text t e) ∷ [])) refl))
+    (content name d tag few un (front_element f el) (inner_parts all xs ws ts ys vs name parts inner) last (rw (same, count, append_assoc ks (texts_of w) (item_of_element (with_text t e) ∷ [])) refl))
 
 end_line : {n : ℕ} {all xs ts ys : List Shape} (name : List ℕ) {t : List ℕ} {attrs : List Attribute} {ks : List Item} {outer : List Element} → Opens (suc n) xs outer → AreAttributes ts attrs → length ts ≤ attribute_limit → Distinct attrs → Front n ys ks t →
     all ≡ xs ++ (start name ∷ (ts ++ ys)) → (other : List ℕ) (u : State) → shape_read (end other) (inside (outer ++ tagged name attrs ks ∷ []) t (length all)) ≡ Ok u → Begun (all ++ end other ∷ []) u
@@ -130,7 +133,7 @@ end_line {n} {all} {xs} {ts} {ys} name {t} {attrs} {ks} {outer} d tag few un f p
       let same : name ≡ other = bytes_same name other p in
       let r : shape_read (end name) (inside (outer ++ tagged name attrs ks ∷ []) t (length all)) ≡ Ok u = subst (λ (x : List ℕ). shape_read (end x) (inside (outer ++ tagged name attrs ks ∷ []) t (length all)) ≡ Ok u) (sym same) q in
       subst (λ (x : List ℕ). Begun (all ++ end x ∷ []) u) same
-      (element_line (tagged name attrs ks) t (length all) d (element_ends name tag few un f) refl (closing_parts all xs ts ys name parts) (sym (length-snoc all (end name))) u r)
+      (element_line (tagged name attrs ks) t (length all) d (element_ends name tag few un f) refl (closing_parts all xs ts ys name parts) (ends_plain all (end name) refl) (sym (length-snoc all (end name))) u r)
   go false p = refused _ 8 (length all + 1) u (end_other outer (tagged name attrs ks) t (length all) other p) q
 
 from_content : {n : ℕ} {all xs ts ys : List Shape} (name : List ℕ) {t : List ℕ} {attrs : List Attribute} {ks : List Item} {outer : List Element} → Opens (suc n) xs outer → AreAttributes ts attrs → length ts ≤ attribute_limit → Distinct attrs → Front n ys ks t →
@@ -160,5 +163,5 @@ from_tag name d tag few parts (attribute a v) u q = attribute_line name d tag fe
 pub begun_step : {xs : List Shape} {s : State} → Begun xs s → (x : Shape) (t : State) → shape_read x s ≡ Ok t → Begun (xs ++ x ∷ []) t
 begun_step (nothing e p) x t q = rw e (from_nothing x t (at_state x _ _ _ p q))
 begun_step (a_tag name d tag few parts p) x t q = from_tag name d tag few parts x t (at_state x _ _ _ p q)
-begun_step (content name d tag few un f parts p) x t q = from_content name d tag few un f parts x t (at_state x _ _ _ p q)
+begun_step (content name d tag few un f parts last p) x t q = from_content name d tag few un f parts x t (at_state x _ _ _ p q)
 begun_step (whole {all} {node} el p) x t q = from_whole _ x node (length all) t (at_state x _ _ _ p q)

@@ -43,7 +43,7 @@ pub all_lines : {ls : List Line} {xs : List Shape} → AreLines ls xs → (s : S
 all_lines no_lines s = read_nil s ∙ sym (shapes_nil s)
 all_lines (line_and {l} {ls} {x} {xs} d more) s = read_cons l ls s ∙ rw (line_is d s) (followed_same (shape_read x s) (all_read ls) (shapes_read xs) (all_lines more)) ∙ sym (shapes_cons x xs s)
 
-end_behind : (node : Item) (n : ℕ) → at_end (behind_root node n) ≡ Ok node
+pub end_behind : (node : Item) (n : ℕ) → at_end (behind_root node n) ≡ Ok node
 unfolding at_end
 end_behind node n = refl
 
@@ -120,7 +120,7 @@ at_state s u n e h = subst (λ (v : State). at_end v ≡ Ok n) e h
 root_is : {xs : List Shape} {s : State} → Begun xs s → (n : Item) → at_end s ≡ Ok n → IsElement open_limit xs n
 root_is (nothing e p) n q = absurd (err_item _ n (sym end_nothing ∙ at_state _ _ n p q))
 root_is (a_tag {all = all} name {attrs} {outer} d tag few parts p) n q = either_item _ (has_repeat attrs) _ _ n (sym (end_tag outer name attrs (length all)) ∙ at_state _ _ n p q)
-root_is (content {all = all} name {t} {attrs} {ks} {outer} d tag few un f parts p) n q = absurd (err_item _ n (sym (end_content outer (tagged name attrs ks) t (length all)) ∙ at_state _ _ n p q))
+root_is (content {all = all} name {t} {attrs} {ks} {outer} d tag few un f parts last p) n q = absurd (err_item _ n (sym (end_content outer (tagged name attrs ks) t (length all)) ∙ at_state _ _ n p q))
 root_is (whole {all} {node} el p) n q = subst (IsElement open_limit all) (item_same node n (sym (end_behind node (length all)) ∙ at_state _ _ n p q)) el
 
 document_by : (bytes : List ℕ) (n : Item) (r : Read State) → all_read (lines bytes) nothing_read ≡ r → followed r at_end ≡ Ok n → IsDocument bytes n

@@ -3,13 +3,13 @@ pub mod AnswerView
 pub mod Verdict
 pub mod Compiled
 pub mod Run
-pub mod DocumentShape
-pub mod DocumentMachine
-pub mod DocumentView
-pub mod DocumentAnswer
 pub mod SchemaTokens
 pub mod SchemaCut
 pub mod SchemaGrammar
 pub mod SchemaFragment
 pub mod SchemaReading
 pub mod SchemaAnswers
+pub mod DocumentShape
+pub mod DocumentMachine
+pub mod DocumentView
+pub mod DocumentAnswer

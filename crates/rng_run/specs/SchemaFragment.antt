@@ -19,9 +19,11 @@ is_closing (Mark RightBrace) = true
 is_closing (Mark RightParen) = true
 is_closing _ = false
 
+-- how many of the tokens open a bracket
 abbrev pub openings : List Lexeme → ℕ
 openings ts = count_by is_opening ts
 
+-- how many close one
 abbrev pub closings : List Lexeme → ℕ
 closings ts = count_by is_closing ts
 

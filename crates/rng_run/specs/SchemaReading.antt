@@ -27,9 +27,11 @@ abbrev pub ◌>>=◌ : {A B : Type 0} → Option A → (A → Option B) → Opti
 None >>= f = None
 (Some x) >>= f = f x
 
+-- a value and the tokens after it, if there is one
 abbrev pub Read : Type 0 → Type 0
 Read A = Option (A × List Lexeme)
 
+-- the two signs are one
 abbrev pub same_sign : Sign → Sign → Bool
 same_sign Comma Comma = true
 same_sign Bar Bar = true
@@ -86,6 +88,7 @@ primary_with pattern (Mark LeftParen ∷ ts) = do
   Some (body.0, end)
 primary_with pattern (Mark s ∷ ts) = None
 
+-- a value where there is none, or the function of the one that there is
 abbrev pub either_way : {A B : Type 0} → Option A → B → (A → B) → B
 either_way None b f = b
 either_way (Some a) b f = f a
@@ -105,10 +108,12 @@ separator_of (Mark Comma ∷ ts) = Some Comma
 separator_of (Mark Bar ∷ ts) = Some Bar
 separator_of _ = None
 
+-- what a connector is in a pattern
 abbrev pub connector_of : Sign → Connector
 connector_of Comma = group
 connector_of _ = choice
 
+-- patterns about a connector
 abbrev pub joined : Sign → List Pattern → Pattern
 joined s ts = members (connector_of s) ts
 
@@ -126,12 +131,15 @@ pattern_at (suc n) ts = do
   t ← primary_with (pattern_at n) ts
   rest_with (primary_with (pattern_at n)) t.0 (separator_of t.1) t.1
 
+-- a primary, where patterns inside it may stand so many one inside the other
 unfoldable pub primary_at : ℕ → List Lexeme → Read Pattern
 primary_at n ts = primary_with (pattern_at n) ts
 
+-- a name and a pattern in braces, where so many may stand one inside the other
 unfoldable pub named_at : ℕ → List Lexeme → Read (NameClass × Pattern)
 named_at n ts = named_with (pattern_at n) ts
 
+-- the pattern, where no tokens are left
 abbrev pub if_ended : Pattern → List Lexeme → Option Pattern
 if_ended t [] = Some t
 if_ended t (x ∷ ts) = None

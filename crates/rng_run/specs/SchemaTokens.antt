@@ -17,6 +17,7 @@ abbrev pub lexeme_of : Token → Lexeme
 lexeme_of (tokens.Word w) = Word w.now
 lexeme_of (tokens.Mark s) = Mark s
 
+-- tokens of the code, in their order
 abbrev pub lexemes : List Token → List Lexeme
 lexemes ts = map lexeme_of ts
 

@@ -41,6 +41,7 @@ fn read_lines(alloc: Global, bytes: &[u8]) -> Result<Item, DocumentFault>
 pub fn read_document(alloc: Global, bytes: &[u8]) -> Result<Item, DocumentFault>
     ensures found { IfOk result (λ root. IsDocument bytes.now (item_of root)) }
     ensures only { (root : document.Item) → IsDocument bytes.now root → IsAnswer root result }
+    ensures fault { IfErr result (IsFaultOf bytes.now) }
 {
     read_lines(alloc, bytes)
 }

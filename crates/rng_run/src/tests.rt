@@ -163,7 +163,7 @@ fn cases_by_pieces_of_any_length(rt: HostRuntime) -> Result<(), Fail> {
             let status = status_of_line(line);
             assert!(rt; got.answer == Ok(status), "{schema} {document}");
             assert_eq!(rt; got.written.as_slice(), line.as_bytes(), "{schema} {document}");
-            assert_eq!(rt; got.read_failures + got.write_failures, 0);
+            assert_eq!(rt; (got.read_failures, got.write_failures), (0, 0));
             let unread = if status == Status::Refused { document.len() } else { 0 };
             assert_eq!(rt; got.unread, unread);
         }

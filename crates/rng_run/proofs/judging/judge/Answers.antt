@@ -9,4 +9,4 @@ pub returns-in-Ok : goal.returns-in-Ok
 returns-in-Ok c = let d = c.in-Ok.ensures.found in ((_, d), c.line_count.ensures ∙ document_lines _ d.shapes d.lines)
 
 pub returns-in-Err-At : goal.returns-in-Err-At
-returns-in-Err-At c = rw c.in-Err-At.field-0-is at c.in-Err-At.ensures.only
+returns-in-Err-At c = rw c.in-Err-At.field-0-is (rw c.in-Err-At.field-0-is at c.in-Err-At.ensures.fault)
