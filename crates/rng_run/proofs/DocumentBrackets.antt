@@ -1,13 +1,10 @@
 -- Start tags and end tags, by the first bytes of lines.
-use Rattle.std.proofs.Common.{◌≡◌, ℕ, suc, ◌+◌, Bool, true, false, eqb, List, [], ◌∷◌, ◌++◌, length, Option, Some, None, refl, sym, ap, subst, ◌∙◌, append_assoc, arith, rules}
-use Rattle.std.specs.Prelude.{◌≢◌}
+use Rattle.std.proofs.Common.{◌≡◌, ℕ, Bool, true, false, eqb, List, [], ◌∷◌, ◌++◌, Option, Some, None, refl, sym, ap, ◌∙◌, append_assoc, rules}
 use Rattle.std.proofs.lemmas.Bool.{eqb-true}
-use Rattle.std.proofs.lemmas.List.{append-nil, reverse-append, reverse-reverse}
+use Rattle.std.proofs.lemmas.List.{reverse-append, reverse-reverse}
 use mathlib.Core.List.{reverse}
 use Rattle.rng_model.specs.Lines.{Line}
 use Rattle.rng_model.specs.PyxFaults.{HasKind, IsBalanced, nothing, other, pair, AreOpen, none_open, one_open}
-use Rattle.rng_run.proofs.DocumentOpened.{front-snoc, last-snoc}
-use Rattle.rng_run.specs.DocumentMachine.{front_of, last_of}
 
 -- ---- the first byte
 

@@ -1,29 +1,27 @@
 -- The clause of the fault that the plain machine answers is broken.
-use Rattle.std.proofs.Common.{◌≡◌, ℕ, suc, ◌+◌, ◌-◌, ◌≤◌, ◌<◌, Bool, true, false, cond, not, ◌&&◌, List, [], ◌∷◌, ◌++◌, length, map, Option, Some, None, Result, Ok, Err, refl, sym, ap, subst, ◌∙◌, append_assoc, arith, rules}
-use Rattle.std.specs.Prelude.{◌≢◌, ◌⊎◌, nat_le, is_some}
+use Rattle.std.proofs.Common.{◌≡◌, ℕ, ◌+◌, ◌<◌, Bool, true, false, cond, not, ◌&&◌, List, [], ◌∷◌, ◌++◌, length, map, Option, Some, None, Ok, Err, refl, sym, ap, subst, ◌∙◌, append_assoc, arith}
+use Rattle.std.specs.Prelude.{nat_le, is_some}
 use Rattle.std.specs.Str.{bytes_eq}
-use Rattle.std.specs.List.{All}
 use Rattle.std.proofs.lemmas.Bool.{leb-true}
 use Rattle.std.proofs.lemmas.List.{append-nil, length-append, length-map}
 use Rattle.std.proofs.lemmas.List.Elements.{All-nil}
-use mathlib.Core.Logic.{inl, inr}
 use Rattle.rng_model.specs.Document.{Attribute, Item}
 use Rattle.rng_model.specs.Lines.{Line, Shape, start, attribute, text, end, IsLine}
-use Rattle.rng_model.specs.Pyx.{attribute_limit, open_limit, text_limit, AreLines, AreAttributes, Distinct}
-use Rattle.rng_model.specs.PyxFaults.{HasKind, nothing, AreOpen, none_open, EndsInTag, EndsInText, EndsInRepeat, IsOutside, no_form, attributes, elements, joined_text, BreaksAt, outside, no_tag, none_to_end, other_name, text_outside, second_root, repeats, Fault, Broken, at_line, unfinished, rootless}
+use Rattle.rng_model.specs.Pyx.{attribute_limit, open_limit, text_limit, AreLines, AreAttributes}
+use Rattle.rng_model.specs.PyxFaults.{HasKind, nothing, AreOpen, none_open, EndsInTag, EndsInText, EndsInRepeat, no_form, attributes, elements, joined_text, BreaksAt, outside, no_tag, none_to_end, other_name, text_outside, second_root, repeats, Fault, Broken, at_line, unfinished, rootless}
 use Rattle.rng_run.specs.DocumentShape.{behind, shape_of}
-use Rattle.rng_run.specs.DocumentMachine.{Element, State, Read, fault, followed, has_repeat, tag_repeats, last_of, with_text, item_of_element, closed, ended, added, shaped, ends_repeat, line_read, all_read, nothing_read, at_end, document_read}
+use Rattle.rng_run.specs.DocumentMachine.{Element, State, Read, followed, has_repeat, tag_repeats, with_text, item_of_element, closed, ended, added, shaped, ends_repeat, line_read, all_read, nothing_read, at_end, document_read}
 use Rattle.rng_run.proofs.DocumentOpened.{last-snoc, front-snoc}
 use Rattle.rng_run.proofs.DocumentLoop.{read_cons, read_nil, document_is}
 use Rattle.rng_run.proofs.DocumentSays.{shape_is, is_line}
 use Rattle.rng_run.proofs.DocumentDistinct.{distinct_is, bytes_not}
-use Rattle.rng_run.proofs.DocumentSteps.{is_attribute, shape_read, inside, in_tag, tagged, behind_root, attribute_step, text_step, first_step, start_step, early, same_bytes}
+use Rattle.rng_run.proofs.DocumentSteps.{is_attribute, shape_read, inside, in_tag, tagged, behind_root, attribute_step, text_step, first_step, start_step, early}
 use Rattle.rng_run.proofs.DocumentRefused.{refusal, attribute_full, repeat_refused, attribute_inside, start_deep, text_long, end_other, text_first, end_first, attribute_behind, start_behind, text_behind, end_behind}
 use Rattle.rng_run.proofs.DocumentFront.{attributes_length}
 use Rattle.rng_run.proofs.DocumentWhole.{Good, good_step, good_nothing, good_read, line_is, line_none, end_nothing, end_content, end_tag}
 use Rattle.rng_run.proofs.DocumentWhole as whole
-use Rattle.rng_run.proofs.DocumentParts.{is_start, is_text, is_end, start_kind, text_kind, end_kind, attribute_kind, other_kind, lines_length}
-use Rattle.rng_run.proofs.DocumentMarks.{bytes_of, no_tag_first}
+use Rattle.rng_run.proofs.DocumentParts.{is_text, is_end, start_kind, text_kind, end_kind, attribute_kind, other_kind, lines_length}
+use Rattle.rng_run.proofs.DocumentMarks.{no_tag_first}
 use Rattle.rng_run.proofs.DocumentPlaces.{name_of, tag_bytes, line_bytes, OpenTags, HasRoot, Place, at_first, at_tag, at_content, at_root, place, text_and_line}
 use Rattle.rng_run.proofs.DocumentLeast.{at, tags_length}
 use Rattle.rng_run.proofs.DocumentFaults.{place_count}

@@ -1,15 +1,14 @@
 -- Each document is read: the plain machine answers its tree.
-use Rattle.std.proofs.Common.{◌≡◌, ℕ, suc, ◌+◌, ◌≤◌, ◌<◌, Bool, true, false, List, [], ◌∷◌, ◌++◌, length, Option, Some, None, Ok, refl, sym, ap, subst, ◌∙◌, append_assoc, arith, rules}
-use Rattle.std.specs.Prelude.{nat_le}
+use Rattle.std.proofs.Common.{◌≡◌, ℕ, ◌+◌, ◌≤◌, ◌<◌, false, List, [], ◌∷◌, ◌++◌, length, Ok, refl, sym, ap, subst, ◌∙◌, append_assoc, arith}
 use Rattle.std.proofs.lemmas.Bool.{le-leb}
 use Rattle.std.proofs.lemmas.List.{append-nil, length-append}
-use Rattle.rng_model.specs.Document.{Attribute, Item, a_text, an_element, Items, no_items, item_and, list_of}
+use Rattle.rng_model.specs.Document.{Attribute, Item, an_element, Items, no_items, item_and, list_of}
 use Rattle.rng_model.specs.View.{items_of}
 use Rattle.rng_model.specs.Lines.{Shape, start, attribute, text, end}
 use Rattle.rng_model.specs.Pyx.{plain_name, attribute_limit, open_limit, text_limit, AreAttributes, no_attributes, attribute_and, IsText, no_text, text_and, text_before, IsElement, is_element, IsContent, last_text, text_and_element}
-use Rattle.rng_run.specs.DocumentMachine.{Element, State, Read, has_repeat, texts_of, with_text, with_child, item_of_element}
+use Rattle.rng_run.specs.DocumentMachine.{Element, State, has_repeat, texts_of, with_text, with_child, item_of_element}
 use Rattle.rng_run.proofs.DocumentDistinct.{distinct_is}
-use Rattle.rng_run.proofs.DocumentSteps.{is_attribute, shape_read, shapes_read, inside, in_tag, tagged, behind_root, attribute_step, text_step, first_step, start_step, end_step, last_step, early, cons_read, append_read, read_none, one_read}
+use Rattle.rng_run.proofs.DocumentSteps.{is_attribute, shapes_read, inside, in_tag, tagged, behind_root, attribute_step, text_step, first_step, start_step, end_step, last_step, early, cons_read, append_read, read_none, one_read}
 
 -- ---- items
 
@@ -137,8 +136,8 @@ mutual
   element_reads (is_element {n} {all} {node} {xs} {ys} {name} {attrs} {kids} tag few u c parts e) opened p t k m deep q =
       nested all (xs ++ (ys ++ end name ∷ [])) name node opened p t k (k + 1 + length xs + length ys) m (omega (arith, deep)) parts
       (tag_joins xs ys name attrs kids node (opened ++ with_text t p ∷ []) (k + 1) (k + 1 + length xs) (k + 1 + length xs + length ys) tag few (distinct_is tag u) (content_first c) refl
-        (content_reads c (opened ++ with_text t p ∷ []) (tagged name attrs []) (k + 1 + length xs) (k + 1 + length xs + length ys)
-          (omega (arith, deep, length-snoc opened p, length-snoc opened (with_text t p), length-snoc (opened ++ with_text t p ∷ []) (tagged name attrs []))) refl) e)
+      (content_reads c (opened ++ with_text t p ∷ []) (tagged name attrs []) (k + 1 + length xs) (k + 1 + length xs + length ys)
+      (omega (arith, deep, length-snoc opened p, length-snoc opened (with_text t p), length-snoc (opened ++ with_text t p ∷ []) (tagged name attrs []))) refl) e)
       (omega (arith, q, ap length parts, length-append xs (ys ++ end name ∷ []), length-append ys (end name ∷ [])))
 
   pub content_reads : {n : ℕ} {xs : List Shape} {kids : Items} → IsContent n xs kids → (opened : List Element) (e : Element) (k m : ℕ) → n + length (opened ++ e ∷ []) ≡ open_limit → m ≡ k + length xs → Inner xs kids opened e k m
@@ -147,7 +146,7 @@ mutual
       more_content all xs ys zs t node rest kids opened e k (k + length xs) (k + length xs + length ys) m d h refl
       (element_reads el opened e t (k + length xs) (k + length xs + length ys) deep refl)
       (content_reads c opened (with_child node (with_text t e)) (k + length xs + length ys) m
-        (omega (arith, deep, length-snoc opened e, length-snoc opened (with_child node (with_text t e)))) (omega (arith, p, ap length parts, length-append xs (ys ++ zs), length-append ys zs)))
+      (omega (arith, deep, length-snoc opened e, length-snoc opened (with_child node (with_text t e)))) (omega (arith, p, ap length parts, length-append xs (ys ++ zs), length-append ys zs)))
       parts q
 
 -- the root
@@ -160,7 +159,7 @@ root_reads : {n : ℕ} {ys : List Shape} {node : Item} → IsElement n ys node �
 root_reads (is_element {n} {all} {node} {xs} {ys} {name} {attrs} {kids} tag few u c parts e) deep =
     rooted all (xs ++ (ys ++ end name ∷ [])) name node (1 + length xs + length ys) (length all) parts
     (tag_joins xs ys name attrs kids node [] 1 (1 + length xs) (1 + length xs + length ys) tag few (distinct_is tag u) (content_first c) refl
-      (content_reads c [] (tagged name attrs []) (1 + length xs) (1 + length xs + length ys) (omega (arith, deep)) refl) e)
+    (content_reads c [] (tagged name attrs []) (1 + length xs) (1 + length xs + length ys) (omega (arith, deep)) refl) e)
     (omega (arith, ap length parts, length-append xs (ys ++ end name ∷ []), length-append ys (end name ∷ [])))
 
 pub document_reads : {ys : List Shape} {node : Item} → IsElement open_limit ys node → shapes_read ys (inside [] [] 0) ≡ Ok (behind_root node (length ys))

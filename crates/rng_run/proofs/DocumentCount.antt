@@ -1,13 +1,11 @@
 -- How the count of lines grows.
-use Rattle.std.proofs.Common.{◌≡◌, ℕ, suc, ◌+◌, ◌≤◌, Bool, true, false, cond, List, [], ◌∷◌, length, Option, Some, None, Result, Ok, Err, refl, ap, sym, subst, ◌∙◌, arith, rules}
-use Rattle.std.specs.Prelude.{nat_le, is_some}
-use Rattle.std.specs.Str.{bytes_eq}
+use Rattle.std.proofs.Common.{◌≡◌, ℕ, ◌+◌, ◌≤◌, Bool, true, false, cond, List, [], Option, Some, None, Ok, Err, refl, ap, sym, subst, ◌∙◌, arith}
 use Rattle.rng_model.specs.Document.{Item}
 use Rattle.rng_model.specs.Lines as lines
 use Rattle.rng_model.specs.Lines.{Line}
 use Rattle.rng_model.specs.PyxFaults.{Fault}
 use Rattle.rng_run.specs.DocumentShape.{shape_of}
-use Rattle.rng_run.specs.DocumentMachine.{Element, State, Read, followed, closed, close_tag, started, start_in, attributed, add_attribute, joined_by, ended, end_in, added, add_in, last_of, shaped, judge, line_read, all_read, item_of_element, with_text, front_of}
+use Rattle.rng_run.specs.DocumentMachine.{Element, State, Read, closed, close_tag, started, start_in, attributed, add_attribute, joined_by, ended, end_in, added, add_in, last_of, shaped, judge, line_read, item_of_element, with_text, front_of}
 
 -- this many lines were read, by the state or by the fault's line; only the end answers clause 13
 pub data Counts (n : ℕ) : Read State → Type 0 where

@@ -1,26 +1,26 @@
 -- No clause is broken before the fault that the plain machine answers.
-use Rattle.std.proofs.Common.{◌≡◌, ℕ, suc, ◌+◌, ◌-◌, ◌≤◌, ◌<◌, Bool, true, false, cond, not, ◌&&◌, List, [], ◌∷◌, ◌++◌, length, map, Option, Some, None, Result, Ok, Err, refl, sym, ap, subst, ◌∙◌, append_assoc, arith, rules}
+use Rattle.std.proofs.Common.{◌≡◌, ℕ, suc, ◌+◌, ◌≤◌, ◌<◌, Bool, true, false, cond, List, [], ◌∷◌, ◌++◌, length, Option, Some, None, Ok, Err, refl, sym, ap, subst, ◌∙◌, arith}
 use Rattle.std.specs.Prelude.{◌≢◌, ◌⊎◌, nat_le, is_some}
 use Rattle.std.proofs.lemmas.Bool.{leb-true}
-use Rattle.std.proofs.lemmas.List.{append-nil, length-append}
+use Rattle.std.proofs.lemmas.List.{length-append}
 use mathlib.Core.Logic.{inl, inr}
 use Rattle.rng_model.specs.Document.{Attribute, Item}
 use Rattle.rng_model.specs.Lines.{Line, Shape, start, attribute, text, end, IsLine}
-use Rattle.rng_model.specs.Pyx.{attribute_limit, open_limit, text_limit, AreLines, AreAttributes, Distinct}
+use Rattle.rng_model.specs.Pyx.{text_limit, AreLines, AreAttributes, Distinct}
 use Rattle.rng_model.specs.PyxFaults.{HasKind, AreOpen, EndsInTag, EndsInText, EndsInRepeat, IsOutside, no_form, attributes, elements, joined_text, BreaksAt, outside, no_tag, none_to_end, other_name, text_outside, second_root, repeats, Fault, Broken, at_line, unfinished, rootless, IsBefore}
 use Rattle.rng_run.specs.DocumentShape.{behind, shape_of}
-use Rattle.rng_run.specs.DocumentMachine.{Element, State, Read, fault, followed, has_repeat, ends_repeat, line_read, all_read, nothing_read, at_end, document_read}
+use Rattle.rng_run.specs.DocumentMachine.{Element, State, Read, followed, has_repeat, ends_repeat, line_read, all_read, nothing_read, at_end, document_read}
 use Rattle.rng_run.proofs.DocumentCount.{line_fault}
 use Rattle.rng_run.proofs.DocumentLoop.{read_cons, read_nil, document_is}
 use Rattle.rng_run.proofs.DocumentSays.{is_line}
 use Rattle.rng_run.proofs.DocumentDistinct.{distinct_of}
-use Rattle.rng_run.proofs.DocumentSteps.{shape_read, inside, in_tag, behind_root}
+use Rattle.rng_run.proofs.DocumentSteps.{shape_read, in_tag}
 use Rattle.rng_run.proofs.DocumentRefused.{refusal}
 use Rattle.rng_run.proofs.DocumentWhole.{Good, good_step, good_nothing, good_read, line_is, line_none, end_nothing, end_content, end_tag}
 use Rattle.rng_run.proofs.DocumentBrackets.{is_kind, kind_not, open_same}
 use Rattle.rng_run.proofs.DocumentParts.{lines_same, attributes_same, is_end, start_kind, end_kind, attribute_kind, other_kind}
-use Rattle.rng_run.proofs.DocumentMarks.{text_bytes, text_within, text_after, one_tag, no_tag_first}
-use Rattle.rng_run.proofs.DocumentPlaces.{name_of, OpenTags, HasRoot, Place, at_first, at_tag, at_content, at_root, place}
+use Rattle.rng_run.proofs.DocumentMarks.{text_within, text_after, one_tag, no_tag_first}
+use Rattle.rng_run.proofs.DocumentPlaces.{HasRoot, Place, at_first, at_tag, at_content, at_root, place}
 use Rattle.rng_run.proofs.DocumentKinds.{says_start_of, says_attribute_of, says_text_of, says_end_of}
 use Rattle.rng_run.proofs.DocumentLeast.{at, Within, within, by_answer, followed_within, attribute_without_tag, too_many_attributes, too_deep, second_start, too_long, text_outside_root, end_of_nothing, end_of_other}
 

@@ -1,5 +1,5 @@
 -- Beginnings of contents and of elements.
-use Rattle.std.proofs.Common.{◌≡◌, ℕ, suc, ◌+◌, ◌≤◌, ◌<◌, Bool, true, false, List, [], ◌∷◌, ◌++◌, length, refl, sym, ap, subst, ◌∙◌, append_assoc, arith, rules}
+use Rattle.std.proofs.Common.{◌≡◌, ℕ, suc, ◌+◌, ◌≤◌, Bool, true, false, List, [], ◌∷◌, ◌++◌, length, refl, sym, ap, subst, append_assoc, arith}
 use Rattle.std.proofs.lemmas.List.{append-nil, length-append}
 use Rattle.rng_model.specs.Document.{Attribute, Item, an_element, Items, no_items, item_and, list_of}
 use Rattle.rng_model.specs.View.{items_of}

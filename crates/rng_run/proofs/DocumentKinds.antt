@@ -1,5 +1,5 @@
 -- What a line that begins with a byte says.
-use Rattle.std.proofs.Common.{◌≡◌, ℕ, List, [], ◌∷◌, refl, sym, arith}
+use Rattle.std.proofs.Common.{◌≡◌, ℕ, List, refl, arith}
 use Rattle.rng_model.specs.Lines.{Line, Shape, start, attribute, text, end, IsLine}
 use Rattle.rng_model.specs.PyxFaults.{HasKind}
 use Rattle.rng_run.proofs.DocumentParts.{start_kind, text_kind, end_kind, attribute_kind, other_kind}

@@ -1,25 +1,22 @@
 -- Where a clause is broken at a line, the plain machine answers a fault there or before.
-use Rattle.std.proofs.Common.{◌≡◌, ℕ, suc, ◌+◌, ◌-◌, ◌≤◌, ◌<◌, Bool, true, false, cond, not, ◌&&◌, List, [], ◌∷◌, ◌++◌, length, map, Option, Some, None, Result, Ok, Err, refl, sym, ap, subst, ◌∙◌, append_assoc, arith, rules}
-use Rattle.std.specs.Prelude.{◌≢◌, ◌⊎◌, nat_le, is_some}
-use Rattle.std.specs.Str.{bytes_eq}
+use Rattle.std.proofs.Common.{◌≡◌, ℕ, ◌+◌, ◌≤◌, ◌<◌, Bool, true, false, List, [], ◌∷◌, ◌++◌, length, map, Some, Err, refl, sym, ap, subst, ◌∙◌, arith}
+use Rattle.std.specs.Prelude.{◌≢◌, ◌⊎◌}
 use Rattle.std.proofs.lemmas.Bool.{le-leb}
-use Rattle.std.proofs.lemmas.List.{append-nil, length-append, length-map}
+use Rattle.std.proofs.lemmas.List.{length-append, length-map}
 use mathlib.Core.Logic.{inl, inr}
-use Rattle.rng_model.specs.Document.{Attribute, Item}
+use Rattle.rng_model.specs.Document.{Attribute}
 use Rattle.rng_model.specs.Lines.{Line, Shape, start, attribute, text, end, line_limit, IsLine}
-use Rattle.rng_model.specs.Pyx.{attribute_limit, open_limit, text_limit, AreLines, AreAttributes}
-use Rattle.rng_model.specs.PyxFaults.{HasKind, nothing, AreOpen, none_open, EndsInTag, EndsInText, Fault, IsBefore}
-use Rattle.rng_run.specs.DocumentShape.{shape_of}
-use Rattle.rng_run.specs.DocumentMachine.{Element, State, Read, fault, followed, has_repeat, last_of, ends_repeat, line_read}
+use Rattle.rng_model.specs.Pyx.{attribute_limit, open_limit, text_limit}
+use Rattle.rng_model.specs.PyxFaults.{nothing, AreOpen, none_open, EndsInTag, EndsInText, Fault, IsBefore}
+use Rattle.rng_run.specs.DocumentMachine.{Element, State, Read, followed, has_repeat, last_of}
 use Rattle.rng_run.proofs.DocumentOpened.{last-snoc}
 use Rattle.rng_run.proofs.DocumentDistinct.{bytes_differ}
-use Rattle.rng_run.proofs.DocumentSteps.{is_attribute, shape_read, inside, in_tag, tagged, behind_root, early, less_not}
+use Rattle.rng_run.proofs.DocumentSteps.{is_attribute, shape_read, inside, in_tag, tagged, early, less_not}
 use Rattle.rng_run.proofs.DocumentRefused.{refusal, attribute_full, repeat_refused, attribute_inside, start_deep, text_long, end_other, text_first, end_first, attribute_behind, start_behind, text_behind, end_behind}
 use Rattle.rng_run.proofs.DocumentFront.{attributes_length}
-use Rattle.rng_run.proofs.DocumentWhole.{line_is, line_none}
 use Rattle.rng_run.proofs.DocumentBrackets.{open_same}
 use Rattle.rng_run.proofs.DocumentParts.{is_text, text_kind, lines_length}
-use Rattle.rng_run.proofs.DocumentMarks.{bytes_of, text_bytes, text_within, texts_nil, text_snoc, text_after, one_tag, no_tag_first}
+use Rattle.rng_run.proofs.DocumentMarks.{bytes_of, text_bytes, text_within, texts_nil, text_snoc, one_tag, no_tag_first}
 use Rattle.rng_run.proofs.DocumentPlaces.{name_of, tag_bytes, line_bytes, OpenTags, HasRoot, Place, at_first, at_tag, at_content, at_root}
 
 abbrev pub at : ℕ → ℕ → Fault

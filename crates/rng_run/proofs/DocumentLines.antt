@@ -1,8 +1,8 @@
 -- How bytes are cut into lines.
-use Rattle.std.proofs.Common.{◌≡◌, ℕ, suc, ◌+◌, ◌<◌, Bool, true, false, cond, eqb, List, [], ◌∷◌, length, take, drop, refl, sym, ap, ◌∙◌, arith, rules, one-add, add-one}
+use Rattle.std.proofs.Common.{◌≡◌, ℕ, Bool, true, false, cond, eqb, List, [], ◌∷◌, length, take, drop, refl, sym, ◌∙◌, one-add}
 use Rattle.std.specs.Prelude.{◌==◌}
 use Rattle.std.specs.List.{prefix_len}
-use Rattle.rng_model.specs.Lines.{Line, with_first, lines}
+use Rattle.rng_model.specs.Lines.{with_first, lines}
 use Rattle.rng_run.specs.DocumentShape.{is_within}
 
 lines_cons : (b : ℕ) (bs : List ℕ) → lines (b ∷ bs) ≡ cond (eqb b 10) (record { bytes = []; ended = true } ∷ lines bs) (with_first b (lines bs))

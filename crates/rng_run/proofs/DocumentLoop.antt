@@ -1,8 +1,6 @@
 -- Line after line.
-use Rattle.std.proofs.Common.{◌≡◌, ℕ, ◌+◌, ◌<◌, ◌^◌, List, [], ◌∷◌, length, Result, Ok, Err, refl, ap, sym, ◌∙◌, arith}
-use Rattle.rng_model.specs.Document.{Item}
+use Rattle.std.proofs.Common.{◌≡◌, ℕ, ◌+◌, ◌<◌, ◌^◌, List, [], ◌∷◌, Ok, refl, ◌∙◌, arith}
 use Rattle.rng_model.specs.Lines.{Line, lines}
-use Rattle.rng_model.specs.PyxFaults.{Fault}
 use Rattle.rng_run.specs.declared.document.fault.DocumentFault.{DocumentFault}
 use Rattle.rng_run.specs.declared.document.fault.DocumentFault.TheVariants as faults
 use Rattle.rng_run.specs.DocumentMachine.{State, Read, followed, line_read, all_read, at_end, nothing_read, document_read}

@@ -1,18 +1,14 @@
 -- The tag and the text that lines end in, by the first bytes of lines.
-use Rattle.std.proofs.Common.{◌≡◌, ℕ, suc, ◌+◌, ◌-◌, ◌≤◌, Bool, true, false, cond, eqb, List, [], ◌∷◌, ◌++◌, length, map, Option, Some, None, refl, sym, ap, subst, ◌∙◌, append_assoc, arith, rules}
+use Rattle.std.proofs.Common.{◌≡◌, ℕ, ◌+◌, ◌-◌, ◌≤◌, Bool, true, false, cond, List, [], ◌∷◌, ◌++◌, length, Option, Some, None, refl, sym, ap, ◌∙◌, append_assoc, arith}
 use Rattle.std.specs.Prelude.{sum_by}
 use Rattle.std.specs.List.{All}
 use Rattle.std.specs.Option.{option_map}
-use Rattle.std.proofs.lemmas.List.{append-nil, length-append}
-use Rattle.std.proofs.lemmas.List.Elements.{All-nil, All-cons, All-head, All-tail}
-use Rattle.std.proofs.lemmas.List.Sums.{sum_by-cons, sum_by-append, sum_by_push}
-use Rattle.rng_model.specs.Document.{Attribute, Item}
-use Rattle.rng_model.specs.Lines.{Line, Shape, start, attribute, text, end, IsLine}
-use Rattle.rng_model.specs.Pyx.{AreLines, no_lines, line_and, AreAttributes, IsText, no_text, text_and, IsElement, is_element}
+use Rattle.std.proofs.lemmas.List.{append-nil}
+use Rattle.std.proofs.lemmas.List.Elements.{All-head, All-tail}
+use Rattle.std.proofs.lemmas.List.Sums.{sum_by-cons}
+use Rattle.rng_model.specs.Lines.{Line}
 use Rattle.rng_model.specs.PyxFaults.{HasKind, EndsInTag, EndsInText}
-use Rattle.rng_run.proofs.DocumentFront.{Front, only_text, element_and_text}
 use Rattle.rng_run.proofs.DocumentBrackets.{is_kind, kind_is, kind_not}
-use Rattle.rng_run.proofs.DocumentParts.{Split, split, other_kind, start_kind, text_kind, end_kind, is_text, attributes_kind, texts_kind, element_lines, ElementLines}
 
 -- ---- the attribute lines of the tag at the end
 

@@ -1,13 +1,11 @@
 -- The lines of parts of a document.
-use Rattle.std.proofs.Common.{◌≡◌, ℕ, suc, ◌+◌, ◌-◌, ◌≤◌, List, [], ◌∷◌, ◌++◌, length, map, refl, sym, ap, subst, ◌∙◌, append_assoc, arith, rules}
+use Rattle.std.proofs.Common.{◌≡◌, ℕ, suc, ◌+◌, ◌≤◌, List, [], ◌∷◌, ◌++◌, length, refl, sym, ap, subst, ◌∙◌, append_assoc, arith}
 use Rattle.std.specs.List.{All}
-use Rattle.std.proofs.lemmas.List.{append-nil, length-append}
 use Rattle.std.proofs.lemmas.List.Elements.{All-nil, All-cons}
 use Rattle.rng_model.specs.Document.{Attribute, Item, Items}
 use Rattle.rng_model.specs.Lines.{Line, Shape, start, attribute, text, end, Says, says_start, says_attribute, says_text, says_end, IsLine}
 use Rattle.rng_model.specs.Pyx.{plain_name, AreLines, no_lines, line_and, AreAttributes, no_attributes, attribute_and, IsText, no_text, text_and, IsElement, is_element, IsContent, last_text, text_and_element}
-use Rattle.rng_model.specs.PyxFaults.{HasKind, IsBalanced, nothing, other, pair, AreOpen, none_open, one_open}
-use Rattle.rng_run.specs.DocumentMachine.{Element}
+use Rattle.rng_model.specs.PyxFaults.{HasKind, IsBalanced, nothing, other, pair}
 use Rattle.rng_run.proofs.DocumentSays.{says_one}
 use Rattle.rng_run.proofs.DocumentFront.{Front, only_text, element_and_text}
 use Rattle.rng_run.proofs.DocumentBrackets.{one_kind, balanced_append}

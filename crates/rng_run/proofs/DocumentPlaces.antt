@@ -1,13 +1,13 @@
 -- Where the lines of a beginning of a document lead to, by the first bytes of lines.
-use Rattle.std.proofs.Common.{◌≡◌, ℕ, suc, ◌+◌, ◌-◌, ◌≤◌, Bool, true, false, List, [], ◌∷◌, ◌++◌, length, map, refl, sym, ap, subst, ◌∙◌, append_assoc, arith, rules}
+use Rattle.std.proofs.Common.{◌≡◌, ℕ, suc, ◌+◌, true, List, [], ◌∷◌, ◌++◌, length, map, refl, sym, ap, subst, ◌∙◌, append_assoc, arith}
 use Rattle.std.specs.Prelude.{sum_by}
 use Rattle.std.specs.List.{All}
-use Rattle.std.proofs.lemmas.List.{append-nil, length-append}
+use Rattle.std.proofs.lemmas.List.{length-append}
 use Rattle.std.proofs.lemmas.List.Elements.{All-nil, All-cons, All-head, All-tail, All-append}
 use Rattle.std.proofs.lemmas.List.Sums.{sum_by-cons, sum_by_push}
-use Rattle.rng_model.specs.Document.{Attribute, Item, Items}
+use Rattle.rng_model.specs.Document.{Attribute, Item}
 use Rattle.rng_model.specs.Lines.{Line, Shape, start, attribute, text, end, IsLine}
-use Rattle.rng_model.specs.Pyx.{attribute_limit, open_limit, text_limit, AreLines, no_lines, line_and, AreAttributes, IsText, no_text, text_and, IsElement, is_element}
+use Rattle.rng_model.specs.Pyx.{AreLines, no_lines, line_and, AreAttributes, IsText, no_text, text_and, IsElement, is_element}
 use Rattle.rng_model.specs.PyxFaults.{HasKind, IsBalanced, nothing, AreOpen, none_open, one_open, EndsInTag, EndsInText}
 use Rattle.rng_run.specs.DocumentMachine.{Element, State, texts_of}
 use Rattle.rng_run.proofs.DocumentSteps.{inside, in_tag, tagged, behind_root}
@@ -15,8 +15,8 @@ use Rattle.rng_run.proofs.DocumentFront.{is_closing, EndsPlain, Front, only_text
 use Rattle.rng_run.proofs.DocumentFront as begun
 use Rattle.rng_run.proofs.DocumentWhole.{Good}
 use Rattle.rng_run.proofs.DocumentBrackets.{balanced_append}
-use Rattle.rng_run.proofs.DocumentParts.{is_start, is_text, start_kind, text_kind, end_kind, attribute_kind, other_kind, Split, split, First, first, no_more, lines_length, attributes_kind, texts_kind, attributes_balanced, front_balanced, element_balanced, ElementLines, element_lines}
-use Rattle.rng_run.proofs.DocumentMarks.{text_bytes, bytes_of, texts_add, texts_append, texts_cons, text_after, text_over, no_tag_first, no_tag_after}
+use Rattle.rng_run.proofs.DocumentParts.{is_start, is_text, start_kind, text_kind, end_kind, other_kind, split, first, no_more, lines_length, attributes_kind, texts_kind, attributes_balanced, front_balanced, element_balanced, element_lines}
+use Rattle.rng_run.proofs.DocumentMarks.{text_bytes, bytes_of, texts_add, texts_append, texts_cons, text_after, text_over, no_tag_after}
 
 abbrev pub name_of : Element → List ℕ
 name_of e = e.name
@@ -181,7 +181,7 @@ content_place {n} {ls} {xs} {ts} {ys} name {t} {attrs} {ks} {outer} m o tag f d 
     at_content outer (tagged name attrs ks) t m (one_more_tag p.tag name (p.attributes ++ p.inner) ls (open_tags o p.are_outer) p.is_tag (balanced_append (attributes_balanced tag p.are_attributes) (front_balanced f p.are_inner)) p.parts) none
     (text_behind ls (p.outer ++ (p.tag ∷ p.attributes)) p.inner (length t) parts (front_ends f p.are_inner))
     (ap (λ (x : List Line). text_bytes x 0) parts ∙ texts_append (p.outer ++ (p.tag ∷ p.attributes)) p.inner 0 ∙
-      ap (text_bytes p.inner) (tag_over p.outer p.tag p.attributes 0 (start_kind p.is_tag) (attributes_kind tag p.are_attributes)) ∙ front_sum f p.are_inner) e
+    ap (text_bytes p.inner) (tag_over p.outer p.tag p.attributes 0 (start_kind p.is_tag) (attributes_kind tag p.are_attributes)) ∙ front_sum f p.are_inner) e
 
 root_of : {n : ℕ} {xs : List Shape} {node : Item} → IsElement n xs node → {ls : List Line} → AreLines ls xs → HasRoot ls
 root_of (is_element {n} {all} {node} {xs} {ys} {name} {attrs} {kids} tag few u c parts e) {ls} d =

@@ -1,14 +1,13 @@
 -- What the plain machine refuses, in each state that a beginning of a document leads to.
-use Rattle.std.proofs.Common.{◌≡◌, ℕ, suc, ◌+◌, ◌≤◌, ◌<◌, Bool, true, false, cond, not, ◌&&◌, List, [], ◌∷◌, ◌++◌, length, Option, Some, None, Result, Ok, Err, refl, sym, ap, ◌∙◌, arith, rules, add-one}
-use Rattle.std.specs.Prelude.{◌==◌, nat_le, is_some}
+use Rattle.std.proofs.Common.{◌≡◌, ℕ, ◌+◌, true, false, List, [], ◌∷◌, ◌++◌, length, Err, refl}
+use Rattle.std.specs.Prelude.{nat_le}
 use Rattle.std.specs.Str.{bytes_eq}
 use Rattle.rng_model.specs.Document.{Attribute, Item}
 use Rattle.rng_model.specs.Lines.{Shape, start, attribute, text, end}
-use Rattle.rng_model.specs.Pyx.{plain_name, attribute_limit, open_limit, text_limit}
-use Rattle.rng_model.specs.PyxFaults.{Fault}
-use Rattle.rng_run.specs.DocumentMachine.{Element, State, Read, fault, last_of, front_of, tag_repeats, has_repeat, closed, started, attributed, joined_by, ended, added, shaped}
-use Rattle.rng_run.proofs.DocumentOpened.{last-snoc, front-snoc}
-use Rattle.rng_run.proofs.DocumentSteps.{is_attribute, shape_read, inside, in_tag, tagged, behind_root, snoc_some}
+use Rattle.rng_model.specs.Pyx.{attribute_limit, open_limit, text_limit}
+use Rattle.rng_run.specs.DocumentMachine.{Element, State, Read, last_of, has_repeat, closed, started, attributed, joined_by, ended, shaped}
+use Rattle.rng_run.proofs.DocumentOpened.{last-snoc}
+use Rattle.rng_run.proofs.DocumentSteps.{is_attribute, shape_read, inside, in_tag, behind_root, snoc_some}
 
 abbrev pub refusal : ℕ → ℕ → Read State
 refusal clause line = Err (record { clause = clause; line = line })

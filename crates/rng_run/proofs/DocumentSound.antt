@@ -1,17 +1,16 @@
 -- What is read well is a beginning of a document.
-use Rattle.std.proofs.Common.{◌≡◌, ℕ, zero, suc, ◌+◌, ◌≤◌, ◌<◌, Bool, true, false, List, [], ◌∷◌, ◌++◌, length, Option, Some, None, Result, Ok, Err, refl, sym, ap, subst, ◌∙◌, append_assoc, arith, rules}
+use Rattle.std.proofs.Common.{◌≡◌, ℕ, zero, suc, ◌+◌, ◌≤◌, ◌<◌, Bool, true, false, List, [], ◌∷◌, ◌++◌, length, Ok, Err, refl, sym, subst, ◌∙◌, append_assoc, arith}
 use Rattle.std.specs.Prelude.{nat_le}
 use Rattle.std.specs.Str.{bytes_eq}
 use Rattle.std.proofs.lemmas.Bool.{leb-true}
 use Rattle.std.proofs.lemmas.List.{append-nil, length-append}
-use Rattle.rng_model.specs.Document.{Attribute, Item, an_element}
-use Rattle.rng_model.specs.View.{items_of}
+use Rattle.rng_model.specs.Document.{Attribute, Item}
 use Rattle.rng_model.specs.Lines.{Shape, start, attribute, text, end}
-use Rattle.rng_model.specs.Pyx.{plain_name, attribute_limit, open_limit, text_limit, AreAttributes, no_attributes, Distinct, IsText, no_text, IsElement}
+use Rattle.rng_model.specs.Pyx.{plain_name, attribute_limit, open_limit, text_limit, AreAttributes, no_attributes, Distinct, no_text, IsElement}
 use Rattle.rng_model.specs.PyxFaults.{Fault}
 use Rattle.rng_run.specs.DocumentMachine.{Element, State, Read, has_repeat, texts_of, with_text, with_child, item_of_element}
 use Rattle.rng_run.proofs.DocumentDistinct.{distinct_of, bytes_same}
-use Rattle.rng_run.proofs.DocumentSteps.{is_attribute, shape_read, shapes_read, inside, in_tag, tagged, behind_root, attribute_step, text_step, first_step, start_step, end_step, last_step, early}
+use Rattle.rng_run.proofs.DocumentSteps.{is_attribute, shape_read, inside, in_tag, tagged, behind_root, attribute_step, text_step, first_step, start_step, end_step, last_step, early}
 use Rattle.rng_run.proofs.DocumentRefused.{refusal, attribute_full, repeat_refused, attribute_inside, start_deep, text_long, end_other, text_first, end_first, attribute_behind, start_behind, text_behind, end_behind}
 use Rattle.rng_run.proofs.DocumentFront.{is_closing, EndsPlain, Front, only_text, Opens, none_opened, one_opened, Begun, nothing, a_tag, content, whole, front_text, front_element, opens_depth, attributes_length, attributes_snoc, element_ends}
 

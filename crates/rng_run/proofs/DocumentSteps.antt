@@ -1,12 +1,11 @@
 -- What the plain machine makes of one line that says something.
-use Rattle.std.proofs.Common.{◌≡◌, ℕ, suc, ◌+◌, ◌≤◌, ◌<◌, Bool, true, false, cond, not, ◌&&◌, List, [], ◌∷◌, ◌++◌, length, Option, Some, None, Result, Ok, Err, refl, sym, ap, ◌∙◌, arith, rules, add-one}
-use Rattle.std.specs.Prelude.{◌==◌, nat_le, is_some}
+use Rattle.std.proofs.Common.{◌≡◌, ℕ, suc, ◌+◌, ◌<◌, Bool, true, false, cond, not, ◌&&◌, List, [], ◌∷◌, ◌++◌, length, Some, None, Ok, Err, refl, sym, ◌∙◌, arith, rules, add-one}
+use Rattle.std.specs.Prelude.{◌==◌, nat_le}
 use Rattle.std.specs.Str.{bytes_eq}
-use Rattle.std.proofs.lemmas.List.{append-nil, length-append}
+use Rattle.std.proofs.lemmas.List.{length-append}
 use Rattle.rng_model.specs.Document.{Attribute, Item}
 use Rattle.rng_model.specs.Lines.{Shape, start, attribute, text, end}
 use Rattle.rng_model.specs.Pyx.{plain_name, attribute_limit, open_limit, text_limit}
-use Rattle.rng_model.specs.PyxFaults.{Fault}
 use Rattle.rng_run.specs.DocumentMachine.{Element, State, Read, fault, followed, last_of, front_of, tag_repeats, has_repeat, with_text, with_child, item_of_element, closed, started, attributed, joined_by, ended, added, shaped}
 use Rattle.rng_run.proofs.DocumentOpened.{last-snoc, front-snoc}
 

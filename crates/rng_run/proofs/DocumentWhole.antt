@@ -1,13 +1,12 @@
 -- What the plain machine answers for the lines of a document, and when.
-use Rattle.std.proofs.Common.{◌≡◌, ℕ, suc, ◌+◌, ◌≤◌, ◌<◌, Bool, true, false, cond, not, ◌&&◌, List, [], ◌∷◌, ◌++◌, length, Option, Some, None, Result, Ok, Err, refl, sym, ap, subst, ◌∙◌, append_assoc, arith, rules}
-use Rattle.std.specs.Prelude.{◌==◌, is_some}
-use Rattle.std.proofs.lemmas.List.{append-nil, length-append}
+use Rattle.std.proofs.Common.{◌≡◌, ℕ, ◌+◌, Bool, true, false, cond, List, [], ◌∷◌, ◌++◌, length, Option, Some, None, Ok, Err, refl, sym, subst, ◌∙◌, append_assoc}
+use Rattle.std.proofs.lemmas.List.{append-nil}
 use Rattle.rng_model.specs.Document.{Attribute, Item}
 use Rattle.rng_model.specs.Lines.{Line, lines, Shape, IsLine}
 use Rattle.rng_model.specs.Pyx.{open_limit, AreLines, no_lines, line_and, IsElement, IsDocument}
 use Rattle.rng_model.specs.PyxFaults.{Fault}
 use Rattle.rng_run.specs.DocumentShape.{shape_of}
-use Rattle.rng_run.specs.DocumentMachine.{Element, State, Read, fault, followed, has_repeat, ends_repeat, judge, line_read, all_read, nothing_read, root_of, at_end, document_read}
+use Rattle.rng_run.specs.DocumentMachine.{Element, State, Read, fault, followed, has_repeat, ends_repeat, line_read, all_read, nothing_read, at_end, document_read}
 use Rattle.rng_run.proofs.DocumentLoop.{read_cons, read_nil, document_is}
 use Rattle.rng_run.proofs.DocumentSays.{shape_is, first_is, is_line}
 use Rattle.rng_run.proofs.DocumentSteps.{shape_read, shapes_read, inside, in_tag, tagged, behind_root, snoc_some}

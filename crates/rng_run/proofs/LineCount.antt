@@ -1,9 +1,9 @@
 -- How many lines there are where each is ended: as many as line feeds.
-use Rattle.std.proofs.Common.{◌≡◌, ◌==◌, ◌+◌, Bool, true, false, if◌then◌else◌, ℕ, List, [], ◌∷◌, length, sym, ap, ◌∙◌, refl, arith}
+use Rattle.std.proofs.Common.{◌≡◌, ◌==◌, ◌+◌, Bool, true, false, if◌then◌else◌, ℕ, List, [], ◌∷◌, length, ◌∙◌, refl, arith}
 use Rattle.std.specs.List.{count_by}
 use Rattle.std.proofs.lemmas.List.Sums.{sum_by-cons}
 use Rattle.rng_model.specs.Lines.{Line, Shape, lines, with_first}
-use Rattle.rng_model.specs.Pyx.{AreLines, no_lines, line_and}
+use Rattle.rng_model.specs.Pyx.{AreLines, line_and}
 
 -- each line is ended
 abbrev AreEnded : List Line → Type 0
@@ -13,7 +13,6 @@ AreEnded (l ∷ ls) = (l.ended ≡ true) × AreEnded ls
 are_ended : (ls : List Line) (xs : List Shape) → AreLines ls xs → AreEnded ls
 are_ended [] xs d = tt
 are_ended (l ∷ ls) xs (line_and {xs = ys} is d) = (is.ended, are_ended ls ys d)
-
 
 -- one byte more, whether it is a line feed or not
 one_more : (c : ℕ) (ls : List Line) (n : ℕ) (b : Bool) → (AreEnded ls → n ≡ length ls) →

@@ -1,5 +1,5 @@
 -- What one line says, read from left to right.
-use Rattle.std.specs.Prelude.{ℕ, Bool, true, false, nat_le, ◌&&◌, ◌||◌, not, List, [], ◌∷◌, length, codes, Option, Some, None, if◌then◌else◌, ◌==◌}
+use Rattle.std.specs.Prelude.{ℕ, Bool, true, false, nat_le, ◌&&◌, not, List, [], ◌∷◌, length, codes, Option, Some, None, if◌then◌else◌, ◌==◌}
 use Rattle.std.specs.List.{list_all}
 use Rattle.std.specs.Str.{bytes_eq}
 use Rattle.rng_model.specs.Lines.{Line, Shape, start, attribute, text, end, is_ascii_name_start, is_ascii_name_char, is_plain, line_limit}

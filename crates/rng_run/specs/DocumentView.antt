@@ -1,7 +1,6 @@
 -- What the values of the code are, and what a call that may run out of memory answers.
-use Rattle.std.specs.Prelude.{◌≡◌, ℕ, List, map, option_map, Result, Ok, Err, Option, Some, None, string_bytes}
+use Rattle.std.specs.Prelude.{◌≡◌, map, option_map, Result, Ok, Err, string_bytes}
 use Rattle.rng_model.specs.Lines as lines
-use Rattle.rng_model.specs.PyxFaults.{Fault}
 use Rattle.rng_model.specs.View.{attribute_of, item_of}
 use Rattle.rng_run.specs.declared.document.fault.DocumentFault.{DocumentFault}
 use Rattle.rng_run.specs.declared.document.fault.DocumentFault.TheVariants as faults

@@ -14,10 +14,9 @@ mod machine;
 #[cfg(test)]
 mod tests;
 
-pub use fault::DocumentFault;
-
 use crate::document::line::first_line;
 use crate::document::machine::Machine;
+pub use fault::DocumentFault;
 use rng_model::Item;
 use std::alloc::Global;
 

@@ -18,10 +18,7 @@ pub enum StreamFault {
 }
 
 /// All that a reader has left.
-pub fn read_whole<R: Read>(
-    alloc: Global,
-    input: &mut Device<R>,
-) -> Result<Vec<u8>, StreamFault>
+pub fn read_whole<R: Read>(alloc: Global, input: &mut Device<R>) -> Result<Vec<u8>, StreamFault>
     requires { device_failures input.old < 2 ^ 64 - 1 }
     ensures bytes { IfOk result (λ bytes. Consumes (R.remaining (device_inner input.old)) (R.remaining (device_inner input.new)) bytes.items) }
     ensures end { OnOk result (IsAtEnd (R.remaining (device_inner input.new))) }

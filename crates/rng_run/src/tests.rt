@@ -64,7 +64,10 @@ struct Outcome {
 
 fn schema_files(alloc: Global, schema: &[u8]) -> Result<Vec<(String, Vec<u8>)>, AllocError> {
     let mut files = Vec::new(alloc);
-    files.push((String::from_str(alloc, "s.rnc")?, Vec::from_slice(alloc, schema)?))?;
+    files.push((
+        String::from_str(alloc, "s.rnc")?,
+        Vec::from_slice(alloc, schema)?,
+    ))?;
     Ok(files)
 }
 
@@ -113,7 +116,9 @@ fn calm(alloc: Global, schema: &[u8], document: &[u8], most: usize) -> Result<Ou
 }
 
 const SMALL: &str = "element a { empty }";
+
 const MIXED: &str = "element a { attribute x { text }, text }";
+
 const ORDERED: &str = "element a { element b {empty}, (element c {text} | empty) }";
 
 /// A schema, a document, and the line that is to be written.
@@ -131,7 +136,11 @@ const CASES: [(&str, &str, &str); 21] = [
     (SMALL, "(b\n)b\n", "invalid line 2\n"),
     (MIXED, "(a\nAx 1\n-hi\n)a\n", "valid\n"),
     (MIXED, "(a\n-hi\n)a\n", "invalid line 3\n"),
-    ("element a { attribute x { empty } }", "(a\nAx \n)a\n", "valid\n"),
+    (
+        "element a { attribute x { empty } }",
+        "(a\nAx \n)a\n",
+        "valid\n",
+    ),
     (ORDERED, "(a\n-\n(b\n)b\n(c\n-hi\n)c\n)a\n", "valid\n"),
     (ORDERED, "(a\n(c\n)c\n(b\n)b\n)a\n", "invalid line 6\n"),
     (
@@ -140,7 +149,11 @@ const CASES: [(&str, &str, &str); 21] = [
         "valid\n",
     ),
     ("element a { \"x\" }", "(a\n)a\n", "refused S0\n"),
-    ("element a { text | text, text }", "(a\n)a\n", "refused S0\n"),
+    (
+        "element a { text | text, text }",
+        "(a\n)a\n",
+        "refused S0\n",
+    ),
     ("element a { empty }}", "(a\n)a\n", "refused S0\n"),
     ("", "(a\n)a\n", "refused S0\n"),
 ];
@@ -162,9 +175,17 @@ fn cases_by_pieces_of_any_length(rt: HostRuntime) -> Result<(), Fail> {
             let got = calm(alloc, schema.as_bytes(), document.as_bytes(), most)?;
             let status = status_of_line(line);
             assert!(rt; got.answer == Ok(status), "{schema} {document}");
-            assert_eq!(rt; got.written.as_slice(), line.as_bytes(), "{schema} {document}");
+            assert_eq!(rt;
+                got.written.as_slice(),
+                line.as_bytes(),
+                "{schema} {document}"
+            );
             assert_eq!(rt; (got.read_failures, got.write_failures), (0, 0));
-            let unread = if status == Status::Refused { document.len() } else { 0 };
+            let unread = if status == Status::Refused {
+                document.len()
+            } else {
+                0
+            };
             assert_eq!(rt; got.unread, unread);
         }
     }
@@ -200,7 +221,10 @@ fn nests_128_deep(rt: HostRuntime) -> Result<(), Fail> {
 fn the_first_file_alone_is_judged(rt: HostRuntime) -> Result<(), Fail> {
     let alloc = rt.alloc();
     let mut files = schema_files(alloc, SMALL.as_bytes())?;
-    files.push((String::from_str(alloc, "t.rnc")?, Vec::from_slice(alloc, b"?")?))?;
+    files.push((
+        String::from_str(alloc, "t.rnc")?,
+        Vec::from_slice(alloc, b"?")?,
+    ))?;
     let source = Source {
         bytes: b"(a\n)a\n",
         most: 9,

@@ -60,8 +60,20 @@ pub fn first_line(bytes: &[u8]) -> Option<(Line<'_>, &[u8])>
     }
     let (line, rest) = bytes.split_at(line_len(bytes));
     match first_and_rest(rest) {
-        Some((_, after)) => Some((Line { bytes: line, ended: true }, after)),
-        None => Some((Line { bytes: line, ended: false }, rest)),
+        Some((_, after)) => Some((
+            Line {
+                bytes: line,
+                ended: true,
+            },
+            after,
+        )),
+        None => Some((
+            Line {
+                bytes: line,
+                ended: false,
+            },
+            rest,
+        )),
     }
 }
 
@@ -154,7 +166,11 @@ fn kind_of(text: &str) -> Option<Shape<'_>>
     ensures { option_map shape_view result ≡ kind_of text.now }
 {
     if let Some(name) = behind('(', text) {
-        return if is_element_name(name) { Some(Shape::Start(name)) } else { None };
+        return if is_element_name(name) {
+            Some(Shape::Start(name))
+        } else {
+            None
+        };
     }
     if let Some(rest) = behind('A', text) {
         return attribute(rest);
@@ -163,7 +179,11 @@ fn kind_of(text: &str) -> Option<Shape<'_>>
         return Some(Shape::Text(value));
     }
     if let Some(name) = behind(')', text) {
-        return if is_element_name(name) { Some(Shape::End(name)) } else { None };
+        return if is_element_name(name) {
+            Some(Shape::End(name))
+        } else {
+            None
+        };
     }
     None
 }

@@ -1,4 +1,4 @@
-use Rattle.std.proofs.Common.{◌≡◌, ◌++◌, ℕ, List, IfOk, Result, Ok, Err, append_assoc, refl, ◌∙◌}
+use Rattle.std.proofs.Common.{◌≡◌, ℕ, List, IfOk, Result, Ok, Err, append_assoc, refl, ◌∙◌}
 use Rattle.rng_run.proofs.answer.malformed_line.Goals as goal
 
 -- the same text, written with other brackets

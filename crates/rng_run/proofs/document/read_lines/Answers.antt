@@ -1,6 +1,5 @@
 use Rattle.std.proofs.lemmas.Result.{err_from_is_err_and}
-use Rattle.rng_model.specs.View.{item_of}
-use Rattle.rng_run.specs.DocumentView.{Gives, line_of, state_of}
+use Rattle.rng_run.specs.DocumentView.{line_of, state_of}
 use Rattle.rng_run.proofs.DocumentLoop.{goes_on, room_after, stops, ends}
 use Rattle.rng_run.proofs.document.read_lines.Goals as goal
 

@@ -1,5 +1,4 @@
-use Rattle.std.proofs.Common.{◌≡◌, ◌∙◌, sym, ap, take, drop, arith, rules}
-use Rattle.std.specs.List.{prefix_len}
+use Rattle.std.proofs.Common.{◌∙◌, ap, take, drop, arith, rules}
 use Rattle.std.proofs.lemmas.List.Sums.{prefix_len-le-length}
 use Rattle.rng_run.specs.DocumentShape.{is_within}
 use Rattle.rng_run.proofs.DocumentLines.{cut_ended, cut_last}

@@ -1,4 +1,4 @@
-use Rattle.std.proofs.Common.{◌∙◌, sym, rules}
+use Rattle.std.proofs.Common.{sym}
 use Rattle.rng_run.proofs.DocumentPlain.{plain_is_text}
 use Rattle.rng_run.proofs.document.line.shape_of.Goals as goal
 
