@@ -7,7 +7,7 @@ use Rattle.rng_run.specs.declared.document.fault.DocumentFault.TheVariants as fa
 use Rattle.rng_run.specs.declared.document.line.Line.{Line}
 use Rattle.rng_run.specs.declared.document.line.Shape.{Shape}
 use Rattle.rng_run.specs.declared.document.line.Shape.TheVariants as shapes
-use Rattle.rng_run.specs.declared.document.machine.Element.{Element}
+use Rattle.rng_run.specs.declared.document.element.Element.{Element}
 use Rattle.rng_run.specs.declared.document.machine.Machine.{Machine}
 use Rattle.rng_run.specs.DocumentMachine as machine
 

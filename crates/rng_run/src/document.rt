@@ -8,6 +8,7 @@ ghost use Rattle.rng_run.specs.DocumentAnswer.{IsAnswer, IsFaultOf};
 ghost use Rattle.rng_run.specs.DocumentMachine as machine;
 ghost use Rattle.rng_run.specs.DocumentView.{Gives};
 
+mod element;
 mod fault;
 mod line;
 mod machine;

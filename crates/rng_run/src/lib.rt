@@ -6,6 +6,9 @@
 #![tactic(auto)]
 
 mod answer;
+mod ascii;
+#[cfg(test)]
+mod comparison;
 mod document;
 mod judging;
 mod running;

@@ -2,10 +2,11 @@
 ghost use Rattle.std.specs.Prelude.{◌≡◌, ◌<◌, ◌∷◌, [], MatchOption, IfSome, length};
 ghost use Rattle.std.specs.List.{list_all, prefix_len};
 ghost use Rattle.std.specs.Option.{option_map};
-ghost use Rattle.rng_model.specs.Lines.{lines, is_letter, is_ascii_name_start, is_ascii_name_char, is_plain};
+ghost use Rattle.rng_model.specs.Lines.{lines, is_ascii_name_char, is_plain};
 ghost use Rattle.rng_run.specs.DocumentShape.{is_within, behind, at_byte, is_ncname, is_element_name, attribute_of, kind_of, shape_of};
 ghost use Rattle.rng_run.specs.DocumentView.{line_of, shape_view};
 
+use crate::ascii::{is_name_char, is_name_start};
 use std::str;
 
 /// The bytes of a line without its line feed.
@@ -50,7 +51,7 @@ fn first_and_rest(bytes: &[u8]) -> Option<(u8, &[u8])>
     }
 }
 
-/// The first line, and the bytes after it.
+/// The first line, and the bytes after it. The cost is the length of the line.
 pub fn first_line(bytes: &[u8]) -> Option<(Line<'_>, &[u8])>
     ensures line { MatchOption result (bytes.now ≡ []) (λ x. lines bytes.now ≡ line_of x.0 ∷ lines x.1.now) }
     ensures shorter { IfSome result (λ x. length x.1.now < length bytes.now) }
@@ -75,24 +76,6 @@ pub fn first_line(bytes: &[u8]) -> Option<(Line<'_>, &[u8])>
             rest,
         )),
     }
-}
-
-fn is_letter(byte: u8) -> bool
-    ensures { result ≡ is_letter byte }
-{
-    matches!(byte, b'A'..=b'Z' | b'a'..=b'z')
-}
-
-fn is_name_start(byte: u8) -> bool
-    ensures { result ≡ is_ascii_name_start byte }
-{
-    is_letter(byte) || byte == b'_'
-}
-
-fn is_name_char(byte: u8) -> bool
-    ensures { result ≡ is_ascii_name_char byte }
-{
-    is_name_start(byte) || matches!(byte, b'0'..=b'9') || byte == b'-' || byte == b'.'
 }
 
 fn all_name_chars(bytes: &[u8]) -> bool
@@ -188,7 +171,7 @@ fn kind_of(text: &str) -> Option<Shape<'_>>
     None
 }
 
-/// What this line says; nothing, if it is no line of the fragment.
+/// What this line says; nothing, if it is no line of the fragment. Takes no memory.
 #[tactic(auto, unfolding(crate::specs::DocumentShape::shape_of))]
 pub fn shape_of(line: Line<'_>) -> Option<Shape<'_>>
     ensures { option_map shape_view result ≡ shape_of (line_of line.entry) }

@@ -5,9 +5,10 @@ ghost use Rattle.rng_model.specs.View.{name_of, attribute_of, item_of};
 ghost use Rattle.rng_run.specs.DocumentMachine as machine;
 ghost use Rattle.rng_run.specs.DocumentView.{Gives, Takes, line_of, shape_view, element_of, state_of};
 
+use crate::document::element::{Element, has_repeat};
 use crate::document::fault::DocumentFault;
 use crate::document::line::{Line, Shape, shape_of};
-use rng_model::{Attr, Item, Name};
+use rng_model::Item;
 use std::alloc::Global;
 use std::mem;
 
@@ -19,14 +20,6 @@ const OPEN_LIMIT: usize = 512;
 
 /// How many bytes a joined text may have.
 const TEXT_LIMIT: usize = 1_048_576;
-
-/// An element whose end was not read.
-#[derive(Debug, Drop)]
-struct Element {
-    name: String,
-    attrs: Vec<Attr>,
-    children: Vec<Item>,
-}
 
 /// What is kept from one line to the next.
 #[derive(Debug, Drop)]
@@ -42,93 +35,12 @@ pub struct Machine {
     lines: u64,
 }
 
-/// A name without a namespace.
-fn plain_name(alloc: Global, local: String) -> Name
-    ensures { name_of result ≡ pyx.plain_name (string_bytes local) }
-{
-    Name {
-        ns: String::new(alloc),
-        local,
-    }
-}
-
-fn occurs(name: &str, attrs: &[Attr]) -> bool
-    ensures { result ≡ machine.occurs name.now (map attribute_of attrs.now) }
-{
-    match attrs {
-        [first, rest @ ..] => first.name.local.as_str() == name || occurs(name, rest),
-        [] => false,
-    }
-}
-
-/// Two of these attributes have one name.
-fn has_repeat(attrs: &[Attr]) -> bool
-    ensures { result ≡ machine.has_repeat (map attribute_of attrs.now) }
-{
-    match attrs {
-        [first, rest @ ..] => occurs(first.name.local.as_str(), rest) || has_repeat(rest),
-        [] => false,
-    }
-}
-
 /// Takes the innermost element.
 fn pop_open(opened: &mut Vec<Element>) -> Option<Element>
     ensures last { option_map element_of result ≡ machine.last_of (map element_of opened.old.items) }
     ensures front { map element_of opened.new.items ≡ machine.front_of (map element_of opened.old.items) }
 {
     opened.pop()
-}
-
-impl Element {
-    /// The element of a tag without attributes.
-    fn new(alloc: Global, name: &str) -> Result<Self, DocumentFault>
-        ensures { Gives element_of result (Ok (machine.fresh name.now)) }
-    {
-        Ok(Element {
-            name: String::from_str(alloc, name)?,
-            attrs: Vec::new(alloc),
-            children: Vec::new(alloc),
-        })
-    }
-
-    /// With this text after its other children, but for the empty one.
-    fn with_text(self, text: String) -> Result<Self, DocumentFault>
-        ensures { Gives element_of result (Ok (machine.with_text (string_bytes text) (element_of self))) }
-    {
-        let mut element = self;
-        if !text.is_empty() {
-            element.children.push(Item::Text(text))?;
-        }
-        Ok(element)
-    }
-
-    fn with_child(self, child: Item) -> Result<Self, DocumentFault>
-        ensures { Gives element_of result (Ok (machine.with_child (item_of child) (element_of self))) }
-    {
-        let mut element = self;
-        element.children.push(child)?;
-        Ok(element)
-    }
-
-    fn with_attribute(self, alloc: Global, name: &str, value: &str) -> Result<Self, DocumentFault>
-        ensures { Gives element_of result (Ok (machine.with_attribute name.now value.now (element_of self))) }
-    {
-        let mut element = self;
-        let name = plain_name(alloc, String::from_str(alloc, name)?);
-        let value = String::from_str(alloc, value)?;
-        element.attrs.push(Attr { name, value })?;
-        Ok(element)
-    }
-
-    fn into_item(self, alloc: Global) -> Item
-        ensures { item_of result ≡ machine.item_of_element (element_of self) }
-    {
-        Item::Element {
-            name: plain_name(alloc, self.name),
-            attrs: self.attrs,
-            children: self.children,
-        }
-    }
 }
 
 impl Machine {
@@ -175,6 +87,7 @@ impl Machine {
         mem::replace(&mut self.joined, String::new(self.alloc))
     }
 
+    /// A start tag.
     #[tactic(auto, unfolding(crate::specs::DocumentMachine::started))]
     fn start(&mut self, name: &str) -> Result<(), DocumentFault>
         ensures { Takes result (state_of self.new) (machine.started name.now (state_of self.old)) }
@@ -197,6 +110,7 @@ impl Machine {
         Ok(())
     }
 
+    /// An attribute of the tag.
     #[tactic(auto, unfolding(crate::specs::DocumentMachine::attributed))]
     fn attribute(&mut self, name: &str, value: &str) -> Result<(), DocumentFault>
         ensures { Takes result (state_of self.new) (machine.attributed name.now value.now (state_of self.old)) }
@@ -211,6 +125,7 @@ impl Machine {
         Ok(())
     }
 
+    /// A text, joined to the one before.
     #[tactic(auto, unfolding(crate::specs::DocumentMachine::joined_by))]
     fn text(&mut self, value: &str) -> Result<(), DocumentFault>
         ensures { Takes result (state_of self.new) (machine.joined_by value.now (state_of self.old)) }
@@ -237,6 +152,7 @@ impl Machine {
         Ok(())
     }
 
+    /// An end tag.
     #[tactic(auto, unfolding(crate::specs::DocumentMachine::ended))]
     fn end(&mut self, name: &str) -> Result<(), DocumentFault>
         ensures { Takes result (state_of self.new) (machine.ended name.now (state_of self.old)) }
@@ -252,6 +168,7 @@ impl Machine {
         self.add(item)
     }
 
+    /// A line that says this.
     #[tactic(auto, unfolding(crate::specs::DocumentMachine::shaped))]
     fn shape(&mut self, shape: Shape<'_>) -> Result<(), DocumentFault>
         ensures { Takes result (state_of self.new) (machine.shaped (shape_view shape.entry) (state_of self.old)) }

@@ -79,3 +79,43 @@ fn answers_the_tree(rt: HostRuntime) -> Result<(), Fail> {
     }
     Ok(())
 }
+
+// The lines before, this line so many times, and the lines after.
+fn repeated(
+    alloc: Global,
+    before: &[u8],
+    line: &[u8],
+    times: usize,
+    after: &[u8],
+) -> Result<Vec<u8>, Fail> {
+    let mut bytes = Vec::new(alloc);
+    bytes.extend_from_slice(before).map_err(Fail::new)?;
+    for _ in 0..times {
+        bytes.extend_from_slice(line).map_err(Fail::new)?;
+    }
+    bytes.extend_from_slice(after).map_err(Fail::new)?;
+    Ok(bytes)
+}
+
+// What is past a limit is outside the fragment, at its line.
+#[test]
+fn keeps_the_limits(rt: HostRuntime) -> Result<(), Fail> {
+    let alloc = rt.alloc();
+    let deep = repeated(alloc, b"", b"(a\n", 512, b"")?;
+    let whole = repeated(alloc, deep.as_slice(), b")a\n", 512, b"")?;
+    assert!(rt; fault_of(alloc, whole.as_slice()).is_none());
+    let deeper = repeated(alloc, deep.as_slice(), b"(a\n", 1, b"")?;
+    assert!(rt; fault_of(alloc, deeper.as_slice()) == fault(0, 513));
+    let text = repeated(alloc, b"(a\n-", b"x", 65_535, b"\n)a\n")?;
+    assert!(rt; fault_of(alloc, text.as_slice()).is_none());
+    let text = repeated(alloc, b"(a\n-", b"x", 65_536, b"\n)a\n")?;
+    assert!(rt; fault_of(alloc, text.as_slice()) == fault(0, 2));
+    let line = repeated(alloc, b"-", b"x", 65_535, b"\n")?;
+    let joined = repeated(alloc, b"(a\n", line.as_slice(), 17, b")a\n")?;
+    assert!(rt; fault_of(alloc, joined.as_slice()) == fault(0, 18));
+    let attributes = repeated(alloc, b"(a\n", b"Ax 1\n", 257, b")a\n")?;
+    assert!(rt; fault_of(alloc, attributes.as_slice()) == fault(0, 258));
+    let attributes = repeated(alloc, b"(a\n", b"Ax 1\n", 256, b")a\n")?;
+    assert!(rt; fault_of(alloc, attributes.as_slice()) == fault(12, 257));
+    Ok(())
+}

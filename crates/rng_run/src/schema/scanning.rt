@@ -3,12 +3,13 @@
 ghost use Rattle.std.specs.Prelude.{◌≡◌, IfOk, IfErr, MatchOption, length, take, List, []};
 ghost use Rattle.std.specs.List.{prefix_len};
 ghost use Rattle.std.specs.Str.{IsAscii};
-ghost use Rattle.rng_model.specs.Lines.{is_ascii_name_start, is_ascii_name_char};
+ghost use Rattle.rng_model.specs.Lines.{is_ascii_name_char};
 ghost use Rattle.rng_run.specs.SchemaTokens.{Lexeme, is_blank, lexemes};
 ghost use Rattle.rng_run.specs.SchemaCut.{IsNext, Cuts, NothingBegins};
 ghost use Rattle.rng_run.specs.SchemaReading.{output_of};
 ghost use Rattle.rng_run.specs.SchemaAnswers.{IfOutside};
 
+use crate::ascii::{is_name_char, is_name_start};
 use crate::schema::fault::ReadFault;
 use crate::schema::tokens::{Sign, Token, find_sign};
 use std::alloc::Global;
@@ -26,20 +27,6 @@ fn is_blank(byte: u8) -> bool
     ensures { result ≡ is_blank byte }
 {
     matches!(byte, b' ' | b'\t' | b'\n')
-}
-
-/// A letter or `_`.
-fn is_name_start(byte: u8) -> bool
-    ensures { result ≡ is_ascii_name_start byte }
-{
-    matches!(byte, b'A'..=b'Z' | b'a'..=b'z' | b'_')
-}
-
-/// A letter, a digit, `_`, `-` or `.`.
-fn is_name_char(byte: u8) -> bool
-    ensures { result ≡ is_ascii_name_char byte }
-{
-    matches!(byte, b'A'..=b'Z' | b'a'..=b'z' | b'_' | b'0'..=b'9' | b'-' | b'.')
 }
 
 /// How many bytes in front can stand in a name.
