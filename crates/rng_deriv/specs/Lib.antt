@@ -1,2 +1,3 @@
 pub mod Residual
 pub mod Derivative
+pub mod WellFormed

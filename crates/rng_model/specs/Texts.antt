@@ -1,16 +1,22 @@
--- What is known of texts so far.
-use Rattle.std.specs.Prelude.{ℕ, ◌==◌, ◌||◌, Bool, List, []}
+-- What is known of texts, where tests decide it: then a contract can speak of all of it.
+use Rattle.std.specs.Prelude.{ℕ, List, Bool, ◌||◌, ◌==◌, IsTrue}
 use Rattle.std.specs.List.{list_all}
+use Rattle.rng_model.specs.Tree.{Datatype}
 use Rattle.rng_model.specs.Matching.{Texts}
 
 -- a space, a tab, a line feed or a carriage return (XML 1.0, section 2.3)
 abbrev pub is_blank_byte : ℕ → Bool
-is_blank_byte c = (c == 32) || (c == 9) || (c == 10) || (c == 13)
+is_blank_byte b = (b == 32) || ((b == 9) || ((b == 10) || (b == 13)))
 
 -- nothing but white space (RELAX NG Specification, section 6.2.7)
 abbrev pub is_blank : List ℕ → Bool
-is_blank text = list_all is_blank_byte text
+is_blank s = list_all is_blank_byte s
 
--- No schema names a datatype, a value or a list yet, so nothing is allowed, nothing is equal, and no text has pieces.
-abbrev pub texts : Texts
-texts = record { Allows = λ d w. ⊥; Equals = λ d v w. ⊥; pieces = λ w. []; blank = is_blank }
+-- What datatypes say of texts, and how a text is cut at its blanks. No schema of the present fragment asks for any of it.
+pub record TextTests : Type 0 where
+  pub allows : Datatype → List ℕ → Bool
+  pub equals : Datatype → List ℕ → List ℕ → Bool
+  pub pieces : List ℕ → List (List ℕ)
+
+abbrev pub texts_of : TextTests → Texts
+texts_of tests = record { Allows = λ d w. IsTrue (tests.allows d w); Equals = λ d v w. IsTrue (tests.equals d v w); pieces = tests.pieces; blank = is_blank }

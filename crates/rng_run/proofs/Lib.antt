@@ -29,3 +29,4 @@ mod DocumentLeast
 mod DocumentFaults
 mod DocumentBroken
 mod DocumentAnswers
+mod WellFormed

@@ -1,0 +1,23 @@
+-- Documents as the reader of a document gives them.
+use Rattle.std.specs.Prelude.{◌≢◌, ℕ, List, [], ◌∷◌}
+use Rattle.rng_model.specs.Names as names
+use Rattle.rng_model.specs.Document.{Attribute, Item, a_text, an_element, Items, no_items, item_and, list_of}
+use Rattle.rng_model.specs.Pyx.{Distinct}
+
+-- no two strings stand side by side
+pub data Separate : List Item → Type 0 where
+  nothing : Separate []
+  string : {s : List ℕ} → Separate (a_text s ∷ [])
+  element : {q : names.Name} {xs : List Attribute} {kids : Items} {ns : List Item} → Separate ns → Separate (an_element q xs kids ∷ ns)
+  string_element : {s : List ℕ} {q : names.Name} {xs : List Attribute} {kids : Items} {ns : List Item} → Separate ns → Separate (a_text s ∷ an_element q xs kids ∷ ns)
+
+-- in each element the attributes have distinct names, no string is empty, and no two strings stand side by side
+-- (RELAX NG Specification, section 2; XML 1.0, section 3.1)
+abbrev mutual
+  pub IsWellFormed : Item → Type 0
+  IsWellFormed (a_text s) = s ≢ []
+  IsWellFormed (an_element q xs kids) = Distinct xs × Separate (list_of kids) × AreWellFormed kids
+
+  pub AreWellFormed : Items → Type 0
+  AreWellFormed no_items = Unit {0}
+  AreWellFormed (item_and n ns) = IsWellFormed n × AreWellFormed ns
