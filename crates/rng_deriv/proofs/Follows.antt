@@ -1,16 +1,17 @@
 -- Derivatives stay derivatives as patterns are added, and spines are walked back up.
-use Rattle.std.proofs.Common.{rules, ◌≡◌, ℕ, ◌<◌, ◌≤◌, List, [], ◌∷◌, ◌++◌, length, slice_get, get_or, Some, Result, Ok, Err, OnOk, IfOk, nat_eq, All, refl, ap, sym, ◌∙◌, arith, length-append, append_assoc, subst, ⊎_elim}
+use Rattle.std.proofs.Common.{rules, ◌≡◌, ℕ, ◌<◌, ◌≤◌, List, [], ◌∷◌, ◌++◌, length, slice_get, get_or, Some, nat_eq, All, refl, ap, sym, ◌∙◌, arith, length-append, append_assoc, subst, ⊎_elim}
 use Rattle.std.proofs.lemmas.List.{get_or_append_left}
 use Rattle.std.proofs.lemmas.Option.{slice_get_within, get_or_from_slice_get, slice_get-get_or}
 use Rattle.std.proofs.lemmas.Bool.{cases_eq, ne_eqb}
 use Rattle.std.specs.HashMap.{HashMap, get, Updates}
-use Rattle.rng_model.specs.Table.{Table}
+use Rattle.rng_model.specs.Table.{Table, grammar_of}
 use Rattle.rng_model.specs.declared.name.NameClass.{NameClass}
 use Rattle.rng_model.specs.declared.simple.PatternId.{PatternId}
-use Rattle.rng_deriv.specs.Residual.{AreCopied, Longer}
-use Rattle.rng_deriv.specs.Derivative.{IsFirstSide, IsSpine, at_top, further, IsAfter, Knows, IsFirstAfter}
+use Rattle.rng_deriv.specs.Residual.{AreCopied, Longer, tree_of}
+use Rattle.rng_deriv.specs.Derivative.{IsFirstSide, IsSpine, at_top, further, IsAfter, IsDerivative, Knows}
 use Rattle.rng_deriv.specs.declared.residual.Residual.{Residual}
 use Rattle.rng_deriv.specs.declared.derivative.Symbol.{Symbol}
+use Rattle.rng_deriv.proofs.Trees.{tree_stays}
 
 pub Longer-refl : (rs : List Residual) → Longer rs rs
 Longer-refl rs = ([], search rules)
@@ -69,7 +70,9 @@ IsAfter-longer t rs ss s number left p h =
     let more = Longer-length rs ss p in
     let inside = h.inside in
     let left_inside = h.left_inside in
-    record { inside = omega arith; left_inside = omega arith }
+    let same_number : tree_of t rs number ≡ tree_of t ss number = sym (tree_stays t rs ss number p inside) in
+    let same_left : tree_of t rs left ≡ tree_of t ss left = sym (tree_stays t rs ss left p left_inside) in
+    record { inside = omega arith; left_inside = omega arith; is = subst (λ q. IsDerivative (grammar_of t) s (tree_of t ss number) q) same_left (subst (λ q. IsDerivative (grammar_of t) s q (tree_of t rs left)) same_number h.is) }
 
 pub Knows-longer : {Z : Type 0} (t : Table) (rs ss : List Residual) (s : Symbol) (memo : HashMap ℕ ℕ Z) → Longer rs ss → Knows t rs s memo → Knows t ss s memo
 Knows-longer t rs ss s memo p known = λ number left e. IsAfter-longer t rs ss s number left p (known number left e)
@@ -85,14 +88,9 @@ Knows-insert t rs s old new number left known after updates = λ k d e. ⊎_elim
     (cases_eq number k)
 
 pub AreCopied-longer : (t : Table) (rs ss : List Residual) → Longer rs ss → AreCopied t rs → AreCopied t ss
-AreCopied-longer t rs ss p copied = let more = Longer-length rs ss p in record { table = copied.table; long = omega arith }
-
-pub inside_after : {E : Type 0} (t : Table) (rs ss : List Residual) (s : Symbol) (parent left : ℕ) (r : Result ℕ E) → IsFirstAfter t rs s parent left → OnOk r (Longer rs ss) → IfOk r (λ n. n < length ss) → IfOk r (IsAfter t ss s parent)
-inside_after t rs ss s parent left (Ok n) first longer inside =
-    let at = slice_get_within rs parent first.side.residual first.side.found in
-    let more = Longer-length rs ss longer in
-    record { inside = omega arith; left_inside = inside }
-inside_after t rs ss s parent left (Err e) first longer inside = tt
+AreCopied-longer t rs ss p copied = let more = Longer-length rs ss p in
+    let long = copied.long in
+    record { table = copied.table; long = omega arith; trees = λ i h. tree_stays t rs ss i p (omega arith) ∙ copied.trees i h }
 
 -- what holds of each item holds of one that was found
 pub All-found : {X : Type 0} (P : X → Type 0) (xs : List X) (i : ℕ) (x : X) → All P xs → slice_get xs i ≡ Some x → P x

@@ -1,2 +1,14 @@
 pub mod Trees
 pub mod Follows
+pub mod Plain
+pub mod Blanks
+pub mod Copied
+pub mod Built
+pub mod Steps
+pub mod Derivable
+pub mod Leaves
+pub mod Named
+pub mod Taken
+pub mod Loops
+pub mod Children
+pub mod Shapes

@@ -1,7 +1,14 @@
 -- What the derivative of a pattern by a symbol is.
-use Rattle.std.specs.Prelude.{◌≡◌, ℕ, ◌+◌, ◌*◌, ◌<◌, List, [], ◌∷◌, ◌++◌, length, slice_get, Option, Some, None, nat_eq}
+use Rattle.std.specs.Prelude.{◌≡◌, ◌↔◌, ℕ, ◌+◌, ◌*◌, ◌^◌, ◌<◌, List, [], ◌∷◌, ◌++◌, length, slice_get, Option, Some, None, nat_eq, true, IsTrue}
 use Rattle.std.specs.HashMap.{HashMap, get}
-use Rattle.rng_model.specs.Table.{Table}
+use Rattle.std.specs.HashSet.{HashSet, contains}
+use Rattle.rng_model.specs.Tree as tree
+use Rattle.rng_model.specs.Document.{Item, a_text}
+use Rattle.rng_model.specs.View.{attribute_of}
+use Rattle.rng_model.specs.Table.{Table, Grammar, grammar_of}
+use Rattle.rng_model.specs.Texts.{TextTests}
+use Rattle.rng_deriv.specs.Plain.{IsOf, IsAfterItem, IsAfterAttribute, has_element}
+use Rattle.rng_deriv.specs.Residual.{AreSidesBelow, shape, tree_of}
 use Rattle.rng_deriv.specs.declared.residual.Node.{Node}
 use Rattle.rng_deriv.specs.declared.residual.Node.TheVariants as node
 use Rattle.rng_deriv.specs.declared.residual.Residual.{Residual}
@@ -10,7 +17,7 @@ use Rattle.rng_deriv.specs.declared.derivative.Symbol.TheVariants as symbol
 
 -- a derivative by an attribute may ask for derivatives by its value, and these ask for none of their own
 abbrev pub rank : Table → Symbol → ℕ
-rank t (symbol.Attribute a) = 3 * length t.patterns + 6
+rank t (symbol.Attribute a) = 4 * length t.patterns + 6
 rank t (symbol.Text s) = 0
 rank t (symbol.Element es) = 0
 
@@ -44,10 +51,28 @@ IsLeaf rs number = (r : Residual) → slice_get rs number ≡ Some r → first_s
 abbrev pub IsBottom : {Z : Type 0} → List Residual → HashMap ℕ ℕ Z → ℕ → Type 0
 IsBottom rs memo number = get nat_eq memo number ≡ None → IsLeaf rs number
 
+-- the set has the elements of the grammar that the item matches, of those that the program can number
+pub record HasItsElements {Z : Type 0} (g : Grammar) (elements : HashSet ℕ Z) (n : Item) : Type 0 where
+  pub element : has_element (n ∷ []) ≡ true
+  pub each : (tests : TextTests) (k : ℕ) → k < 2 ^ 64 → IsTrue (contains nat_eq elements k) ↔ IsOf g tests k n
+
+-- the symbol stands for the item
+abbrev pub StandsForItem : Grammar → Symbol → Item → Type 0
+StandsForItem g (symbol.Attribute a) n = ⊥
+StandsForItem g (symbol.Text s) n = n ≡ a_text s.now
+StandsForItem g (symbol.Element elements) n = HasItsElements g elements n
+
+-- q is what is left of p after what the symbol stands for
+abbrev pub IsDerivative : Grammar → Symbol → tree.Simple ℕ → tree.Simple ℕ → Type 0
+IsDerivative g (symbol.Attribute a) p q = (tests : TextTests) → IsAfterAttribute g tests (attribute_of a.now) p q
+IsDerivative g (symbol.Text s) p q = (tests : TextTests) → IsAfterItem g tests (a_text s.now) p q
+IsDerivative g (symbol.Element elements) p q = (n : Item) → HasItsElements g elements n → (tests : TextTests) → IsAfterItem g tests n p q
+
 -- left is the derivative of the pattern of this number by the symbol
 pub record IsAfter (t : Table) (rs : List Residual) (s : Symbol) (number left : ℕ) : Type 0 where
   pub inside : number < length rs
   pub left_inside : left < length rs
+  pub is : IsDerivative (grammar_of t) s (tree_of t rs number) (tree_of t rs left)
 
 -- each derivative that is kept is one
 abbrev pub Knows : {Z : Type 0} → Table → List Residual → Symbol → HashMap ℕ ℕ Z → Type 0
@@ -58,3 +83,10 @@ pub record IsFirstAfter (t : Table) (rs : List Residual) (s : Symbol) (parent le
   pub first : ℕ
   pub side : IsFirstSide rs parent first
   pub after : IsAfter t rs s first left
+
+-- the node is what is left of the leaf of this number after the symbol
+pub record IsLeftOfLeaf (t : Table) (rs : List Residual) (s : Symbol) (number : ℕ) (n : Node) : Type 0 where
+  pub left : tree.Simple ℕ
+  pub tree : (of : ℕ → tree.Simple ℕ) → shape t of n ≡ left
+  pub below : (k : ℕ) → AreSidesBelow k n
+  pub is : IsDerivative (grammar_of t) s (tree_of t rs number) left

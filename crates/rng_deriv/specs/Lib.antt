@@ -1,3 +1,6 @@
+pub mod WellFormed
+pub mod Plain
 pub mod Residual
 pub mod Derivative
-pub mod WellFormed
+pub mod Named
+pub mod Taken

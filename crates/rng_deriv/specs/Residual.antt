@@ -2,10 +2,13 @@
 use Rattle.std.specs.Prelude.{◌≡◌, ℕ, ◌<◌, ◌≤◌, ⊤, List, [], ◌∷◌, ◌++◌, length, fold, slice_get, slice_index_or, Option, Some, None, Bool, true, false, ◌||◌, ◌&&◌}
 use Rattle.rng_model.specs.Tree as tree
 use Rattle.rng_model.specs.Tree.{choice, group, interleave}
-use Rattle.rng_model.specs.Table.{Table, IsTable, tree_at}
+use Rattle.rng_model.specs.Table.{Table, Grammar, IsTable, tree_at}
 use Rattle.rng_model.specs.View.{class_of}
+use Rattle.rng_model.specs.declared.simple.PatternId.{PatternId}
 use Rattle.rng_model.specs.declared.simple.Simple.{Simple}
 use Rattle.rng_model.specs.declared.simple.Simple.TheVariants as simple
+use Rattle.rng_model.specs.Texts.{TextTests}
+use Rattle.rng_deriv.specs.Plain.{Same}
 use Rattle.rng_deriv.specs.declared.residual.Node.{Node}
 use Rattle.rng_deriv.specs.declared.residual.Node.TheVariants as node
 use Rattle.rng_deriv.specs.declared.residual.Residual.{Residual}
@@ -82,7 +85,24 @@ pub record AreResiduals (rs : List Residual) : Type 0 where
 abbrev pub Longer : List Residual → List Residual → Type 0
 Longer rs ss = (more : List Residual) × (ss ≡ rs ++ more)
 
+-- the pattern of this number, new or not, matches what the tree does
+pub record Builds (rs ss : List Residual) (built : Table → tree.Simple ℕ) (number : ℕ) : Type 0 where
+  pub longer : Longer rs ss
+  pub inside : number < length ss
+  pub same : (t : Table) (g : Grammar) (tests : TextTests) → Same g tests (tree_of t ss number) (built t)
+
+-- the node of the grammar's pattern at a position
+abbrev pub node_for : Simple → PatternId → Node
+node_for simple.NotAllowed position = node.NotAllowed
+node_for simple.Empty position = node.Empty
+node_for simple.Text position = node.Text
+node_for (simple.Element e) position = node.Element e
+node_for (simple.Attribute class body) position = node.Attribute position
+node_for (simple.Group a b) position = node.Group a.0 b.0
+node_for (simple.Choice a b) position = node.Choice a.0 b.0
+
 -- each pattern of the grammar stands at its position
 pub record AreCopied (t : Table) (rs : List Residual) : Type 0 where
   pub table : IsTable t
   pub long : length t.patterns ≤ length rs
+  pub trees : (i : ℕ) → i < length t.patterns → tree_of t rs i ≡ tree_at t.patterns (record { 0 = i })

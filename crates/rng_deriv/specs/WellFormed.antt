@@ -1,5 +1,5 @@
 -- Documents as the reader of a document gives them.
-use Rattle.std.specs.Prelude.{◌≢◌, ℕ, List, [], ◌∷◌}
+use Rattle.std.specs.Prelude.{◌≢◌, ℕ, List, [], ◌∷◌, Bool, true, false}
 use Rattle.rng_model.specs.Names as names
 use Rattle.rng_model.specs.Document.{Attribute, Item, a_text, an_element, Items, no_items, item_and, list_of}
 use Rattle.rng_model.specs.Pyx.{Distinct}
@@ -21,3 +21,12 @@ abbrev mutual
   pub AreWellFormed : Items → Type 0
   AreWellFormed no_items = Unit {0}
   AreWellFormed (item_and n ns) = IsWellFormed n × AreWellFormed ns
+
+abbrev pub is_text : Item → Bool
+is_text (a_text s) = true
+is_text (an_element q xs kids) = false
+
+-- no two strings stand side by side, nor one behind a string before the list
+abbrev pub StaysSeparate : Bool → List Item → Type 0
+StaysSeparate false ns = Separate ns
+StaysSeparate true ns = (s : List ℕ) → Separate (a_text s ∷ ns)

@@ -1,7 +1,12 @@
 // What is left of a pattern after an attribute, a string or an element.
-ghost use Rattle.std.specs.Prelude.{◌≡◌, ◌<◌, length, IfOk, OnOk, MatchOption};
-ghost use Rattle.rng_deriv.specs.Residual.{AreCopied, Longer};
-ghost use Rattle.rng_deriv.specs.Derivative.{IsAfter, IsBottom, IsFirstAfter, IsFirstSide, IsLeaf, IsSpine, Knows};
+ghost use Rattle.std.specs.Prelude.{◌≡◌, ◌↔◌, ◌<◌, [], length, slice_get, IsTrue, IfOk, OnOk, MatchOption, ◌||◌, ◌&&◌, if◌then◌else◌};
+ghost use Rattle.rng_model.specs.Table.{grammar_of};
+ghost use Rattle.rng_model.specs.Tree.{s_empty, s_not_allowed};
+ghost use Rattle.rng_model.specs.View.{attribute_of, class_of, name_of};
+ghost use Rattle.rng_model.specs.Texts.{TextTests, is_blank};
+ghost use Rattle.rng_deriv.specs.Plain.{IsAfterAttribute, TakesText};
+ghost use Rattle.rng_deriv.specs.Residual.{AreCopied, Longer, attribute_found, tree_of};
+ghost use Rattle.rng_deriv.specs.Derivative.{IsAfter, IsBottom, IsFirstAfter, IsFirstSide, IsLeaf, IsLeftOfLeaf, IsSpine, Knows};
 
 use crate::names::{holds, is_blank};
 use crate::residual::{Node, Residuals};
@@ -128,20 +133,23 @@ fn after_parent(
     match residuals.at(parent).node {
         Node::Choice(_, second) => {
             let right = after(alloc, grammar, residuals, symbol, memo, second)?;
-            residuals.choice(left, right)
+            let whole = residuals.choice(left, right)?;
+            Ok(whole)
         }
         Node::Group(first, second) => {
             let front = residuals.group(left, second)?;
             if let Symbol::Attribute(_) = symbol {
                 let right = after(alloc, grammar, residuals, symbol, memo, second)?;
                 let back = residuals.group(first, right)?;
-                return residuals.choice(front, back);
+                let whole = residuals.choice(front, back)?;
+                return Ok(whole);
             }
             if !residuals.at(first).nullable {
                 return Ok(front);
             }
             let right = after(alloc, grammar, residuals, symbol, memo, second)?;
-            residuals.choice(front, right)
+            let whole = residuals.choice(front, right)?;
+            Ok(whole)
         }
         _ => unreachable!(),
     }
@@ -162,15 +170,51 @@ fn after_leaf(
     ensures longer { OnOk result (Longer residuals.old residuals.new) }
     ensures after { IfOk result (IsAfter grammar.now residuals.new symbol.now number) }
 {
-    let takes = match (residuals.at(number).node, symbol) {
-        (Node::Text, Symbol::Text(_)) => return Ok(number),
-        (Node::Element(element), Symbol::Element(elements)) => elements.contains(&element.0),
-        (Node::Attribute(pattern), Symbol::Attribute(attr)) => {
-            takes_attribute(alloc, grammar, residuals, pattern, attr)?
-        }
-        _ => false,
-    };
-    residuals.number_of(if takes { Node::Empty } else { Node::NotAllowed })
+    let node = leaf_after(alloc, grammar, residuals, symbol, number)?;
+    let left = residuals.number_of(node)?;
+    Ok(left)
+}
+
+/// The derivative of a pattern that is no group and no choice, as a node.
+#[cycle(derivative)]
+fn leaf_after(
+    alloc: Global,
+    grammar: &SimpleGrammar,
+    residuals: &mut Residuals,
+    symbol: &Symbol,
+    number: usize,
+) -> Result<Node, OutOfMemory>
+    requires inside { number < length residuals.old }
+    requires copied { AreCopied grammar.now residuals.old }
+    requires leaf { IsLeaf residuals.old number }
+    ensures longer { OnOk result (Longer residuals.old residuals.new) }
+    ensures left { IfOk result (IsLeftOfLeaf grammar.now residuals.old symbol.now number) }
+{
+    match residuals.at(number).node {
+        Node::Text => match symbol {
+            Symbol::Text(_) => Ok(Node::Text),
+            _ => Ok(Node::NotAllowed),
+        },
+        Node::Element(element) => match symbol {
+            Symbol::Element(elements) => Ok(empty_if(elements.contains(&element.0))),
+            _ => Ok(Node::NotAllowed),
+        },
+        Node::Attribute(pattern) => match symbol {
+            Symbol::Attribute(attr) => {
+                let takes = takes_attribute(alloc, grammar, residuals, pattern, attr)?;
+                Ok(empty_if(takes))
+            }
+            _ => Ok(Node::NotAllowed),
+        },
+        _ => Ok(Node::NotAllowed),
+    }
+}
+
+/// What is left of a pattern that takes one thing or none.
+fn empty_if(takes: bool) -> Node
+    ensures { result ≡ (if takes then Node.Empty else Node.NotAllowed) }
+{
+    if takes { Node::Empty } else { Node::NotAllowed }
 }
 
 /// Whether an attribute pattern of the grammar matches an attribute.
@@ -182,11 +226,15 @@ fn takes_attribute(
     pattern: PatternId,
     attr: &Attr,
 ) -> Result<bool, OutOfMemory>
-    requires copied { AreCopied grammar.now residuals.old }
+    requires { AreCopied grammar.now residuals.old }
     ensures longer { OnOk result (Longer residuals.old residuals.new) }
+    ensures left { IfOk result (λ takes. (tests : TextTests) → IsAfterAttribute (grammar_of grammar.now) tests (attribute_of attr.now) (attribute_found grammar.now (slice_get grammar.now.patterns pattern.0)) (if takes then s_empty else s_not_allowed)) }
 {
     match grammar.pattern(pattern) {
-        Some(Simple::Attribute(class, body)) if holds(class, &attr.name) => {
+        Some(Simple::Attribute(class, body)) => {
+            if !holds(class, &attr.name) {
+                return Ok(false);
+            }
             takes_text(alloc, grammar, residuals, attr.value.as_str(), body.0)
         }
         _ => Ok(false),
@@ -205,9 +253,19 @@ pub fn takes_text(
     requires inside { number < length residuals.old }
     requires copied { AreCopied grammar.now residuals.old }
     ensures longer { OnOk result (Longer residuals.old residuals.new) }
+    ensures takes { IfOk result (λ takes. (tests : TextTests) → IsTrue takes ↔ TakesText (grammar_of grammar.now) tests (tree_of grammar.now residuals.old number) [] text.now) }
 {
     let mut memo = HashMap::new(alloc);
     let symbol = Symbol::Text(text);
     let left = after(alloc, grammar, residuals, &symbol, &mut memo, number)?;
-    Ok(residuals.at(left).nullable || residuals.at(number).nullable && is_blank(text))
+    let alone = residuals.at(left).nullable;
+    let empty = residuals.at(number).nullable;
+    Ok(is_taken(alone, empty, text))
+}
+
+/// Whether a string is taken weakly: as it is, or as a blank one in place of nothing.
+fn is_taken(alone: bool, empty: bool, text: &str) -> bool
+    ensures { result ≡ (alone || (empty && is_blank text.now)) }
+{
+    alone || empty && is_blank(text)
 }

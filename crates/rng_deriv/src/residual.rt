@@ -1,7 +1,8 @@
 // Patterns by number: those of a grammar, and what is left of them while a document is matched.
 ghost use Rattle.std.specs.Prelude.{◌≡◌, ◌+◌, ◌<◌, ℕ, List, length, slice_get, Some, IfSome, IfOk, OnOk};
-ghost use Rattle.rng_model.specs.Table.{Table, IsTable, AreChildrenBelow};
-ghost use Rattle.rng_deriv.specs.Residual.{AreSidesBelow, AreCopied, Longer, tree_of, shape, is_nullable};
+ghost use Rattle.rng_model.specs.Tree.{choice, group, s_joined};
+ghost use Rattle.rng_model.specs.Table.{Table, IsTable};
+ghost use Rattle.rng_deriv.specs.Residual.{AreSidesBelow, AreCopied, Builds, Longer, node_for, tree_of, shape, is_nullable};
 
 use rng_model::{ElementId, OutOfMemory, PatternId, Simple, SimpleGrammar};
 use std::alloc::Global;
@@ -122,9 +123,7 @@ impl Residuals {
     /// The number of a pattern, a new one where it has none.
     pub fn number_of(&mut self, node: Node) -> Result<usize, OutOfMemory>
         requires { AreSidesBelow (length self.old) node }
-        ensures longer { OnOk result (Longer self.old self.new) }
-        ensures inside { IfOk result (λ number. number < length self.new) }
-        ensures tree { IfOk result (λ number. (t : Table) → tree_of t self.new number ≡ shape t (tree_of t self.old) node) }
+        ensures { IfOk result (Builds self.old self.new (λ t. shape t (tree_of t self.old) node)) }
     {
         match self.known(node) {
             Some(number) => Ok(number),
@@ -136,16 +135,17 @@ impl Residuals {
     pub fn choice(&mut self, first: usize, second: usize) -> Result<usize, OutOfMemory>
         requires first { first < length self.old }
         requires second { second < length self.old }
-        ensures longer { OnOk result (Longer self.old self.new) }
-        ensures inside { IfOk result (λ number. number < length self.new) }
+        ensures { IfOk result (Builds self.old self.new (λ t. s_joined choice (tree_of t self.old first) (tree_of t self.old second))) }
     {
         if first == second {
             return Ok(first);
         }
-        match (self.at(first).node, self.at(second).node) {
-            (_, Node::NotAllowed) => Ok(first),
-            (Node::NotAllowed, _) => Ok(second),
-            (Node::Choice(_, last), _) if last == second => Ok(first),
+        if let Node::NotAllowed = self.at(second).node {
+            return Ok(first);
+        }
+        match self.at(first).node {
+            Node::NotAllowed => Ok(second),
+            Node::Choice(_, last) if last == second => Ok(first),
             _ => self.number_of(Node::Choice(first, second)),
         }
     }
@@ -154,12 +154,16 @@ impl Residuals {
     pub fn group(&mut self, first: usize, second: usize) -> Result<usize, OutOfMemory>
         requires first { first < length self.old }
         requires second { second < length self.old }
-        ensures longer { OnOk result (Longer self.old self.new) }
-        ensures inside { IfOk result (λ number. number < length self.new) }
+        ensures { IfOk result (Builds self.old self.new (λ t. s_joined group (tree_of t self.old first) (tree_of t self.old second))) }
     {
-        match (self.at(first).node, self.at(second).node) {
-            (Node::NotAllowed, _) | (_, Node::Empty) => Ok(first),
-            (Node::Empty, _) | (_, Node::NotAllowed) => Ok(second),
+        match self.at(first).node {
+            Node::NotAllowed => return Ok(first),
+            Node::Empty => return Ok(second),
+            _ => {}
+        }
+        match self.at(second).node {
+            Node::NotAllowed => Ok(second),
+            Node::Empty => Ok(first),
             _ => self.number_of(Node::Group(first, second)),
         }
     }
@@ -171,16 +175,18 @@ pub fn residuals_of(alloc: Global, grammar: &SimpleGrammar) -> Result<Residuals,
     ensures { IfOk result (AreCopied grammar.now) }
 {
     let mut residuals = Residuals::new(alloc);
-    while let Some(pattern) = grammar.pattern(PatternId(residuals.len())) {
-        let node = node_of(pattern, PatternId(residuals.len()));
-        residuals.push(node)?;
+    'patterns: loop {
+        let position = PatternId(residuals.len());
+        let Some(pattern) = grammar.pattern(position) else {
+            return Ok(residuals);
+        };
+        residuals.push(node_of(pattern, position))?;
     }
-    Ok(residuals)
 }
 
 /// The node of the grammar's pattern at a position.
 fn node_of(pattern: &Simple, position: PatternId) -> Node
-    ensures { AreChildrenBelow position.0 pattern.now → AreSidesBelow position.0 result }
+    ensures { result ≡ node_for pattern.now position }
 {
     match pattern {
         Simple::NotAllowed => Node::NotAllowed,

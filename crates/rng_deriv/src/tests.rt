@@ -1,5 +1,6 @@
 // Tests of what no contract says: answers that come from outside, and patterns that only their sharing makes small.
 mod draft;
+mod shape;
 
 use crate::valid::is_valid;
 use draft::{Draft, document, name};

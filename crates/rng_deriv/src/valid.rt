@@ -1,6 +1,15 @@
 // Which elements of a grammar a node of a document matches, from the leaves up.
-ghost use Rattle.std.specs.Prelude.{◌<◌, length, IfOk, OnOk};
-ghost use Rattle.rng_deriv.specs.Residual.{AreCopied, Longer};
+ghost use Rattle.std.specs.Prelude.{◌≡◌, ◌↔◌, ◌<◌, ◌&&◌, length, map, IsTrue, IfOk, OnOk};
+ghost use Rattle.std.specs.List.{list_any};
+ghost use Rattle.rng_model.specs.Table.{IsValidBy, grammar_of};
+ghost use Rattle.rng_model.specs.View.{attribute_of, item_of, name_of};
+ghost use Rattle.rng_model.specs.Texts.{TextTests, texts_of};
+ghost use Rattle.rng_deriv.specs.WellFormed.{IsWellFormed};
+ghost use Rattle.rng_deriv.specs.Plain.{is_blank_text, is_element};
+ghost use Rattle.rng_deriv.specs.Residual.{AreCopied, Longer, tree_of};
+ghost use Rattle.rng_deriv.specs.Derivative.{IsAfter, StandsForItem};
+ghost use Rattle.rng_deriv.specs.Named.{ListsElements};
+ghost use Rattle.rng_deriv.specs.Taken.{AnswersContent, AnswersNode, AnswersNodes, AnswersPlain, IsAfterAttributes};
 
 use crate::derivative::{Symbol, after, takes_text};
 use crate::names::{ElementNames, holds, is_blank};
@@ -15,7 +24,10 @@ use std::collections::{HashMap, HashSet};
 /// its attributes and children in turn; an item takes each numbered pattern once, so time and memory grow with the
 /// document and the numbered patterns and not with the trees that these stand for. Recursion goes as deep as the
 /// document and as the second sides of groups and choices. `OutOfMemory` where a growth was refused, and never else.
-pub fn is_valid(alloc: Global, grammar: &SimpleGrammar, root: &Item) -> Result<bool, OutOfMemory> {
+pub fn is_valid(alloc: Global, grammar: &SimpleGrammar, root: &Item) -> Result<bool, OutOfMemory>
+    requires { IsWellFormed (item_of root.now) }
+    ensures { IfOk result (λ valid. (tests : TextTests) → IsTrue valid ↔ IsValidBy (grammar_of grammar.now) (texts_of tests) (item_of root.now)) }
+{
     let start = grammar.start().0;
     let names = ElementNames::new(alloc, grammar)?;
     let mut residuals = residuals_of(alloc, grammar)?;
@@ -32,8 +44,11 @@ fn symbol_of<'a>(
     residuals: &mut Residuals,
     item: &'a Item,
 ) -> Result<Symbol<'a>, OutOfMemory>
-    requires { AreCopied grammar.now residuals.old }
-    ensures { OnOk result (Longer residuals.old residuals.new) }
+    requires copied { AreCopied grammar.now residuals.old }
+    requires names { ListsElements grammar.now names.now }
+    requires well_formed { IsWellFormed (item_of item.now) }
+    ensures longer { OnOk result (Longer residuals.old residuals.new) }
+    ensures stands { IfOk result (λ symbol. StandsForItem (grammar_of grammar.now) symbol (item_of item.now)) }
 {
     match item {
         Item::Text(text) => Ok(Symbol::Text(text.as_str())),
@@ -45,7 +60,7 @@ fn symbol_of<'a>(
             let drops_blanks = has_element(children.as_slice());
             let mut content = Vec::new(alloc);
             'children: for child in children {
-                if !(drops_blanks && is_blank_text(child)) {
+                if !is_dropped(drops_blanks, child) {
                     content.push(symbol_of(alloc, grammar, names, residuals, child)?)?;
                 }
             }
@@ -57,15 +72,24 @@ fn symbol_of<'a>(
     }
 }
 
-fn has_element(items: &[Item]) -> bool {
-    items
-        .iter()
-        .any(|item| matches!(item, Item::Element { .. }))
+fn has_element(items: &[Item]) -> bool
+    ensures { result ≡ list_any (λ item. is_element (item_of item)) items.now }
+{
+    items.iter().any(is_element)
 }
 
-fn is_blank_text(item: &Item) -> bool {
-    match item {
-        Item::Text(text) => is_blank(text.as_str()),
+fn is_element(item: &Item) -> bool
+    ensures { result ≡ is_element (item_of item.now) }
+{
+    matches!(item, Item::Element { .. })
+}
+
+/// Whether a child is a blank string that is left out.
+fn is_dropped(drops_blanks: bool, child: &Item) -> bool
+    ensures { result ≡ (drops_blanks && is_blank_text (item_of child.now)) }
+{
+    match child {
+        Item::Text(text) => drops_blanks && is_blank(text.as_str()),
         Item::Element { .. } => false,
     }
 }
@@ -80,8 +104,10 @@ fn elements_of(
     attrs: &[Attr],
     content: &[Symbol],
 ) -> Result<HashSet<usize>, OutOfMemory>
-    requires { AreCopied grammar.now residuals.old }
-    ensures { OnOk result (Longer residuals.old residuals.new) }
+    requires copied { AreCopied grammar.now residuals.old }
+    requires names { ListsElements grammar.now names.now }
+    ensures longer { OnOk result (Longer residuals.old residuals.new) }
+    ensures found { IfOk result (AnswersNodes grammar.now (name_of name.now) (map attribute_of attrs.now) content.now) }
 {
     let mut found = HashSet::new(alloc);
     'elements: for element in names.candidates(name) {
@@ -103,15 +129,17 @@ fn takes_element(
     content: &[Symbol],
 ) -> Result<bool, OutOfMemory>
     requires { AreCopied grammar.now residuals.old }
-    ensures { OnOk result (Longer residuals.old residuals.new) }
+    ensures longer { OnOk result (Longer residuals.old residuals.new) }
+    ensures takes { IfOk result (AnswersNode grammar.now element (name_of name.now) (map attribute_of attrs.now) content.now) }
 {
-    match grammar.element(ElementId(element)) {
-        Some((class, body)) if holds(class, name) => {
-            let left = after_attributes(alloc, grammar, residuals, attrs, body.0)?;
-            takes_content(alloc, grammar, residuals, content, left)
-        }
-        _ => Ok(false),
+    let Some((class, body)) = grammar.element(ElementId(element)) else {
+        return Ok(false);
+    };
+    if !holds(class, name) {
+        return Ok(false);
     }
+    let left = after_attributes(alloc, grammar, residuals, attrs, body.0)?;
+    takes_content(alloc, grammar, residuals, content, left)
 }
 
 /// What is left of a pattern after attributes.
@@ -126,6 +154,7 @@ fn after_attributes(
     requires copied { AreCopied grammar.now residuals.old }
     ensures longer { OnOk result (Longer residuals.old residuals.new) }
     ensures inside { IfOk result (λ left. left < length residuals.new) }
+    ensures after { IfOk result (λ left. (tests : TextTests) → IsAfterAttributes (grammar_of grammar.now) tests (map attribute_of attrs.now) (tree_of grammar.now residuals.old number) (tree_of grammar.now residuals.new left)) }
 {
     let mut left = number;
     'attrs: for attr in attrs {
@@ -144,7 +173,8 @@ fn takes_content(
 ) -> Result<bool, OutOfMemory>
     requires inside { number < length residuals.old }
     requires copied { AreCopied grammar.now residuals.old }
-    ensures { OnOk result (Longer residuals.old residuals.new) }
+    ensures longer { OnOk result (Longer residuals.old residuals.new) }
+    ensures takes { IfOk result (AnswersContent grammar.now residuals.old number content.now) }
 {
     match content {
         [] => takes_text(alloc, grammar, residuals, "", number),
@@ -166,7 +196,8 @@ fn takes_all(
 ) -> Result<bool, OutOfMemory>
     requires inside { number < length residuals.old }
     requires copied { AreCopied grammar.now residuals.old }
-    ensures { OnOk result (Longer residuals.old residuals.new) }
+    ensures longer { OnOk result (Longer residuals.old residuals.new) }
+    ensures takes { IfOk result (AnswersPlain grammar.now residuals.old number content.now) }
 {
     let mut left = number;
     'symbols: for symbol in content {
@@ -186,7 +217,7 @@ fn after_one(
     requires inside { number < length residuals.old }
     requires copied { AreCopied grammar.now residuals.old }
     ensures longer { OnOk result (Longer residuals.old residuals.new) }
-    ensures inside { IfOk result (λ left. left < length residuals.new) }
+    ensures after { IfOk result (IsAfter grammar.now residuals.new symbol.now number) }
 {
     let mut memo = HashMap::new(alloc);
     after(alloc, grammar, residuals, symbol, &mut memo, number)

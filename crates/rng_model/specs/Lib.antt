@@ -11,3 +11,6 @@ pub mod Lines
 pub mod Pyx
 pub mod PyxFaults
 pub mod Texts
+pub mod Unfold
+pub mod Step
+pub mod SimpleForm

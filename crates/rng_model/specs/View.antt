@@ -36,6 +36,7 @@ item_of = fold-Item document.Item item_step
 
 -- one level of a pattern, with each pattern inside already seen as its tree
 abbrev pub pattern_step : Pattern-F written.Pattern → written.Pattern
+pattern_step Pattern-F.NotAllowed = written.not_allowed
 pattern_step Pattern-F.Empty = written.empty
 pattern_step Pattern-F.Text = written.text
 pattern_step (Pattern-F.Element class body) = written.element (class_of class) body.value

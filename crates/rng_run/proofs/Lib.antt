@@ -30,3 +30,4 @@ mod DocumentFaults
 mod DocumentBroken
 mod DocumentAnswers
 mod WellFormed
+mod OneVerdict

@@ -7,7 +7,7 @@ use Rattle.rng_model.specs.Written as written
 use Rattle.rng_run.specs.declared.schema.tokens.Sign.{Sign}
 use Rattle.rng_run.specs.declared.schema.tokens.Sign.TheVariants.{Comma, Bar, LeftBrace, RightBrace, LeftParen, RightParen}
 use Rattle.rng_run.specs.SchemaTokens.{Lexeme, Word, Mark}
-use Rattle.rng_run.specs.SchemaGrammar.{unprefixed, IsPattern, alone, in_order, one_of, AreMore, last, more, IsPrimary, element, attribute, empty, text, in_parens}
+use Rattle.rng_run.specs.SchemaGrammar.{unprefixed, IsPattern, alone, in_order, one_of, AreMore, last, more, IsPrimary, element, attribute, empty, text, not_allowed, in_parens}
 use Rattle.rng_run.specs.SchemaReading.{keyword_of, name_at, named_with, word_with, primary_with, follow, more_with, separator_of, joined, rest_with, pattern_at, primary_at}
 use Rattle.rng_run.proofs.SchemaSteps.{opened, closed}
 use Rattle.rng_run.proofs.SchemaSound.{same_sign_refl}
@@ -69,6 +69,10 @@ text_read : (n : ℕ) (rest : List Lexeme) → primary_at n (Word (codes "text")
 unfolding primary_at primary_with word_with keyword_of
 text_read n rest = refl
 
+not_allowed_read : (n : ℕ) (rest : List Lexeme) → primary_at n (Word (codes "notAllowed") ∷ rest) ≡ Some (written.not_allowed, rest)
+unfolding primary_at primary_with word_with keyword_of
+not_allowed_read n rest = refl
+
 separates : (s : Sign) (b rest : List Lexeme) → separator_of (Mark s ∷ []) ≡ Some s → (c : List Lexeme) × (b ≡ Mark s ∷ c) → separator_of (b ++ rest) ≡ Some s
 separates Comma b rest h e = rw e.1 refl
 separates Bar b rest h e = rw e.1 refl
@@ -121,5 +125,6 @@ mutual
       rw parts (attribute_read n name a rest t (pattern_complete p n (below_named n (codes "attribute") name a (subst (NestBelow (suc n)) parts nest)) (Mark RightBrace ∷ rest) (record { separator = refl; comma = refl; bar = refl })))
   primary_complete (empty parts) n nest rest = rw parts (empty_read n rest)
   primary_complete (text parts) n nest rest = rw parts (text_read n rest)
+  primary_complete (not_allowed parts) n nest rest = rw parts (not_allowed_read n rest)
   primary_complete (in_parens {ts} {a} {t} p parts) n nest rest =
       rw parts (parens_read n a rest t (pattern_complete p n (inside_below n (Mark LeftParen) (Mark RightParen) a parens (subst (NestBelow (suc n)) parts nest)) (Mark RightParen ∷ rest) (record { separator = refl; comma = refl; bar = refl })))

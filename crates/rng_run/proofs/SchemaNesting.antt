@@ -9,7 +9,7 @@ use Rattle.rng_model.specs.Written.{Pattern}
 use Rattle.rng_run.specs.declared.schema.tokens.Sign.{Sign}
 use Rattle.rng_run.specs.declared.schema.tokens.Sign.TheVariants.{Comma, Bar, LeftBrace, RightBrace, LeftParen, RightParen}
 use Rattle.rng_run.specs.SchemaTokens.{Lexeme, Word, Mark}
-use Rattle.rng_run.specs.SchemaGrammar.{IsPattern, alone, in_order, one_of, AreMore, last, more, IsPrimary, element, attribute, empty, text, in_parens}
+use Rattle.rng_run.specs.SchemaGrammar.{IsPattern, alone, in_order, one_of, AreMore, last, more, IsPrimary, element, attribute, empty, text, not_allowed, in_parens}
 use Rattle.rng_run.specs.SchemaFragment.{is_opening, is_closing, openings, closings}
 
 -- fewer than so many brackets are open at each token
@@ -182,4 +182,5 @@ mutual
   primary_even (attribute {a = a} name p parts) = subst Balanced (sym parts) (named_even (codes "attribute") name a (pattern_even p))
   primary_even (empty parts) = subst Balanced (sym parts) refl
   primary_even (text parts) = subst Balanced (sym parts) refl
+  primary_even (not_allowed parts) = subst Balanced (sym parts) refl
   primary_even (in_parens {a = a} p parts) = subst Balanced (sym parts) (bracket_even (Mark LeftParen) (Mark RightParen) a parens (pattern_even p))

@@ -12,7 +12,7 @@ use Rattle.rng_run.specs.declared.schema.tokens.Sign.TheVariants.{Comma, Bar, Le
 use Rattle.rng_run.specs.declared.schema.tokens.Keyword.{Keyword}
 use Rattle.rng_run.specs.declared.schema.tokens.Keyword.TheVariants as keywords
 use Rattle.rng_run.specs.SchemaTokens.{Lexeme, Word, Mark}
-use Rattle.rng_run.specs.SchemaGrammar.{unprefixed, IsPattern, alone, in_order, one_of, AreMore, last, more, IsPrimary, element, attribute, empty, text, in_parens}
+use Rattle.rng_run.specs.SchemaGrammar.{unprefixed, IsPattern, alone, in_order, one_of, AreMore, last, more, IsPrimary, element, attribute, empty, text, not_allowed, in_parens}
 use Rattle.rng_run.specs.SchemaReading.{◌>>=◌, Read, same_sign, keyword_of, name_at, named_with, word_with, primary_with, more_with, follow, either_way, with_front, separator_of, joined, rest_with, pattern_at, primary_at}
 use Rattle.rng_run.proofs.SchemaSteps.{opened}
 use Rattle.rng_run.proofs.SchemaNesting.{NestBelow, IsConnector, comma, bar, parens, named_tokens, named_below, bracket_below, below_join, word_below, pattern_even, primary_even}
@@ -63,6 +63,7 @@ word_of keywords.Element = codes "element"
 word_of keywords.Attribute = codes "attribute"
 word_of keywords.Empty = codes "empty"
 word_of keywords.Text = codes "text"
+word_of keywords.NotAllowed = codes "notAllowed"
 
 is_word : (w : List ℕ) (k m : Keyword) → w ≡ word_of k → Some k ≡ Some m → w ≡ word_of m
 is_word w k m p e = subst (λ (k : Keyword). w ≡ word_of k) (some_is k m e) p
@@ -78,7 +79,10 @@ keyword_is w k e =
           | inl h ↦ is_word w keywords.Empty k ((bytes_eq-Decides w (codes "empty")).0 h.0) h.1
           | inr h ↦ elim (chosen (bytes_eq w (codes "text")) _ _ _ h.1) [
             | inl h ↦ is_word w keywords.Text k ((bytes_eq-Decides w (codes "text")).0 h.0) h.1
-            | inr h ↦ absurd cc
+            | inr h ↦ elim (chosen (bytes_eq w (codes "notAllowed")) _ _ _ h.1) [
+              | inl h ↦ is_word w keywords.NotAllowed k ((bytes_eq-Decides w (codes "notAllowed")).0 h.0) h.1
+              | inr h ↦ absurd cc
+            ]
           ]
         ]
       ]
@@ -172,6 +176,7 @@ unfolding word_with
 word_sound n pattern w None ts x sound is e = absurd cc
 word_sound n pattern w (Some keywords.Empty) ts x sound is e = made_word n w (codes "empty") ts written.empty x (empty refl) (keyword_is w keywords.Empty is) (some_is (written.empty, ts) x e)
 word_sound n pattern w (Some keywords.Text) ts x sound is e = made_word n w (codes "text") ts written.text x (text refl) (keyword_is w keywords.Text is) (some_is (written.text, ts) x e)
+word_sound n pattern w (Some keywords.NotAllowed) ts x sound is e = made_word n w (codes "notAllowed") ts written.not_allowed x (not_allowed refl) (keyword_is w keywords.NotAllowed is) (some_is (written.not_allowed, ts) x e)
 word_sound n pattern w (Some keywords.Element) ts x sound is e = holder_read n (codes "element") w written.element (λ ts a t name p parts. element name p parts) (keyword_is w keywords.Element is) pattern sound ts x e
 word_sound n pattern w (Some keywords.Attribute) ts x sound is e = holder_read n (codes "attribute") w written.attribute (λ ts a t name p parts. attribute name p parts) (keyword_is w keywords.Attribute is) pattern sound ts x e
 

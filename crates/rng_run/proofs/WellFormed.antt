@@ -1,7 +1,7 @@
 -- A document's tree is well formed.
 use Rattle.std.proofs.Common.{◌≡◌, ◌≢◌, ℕ, List, [], ◌∷◌, sym, subst}
 use Rattle.rng_model.specs.Names.{Name}
-use Rattle.rng_model.specs.Document.{Attribute, Item, a_text, an_element, Items, no_items, item_and, list_of}
+use Rattle.rng_model.specs.Document.{Attribute, Item, an_element, Items, no_items, item_and, list_of}
 use Rattle.rng_model.specs.Lines.{Shape}
 use Rattle.rng_model.specs.Pyx.{IsDocument, IsElement, is_element, IsContent, last_text, text_and_element, text_before}
 use Rattle.rng_deriv.specs.WellFormed.{IsWellFormed, AreWellFormed, Separate, nothing, string, element, string_element}

@@ -1,8 +1,8 @@
 -- What a run answers, and what it leaves behind.
 use Rattle.std.specs.Prelude.{◌≡◌, ℕ, List, take, Option}
 use Rattle.std.specs.Io.KnownBytes.{Appends, Consumes, IsAtEnd, Keeps}
-use Rattle.rng_model.specs.Table.{Grammar, IsInSimpleSyntax}
-use Rattle.rng_model.specs.Written.{Pattern}
+use Rattle.rng_model.specs.Texts.{TextTests, texts_of}
+use Rattle.rng_model.specs.Written.{Pattern, IsValidWritten}
 use Rattle.rng_run.specs.Answer.{Answer, refused, judged, line_of, status_of}
 use Rattle.rng_run.specs.SchemaFragment.{IsSchema}
 use Rattle.rng_run.specs.Verdict.{IsVerdict}
@@ -11,20 +11,18 @@ use Rattle.rng_run.specs.declared.answer.Verdict.{Verdict}
 use Rattle.rng_run.specs.declared.running.RunFault.{RunFault}
 use Rattle.rng_run.specs.declared.running.RunFault.TheVariants.{Memory, Read, Write}
 
--- The verdict is that of the definition, for the bytes that the reader had left, all of which were read, by some grammar in the
--- simple syntax.
-pub record IsJudged (verdict : Verdict) (input_old input_new : Option (List ℕ)) : Type 0 where
+-- The verdict is that of the definition, for the bytes that the reader had left, all of which were read, by this pattern as
+-- it is written, whatever is known of texts.
+pub record IsJudged (p : Pattern) (verdict : Verdict) (input_old input_new : Option (List ℕ)) : Type 0 where
   pub document : List ℕ
   pub read : Consumes input_old input_new document
   pub end : IsAtEnd input_new
-  pub grammar : Grammar
-  pub simple : IsInSimpleSyntax grammar
-  pub verdict_is : IsVerdict document verdict
+  pub verdict_is : (tests : TextTests) → IsVerdict (IsValidWritten (texts_of tests) p) document verdict
 
--- The file is refused, by clause 0, exactly if it is no schema; else the document is judged.
+-- The file is refused, by clause 0, exactly if it is no schema; else the document is judged by the pattern that it spells.
 abbrev pub IsAnswer : List ℕ → Option (List ℕ) → Option (List ℕ) → Answer → Type 0
 IsAnswer file input_old input_new (refused clause) = (clause ≡ 0) × ((p : Pattern) → IsSchema file p → ⊥)
-IsAnswer file input_old input_new (judged verdict) = ((p : Pattern) × IsSchema file p) × IsJudged verdict input_old input_new
+IsAnswer file input_old input_new (judged verdict) = (p : Pattern) × IsSchema file p × IsJudged p verdict input_old input_new
 
 -- The line of the answer is all that was written, and the status is that of the line.
 pub record WritesLine (answers : Answer → Type 0) (status : Status) (old new : Option (List ℕ)) : Type 0 where

@@ -25,10 +25,12 @@ mutual
     last : {s : Sign} {ts : List Lexeme} {a : List Lexeme} {t : Pattern} → IsPrimary a t → ts ≡ Mark s ∷ a → AreMore s ts (t ∷ [])
     more : {s : Sign} {ts : List Lexeme} {a b : List Lexeme} {t : Pattern} {us : List Pattern} → IsPrimary a t → AreMore s b us → ts ≡ Mark s ∷ (a ++ b) → AreMore s ts (t ∷ us)
 
-  -- primary = "element" word "{" pattern "}" | "attribute" word "{" pattern "}" | "empty" | "text" | "(" pattern ")"
+  -- primary = "element" word "{" pattern "}" | "attribute" word "{" pattern "}" | "empty" | "text" | "notAllowed"
+  --         | "(" pattern ")"
   pub data IsPrimary : List Lexeme → Pattern → Type 0 where
     element : {ts : List Lexeme} {a : List Lexeme} {t : Pattern} (name : List ℕ) → IsPattern a t → ts ≡ Word (codes "element") ∷ Word name ∷ Mark LeftBrace ∷ (a ++ Mark RightBrace ∷ []) → IsPrimary ts (written.element (unprefixed name) t)
     attribute : {ts : List Lexeme} {a : List Lexeme} {t : Pattern} (name : List ℕ) → IsPattern a t → ts ≡ Word (codes "attribute") ∷ Word name ∷ Mark LeftBrace ∷ (a ++ Mark RightBrace ∷ []) → IsPrimary ts (written.attribute (unprefixed name) t)
     empty : {ts : List Lexeme} → ts ≡ Word (codes "empty") ∷ [] → IsPrimary ts written.empty
     text : {ts : List Lexeme} → ts ≡ Word (codes "text") ∷ [] → IsPrimary ts written.text
+    not_allowed : {ts : List Lexeme} → ts ≡ Word (codes "notAllowed") ∷ [] → IsPrimary ts written.not_allowed
     in_parens : {ts : List Lexeme} {a : List Lexeme} {t : Pattern} → IsPattern a t → ts ≡ Mark LeftParen ∷ (a ++ Mark RightParen ∷ []) → IsPrimary ts t

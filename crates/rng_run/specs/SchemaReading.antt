@@ -43,7 +43,7 @@ same_sign _ _ = false
 
 -- the keyword that a word is
 unfoldable pub keyword_of : List ℕ → Option Keyword
-keyword_of w = if bytes_eq w (codes "element") then Some keywords.Element else (if bytes_eq w (codes "attribute") then Some keywords.Attribute else (if bytes_eq w (codes "empty") then Some keywords.Empty else (if bytes_eq w (codes "text") then Some keywords.Text else None)))
+keyword_of w = if bytes_eq w (codes "element") then Some keywords.Element else (if bytes_eq w (codes "attribute") then Some keywords.Attribute else (if bytes_eq w (codes "empty") then Some keywords.Empty else (if bytes_eq w (codes "text") then Some keywords.Text else (if bytes_eq w (codes "notAllowed") then Some keywords.NotAllowed else None))))
 
 -- the word in front, as a name
 unfoldable pub name_at : List Lexeme → Read NameClass
@@ -71,6 +71,7 @@ unfoldable pub word_with : (List Lexeme → Read Pattern) → Option Keyword →
 word_with pattern None ts = None
 word_with pattern (Some keywords.Empty) ts = Some (written.empty, ts)
 word_with pattern (Some keywords.Text) ts = Some (written.text, ts)
+word_with pattern (Some keywords.NotAllowed) ts = Some (written.not_allowed, ts)
 word_with pattern (Some keywords.Element) ts = do
   x ← named_with pattern ts
   Some (written.element x.0.0 x.0.1, x.1)

@@ -6,7 +6,7 @@ ghost use Rattle.rng_run.specs.AnswerView.{answer_of};
 
 use std::alloc::{AllocError, Global};
 
-/// What a document is by a grammar.
+/// What a document is by a schema.
 #[derive(Clone, Copy, Debug, PartialEq, Eq)]
 pub enum Verdict {
     Valid,

@@ -70,6 +70,7 @@ fn matches(
         return Ok(false);
     };
     match pattern {
+        Pattern::NotAllowed => Ok(false),
         Pattern::Empty => Ok(chosen.bits == 0 && items.is_empty()),
         Pattern::Text => Ok(chosen.bits == 0 && are_texts(items)),
         Pattern::Element(class, body) => match unpadded(items) {
@@ -188,7 +189,7 @@ const LINES: [&str; 8] = [
     "(a\n", "(b\n", "Ax 1\n", "Ay \n", "-t\n", "- \n", ")a\n", ")b\n",
 ];
 
-const SCHEMAS: [&str; 12] = [
+const SCHEMAS: [&str; 15] = [
     "element a { empty }",
     "element a { text }",
     "element a { element b { empty } }",
@@ -201,6 +202,9 @@ const SCHEMAS: [&str; 12] = [
     "element a { (attribute x { text } | attribute y { text }), (attribute y { text } | empty) }",
     "element a { (empty | element b { empty }), text, (element b { text } | empty) }",
     "element b { element a { text | empty } | (text, element a { attribute y { text } | empty }) }",
+    "element a { (element b { empty }, notAllowed) | text }",
+    "element a { element b { notAllowed } | (text, attribute x { notAllowed }) | (empty, text) }",
+    "element a { (notAllowed | attribute x { text }), (element b { text | notAllowed } | empty) }",
 ];
 
 /// Numbers of lines, and how many documents of that many lines there are.

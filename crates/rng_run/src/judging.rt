@@ -1,6 +1,8 @@
 // Judging a document by a grammar.
 ghost use Rattle.std.specs.Prelude.{◌≡◌, ◌==◌, count_by, IfOk};
-ghost use Rattle.rng_run.specs.Verdict.{IsVerdict};
+ghost use Rattle.rng_model.specs.Table.{grammar_of, IsValidBy};
+ghost use Rattle.rng_model.specs.Texts.{TextTests, texts_of};
+ghost use Rattle.rng_run.specs.Verdict.{IsOnlyVerdict, IsVerdict};
 
 use crate::answer::Verdict;
 use crate::document::{DocumentFault, read_document};
@@ -14,12 +16,24 @@ use std::alloc::Global;
 /// the format, 7 for an attribute in no tag, 8 for an end tag that does not fit, 9 for a text outside the root or a
 /// start tag after it, 12 for two attributes of one name (at the tag's last line), 13 for an input that ends without a
 /// root or with an element open. `Invalid` has the number of lines. The only fault is want of memory.
-pub fn judge(
+pub(crate) fn judge(
     alloc: Global,
     grammar: &SimpleGrammar,
     document: &[u8],
 ) -> Result<Verdict, OutOfMemory>
-    ensures { IfOk result (IsVerdict document.now) }
+    ensures verdict { IfOk result (λ v. (tests : TextTests) → IsVerdict (IsValidBy (grammar_of grammar.now) (texts_of tests)) document.now v) }
+    // Each verdict that holds is the one that is answered.
+    ensures only { IfOk result (λ v. (tests : TextTests) → IsOnlyVerdict (IsValidBy (grammar_of grammar.now) (texts_of tests)) document.now v) }
+{
+    verdict_on(alloc, grammar, document)
+}
+
+fn verdict_on(
+    alloc: Global,
+    grammar: &SimpleGrammar,
+    document: &[u8],
+) -> Result<Verdict, OutOfMemory>
+    ensures { IfOk result (λ v. (tests : TextTests) → IsVerdict (IsValidBy (grammar_of grammar.now) (texts_of tests)) document.now v) }
 {
     match read_document(alloc, document) {
         Ok(root) => {

@@ -36,10 +36,10 @@ pub enum RunFault {
 /// Judges the document that `input` has left by the schema in the first of the files, and writes one line.
 ///
 /// The line is `refused S0` where the file is outside the fragment of schemas that is served (then nothing of the input
-/// is read), and else `valid`, `invalid line N` or `malformed Pk line N`; a line feed ends it. The other files are
-/// ignored. `RunFault::Read` and `RunFault::Write` come only where that device counted a failed call; after `Read` and
-/// `Memory` nothing was written, after `Write` a beginning of the line was. The file and the document are read in one
-/// pass each, and kept whole.
+/// is read), and else `valid`, `invalid line N` or `malformed Pk line N`, as the definition says for the document and
+/// the pattern that the file spells; a line feed ends it. The other files are ignored. `RunFault::Read` and
+/// `RunFault::Write` come only where that device counted a failed call; after `Read` and `Memory` nothing was written,
+/// after `Write` a beginning of the line was. The file and the document are read in one pass each, and kept whole.
 pub fn run<R: Read, W: Write>(
     alloc: Global,
     command: Command,

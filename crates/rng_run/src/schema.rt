@@ -1,8 +1,8 @@
 //! The reader of schemas: from a file's bytes to a pattern.
 //!
-//! The fragment of the Compact Syntax that is read is `element`, `attribute`, `empty`, `text`, parentheses and the
-//! connectors `,` and `|`, in printable ASCII with tabs and line feeds. A file is cut into tokens, each the longest
-//! that begins at its place, and the tokens are read by the grammar. Anything else is outside.
+//! The fragment of the Compact Syntax that is read is `element`, `attribute`, `empty`, `text`, `notAllowed`, parentheses
+//! and the connectors `,` and `|`, in printable ASCII with tabs and line feeds. A file is cut into tokens, each the
+//! longest that begins at its place, and the tokens are read by the grammar. Anything else is outside.
 
 ghost use Rattle.std.specs.Prelude.{◌≡◌, IfOk, IfErr, Some};
 ghost use Rattle.rng_model.specs.Written.{Pattern as Tree};

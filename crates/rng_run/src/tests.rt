@@ -121,8 +121,10 @@ const MIXED: &str = "element a { attribute x { text }, text }";
 
 const ORDERED: &str = "element a { element b {empty}, (element c {text} | empty) }";
 
+const NEVER_B: &str = "element a { (element b { empty }, notAllowed) | text }";
+
 /// A schema, a document, and the line that is to be written.
-const CASES: [(&str, &str, &str); 21] = [
+const CASES: [(&str, &str, &str); 28] = [
     (SMALL, "(a\n)a\n", "valid\n"),
     (SMALL, "(a\n-   \n)a\n", "valid\n"),
     (SMALL, "(a\n)b\n", "malformed P8 line 2\n"),
@@ -147,6 +149,25 @@ const CASES: [(&str, &str, &str); 21] = [
         "element element { attribute text { text } }",
         "(element\nAtext 1\n)element\n",
         "valid\n",
+    ),
+    ("notAllowed", "(a\n)a\n", "invalid line 2\n"),
+    ("notAllowed", "(a\n", "malformed P13 line 1\n"),
+    (
+        "element a { text, notAllowed }",
+        "(a\n-hi\n)a\n",
+        "invalid line 3\n",
+    ),
+    (NEVER_B, "(a\n-hi\n)a\n", "valid\n"),
+    (NEVER_B, "(a\n(b\n)b\n)a\n", "invalid line 4\n"),
+    (
+        "element a { element b { notAllowed } | empty }",
+        "(a\n)a\n",
+        "valid\n",
+    ),
+    (
+        "element a { element b { notAllowed } | empty }",
+        "(a\n(b\n)b\n)a\n",
+        "invalid line 4\n",
     ),
     ("element a { \"x\" }", "(a\n)a\n", "refused S0\n"),
     (
@@ -268,7 +289,7 @@ fn devices_fail_at_each_call(rt: HostRuntime) -> Result<(), Fail> {
 #[test]
 fn a_refused_growth_is_told(rt: HostRuntime) -> Result<(), Fail> {
     let alloc = rt.alloc();
-    let Ok(got) = calm(alloc, MIXED.as_bytes(), b"(a\nAx 1\n-hi\n)a\n", 4096) else {
+    let Ok(got) = calm(alloc, SMALL.as_bytes(), b"(a\n)a\n", 4096) else {
         return Ok(());
     };
     match got.answer {

@@ -1,25 +1,26 @@
 -- Tables that grow: what stays true of what was there before.
-use Rattle.std.proofs.Common.{inl, inr, get_or, Some, length-append, ◌≡◌, ℕ, ◌+◌, ◌<◌, ◌≤◌, List, [], ◌∷◌, ◌++◌, length, take, All, slice_index_or, sym, ap, subst, refl, arith, ◌∙◌}
-use Rattle.std.proofs.lemmas.List.{length-take, take_min, get_or_push, get_or_append_left}
+use Rattle.std.proofs.Common.{inl, inr, get_or, Some, length-append, ◌≡◌, ℕ, ◌+◌, ◌<◌, ◌≤◌, List, [], ◌∷◌, ◌++◌, length, take, All, slice_index_or, sym, ap, ap₂, subst, refl, arith, ◌∙◌}
+use Rattle.std.proofs.lemmas.List.{length-take, take_min, take_all, get_or_push, get_or_append_left}
 use Rattle.std.proofs.lemmas.Bool.{cases_lt}
 use Rattle.std.proofs.lemmas.Option.{slice_get_within, get_or_from_slice_get, slice_get-get_or}
-use Rattle.std.proofs.Math.Seq.{take-take}
+use Rattle.std.proofs.Math.Seq.{take-take, take-append_seam}
 use Rattle.std.proofs.lemmas.List.Elements.{All-map}
 use Rattle.rng_model.specs.Table.{tree_at, Falls, AreChildrenBelow, Table, IsInSimpleSyntax, grammar_of}
-use Rattle.rng_model.specs.Tree.{IsSimpleBody, IsFreeOfNotAllowed, s_empty, s_joined, choice}
+use Rattle.rng_model.specs.Tree.{Simple, IsSimpleBody, IsFreeOfNotAllowed, s_empty, s_joined, choice}
 use Rattle.rng_model.specs.View.{class_of}
 use Rattle.rng_model.specs.declared.simple.PatternId.{PatternId}
-use Rattle.rng_model.specs.declared.simple.Simple.{Simple}
+use Rattle.rng_model.specs.declared.simple.Simple as declared
 use Rattle.rng_model.specs.declared.simple.Simple.TheVariants as simple
 use Rattle.rng_model.proofs.TableLemmas.{tree_stays, tree_stays_after_push}
 use Rattle.rng_simple.specs.Draft.{Tables, IsDraft, Extends, cut}
-use Rattle.rng_simple.specs.Part.{IsPart}
+use Rattle.rng_simple.specs.Part.{IsPart, Keeps, part_tree}
+use Rattle.rng_simple.specs.SimpleOf.{nothing, sort_of}
 use Rattle.rng_simple.specs.declared.simplification.Part.{Part}
 use Rattle.rng_simple.specs.declared.simplification.Part.TheVariants as parts
 use Rattle.rng_simple.specs.declared.draft.Mark.{Mark}
 
 -- a pattern whose children stand before it leaves it so
-pub falls_after_push : (ps qs : List Simple) (p : Simple) → Falls ps → qs ≡ ps ++ p ∷ [] → AreChildrenBelow (length ps) p → Falls qs
+pub falls_after_push : (ps qs : List declared.Simple) (p : declared.Simple) → Falls ps → qs ≡ ps ++ p ∷ [] → AreChildrenBelow (length ps) p → Falls qs
 falls_after_push ps qs p falls more below i q found =
     let inside = slice_get_within qs i q found in
     let long : length qs ≡ length ps + 1 = omega (arith, ap length more, length-append ps (p ∷ [])) in
@@ -35,13 +36,13 @@ falls_after_push ps qs p falls more below i q found =
     ]
 
 -- a pattern more leaves each body in the simple syntax
-pub bodies_stay : (d : Tables) (qs : List Simple) (p : Simple) → IsDraft d → qs ≡ d.patterns ++ p ∷ [] → All (λ e. IsSimpleBody (tree_at qs e.1)) d.elements
+pub bodies_stay : (d : Tables) (qs : List declared.Simple) (p : declared.Simple) → IsDraft d → qs ≡ d.patterns ++ p ∷ [] → All (λ e. IsSimpleBody (tree_at qs e.1)) d.elements
 bodies_stay d qs p draft more k e inside =
     let body = slice_index_or d.elements k e in
     subst IsSimpleBody (sym (tree_stays_after_push d.patterns qs p body.1 more (draft.bodies k e inside))) (draft.simple k e inside)
 
 -- a list that begins with another is at least as long
-front_is_shorter : {X : Type 0} (xs ys : List X) → take (length xs) ys ≡ xs → length xs ≤ length ys
+pub front_is_shorter : {X : Type 0} (xs ys : List X) → take (length xs) ys ≡ xs → length xs ≤ length ys
 front_is_shorter xs ys front = omega (arith, length-take (length xs) ys, ap length front)
 
 -- the front of a front
@@ -52,6 +53,10 @@ front_of_front xs ys zs f g =
 front_itself : {X : Type 0} (n : ℕ) (xs : List X) → take (length (take n xs)) xs ≡ take n xs
 front_itself n xs = rw (length-take n xs) (take_min n xs)
 
+-- tables begin with themselves
+pub extends_itself : (d : Tables) → Extends d d
+extends_itself d = record { patterns = take_all _ d.patterns (omega arith); elements = take_all _ d.elements (omega arith) }
+
 -- tables that begin with tables that begin with others
 pub extends_twice : (a b c : Tables) → Extends a b → Extends b c → Extends a c
 extends_twice a b c e f = record {
@@ -59,12 +64,32 @@ extends_twice a b c e f = record {
   elements = front_of_front a.elements b.elements c.elements e.elements f.elements;
 }
 
+-- tables with one more pattern begin with the old ones, and list the same elements
+pub keeps_after_push : (d e : Tables) (p : declared.Simple) → e ≡ record d { patterns = d.patterns ++ p ∷ [] } → Keeps d e
+keeps_after_push d e p is = subst (Keeps d) (sym is) (record {
+  extends = record { patterns = take-append_seam d.patterns (p ∷ []); elements = take_all _ d.elements (omega arith) };
+  elements = refl;
+})
+
+-- a part that is not notAllowed is some tree
+pub some_part : (ps : List declared.Simple) (p : Part) → IsPart ps p → (p ≡ parts.NotAllowed → ⊥) → sort_of (part_tree ps p) ≡ nothing → ⊥
+some_part ps parts.NotAllowed is not e = not refl
+some_part ps parts.Empty is not e = cc
+some_part ps (parts.Pattern id) is not e = let p = is.2 in cc
+
 -- a part stays one as tables grow
 pub part_stays : (old new : Tables) (p : Part) → Extends old new → IsPart old.patterns p → IsPart new.patterns p
 part_stays old new parts.NotAllowed e is = tt
 part_stays old new parts.Empty e is = tt
 part_stays old new (parts.Pattern id) e is =
-    (omega (arith, is.0, front_is_shorter old.patterns new.patterns e.patterns), subst IsFreeOfNotAllowed (sym (tree_stays old.patterns new.patterns id e.patterns is.0)) is.1)
+    let tree = tree_stays old.patterns new.patterns id e.patterns is.0 in
+    (omega (arith, is.0, front_is_shorter old.patterns new.patterns e.patterns), subst IsFreeOfNotAllowed (sym tree) is.1, ap (λ (s : Simple ℕ). sort_of s) tree ∙ is.2)
+
+-- and its tree stays
+pub part_tree_stays : (old new : Tables) (p : Part) → Extends old new → IsPart old.patterns p → part_tree new.patterns p ≡ part_tree old.patterns p
+part_tree_stays old new parts.NotAllowed e is = refl
+part_tree_stays old new parts.Empty e is = refl
+part_tree_stays old new (parts.Pattern id) e is = tree_stays old.patterns new.patterns id e.patterns is.0
 
 -- tables that have grown, cut where they had ended
 pub cut_again : (mark : Mark) (old new : Tables) → mark.patterns ≡ length old.patterns → mark.elements ≡ length old.elements → Extends old new → cut mark new ≡ old
@@ -79,13 +104,16 @@ cut_extends mark old new more = record {
   front_of_cut : {X : Type 0} (n : ℕ) (xs ys : List X) → take (length xs) ys ≡ xs → take (length (take n xs)) ys ≡ take n xs
   front_of_cut n xs ys front = front_of_front (take n xs) xs ys (front_itself n xs) front
 
--- a choice of empty and a pattern that is free of notAllowed is so too
-pub empty_or_is_free : (ps qs rs : List Simple) (empty other joined : PatternId) → qs ≡ ps ++ simple.Empty ∷ [] →
-    other.0 < length ps → IsFreeOfNotAllowed (tree_at ps other) → tree_at qs empty ≡ s_empty →
-    tree_at rs joined ≡ s_joined choice (tree_at qs empty) (tree_at qs other) → IsFreeOfNotAllowed (tree_at rs joined)
-empty_or_is_free ps qs rs empty other joined more inside free is_empty is_joined =
-    subst IsFreeOfNotAllowed (sym is_joined)
-    (subst IsFreeOfNotAllowed (sym is_empty) tt, subst IsFreeOfNotAllowed (sym (tree_stays_after_push ps qs simple.Empty other more inside)) free)
+-- the tree of a choice of empty and a pattern of the table
+pub empty_or_tree : (ps qs rs : List declared.Simple) (empty other joined : PatternId) → qs ≡ ps ++ simple.Empty ∷ [] →
+    other.0 < length ps → tree_at qs empty ≡ s_empty → tree_at rs joined ≡ s_joined choice (tree_at qs empty) (tree_at qs other) →
+    tree_at rs joined ≡ s_joined choice s_empty (tree_at ps other)
+empty_or_tree ps qs rs empty other joined more inside is_empty is_joined =
+    is_joined ∙ ap₂ (λ s u. s_joined choice s u) is_empty (tree_stays_after_push ps qs simple.Empty other more inside)
+
+-- it is a part
+pub empty_or_part : (rs : List declared.Simple) (joined : PatternId) (s : Simple ℕ) → tree_at rs joined ≡ s_joined choice s_empty s → joined.0 < length rs → IsFreeOfNotAllowed s → IsPart rs (parts.Pattern joined)
+empty_or_part rs joined s is there free = (there, subst IsFreeOfNotAllowed (sym is) (tt, free), ap (λ (z : Simple ℕ). sort_of z) is)
 
 -- a table whose start and bodies are in the simple syntax
 pub in_simple_syntax : (t : Table) → IsSimpleBody (tree_at t.patterns t.start) → All (λ e. IsSimpleBody (tree_at t.patterns e.1)) t.elements → IsInSimpleSyntax (grammar_of t)

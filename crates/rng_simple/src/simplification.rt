@@ -1,11 +1,20 @@
 // From a pattern to its simple form, from the leaves up.
-ghost use Rattle.std.specs.Prelude.{◌≡◌, ◌<◌, length, IfOk, OnOk};
+ghost use Rattle.std.specs.Prelude.{◌≡◌, ◌<◌, length, map, IfOk, OnOk};
 ghost use Rattle.rng_model.specs.Names as names;
+ghost use Rattle.rng_model.specs.SimpleForm.{
+  AreSameDocuments,
+  IsOnlySimpleGrammarOf,
+  IsSimpleGrammarOf,
+};
 ghost use Rattle.rng_model.specs.Table.{IsInSimpleSyntax, grammar_of, tree_at};
-ghost use Rattle.rng_model.specs.Tree.{IsSimpleBody};
-ghost use Rattle.rng_model.specs.View.{class_of};
+ghost use Rattle.rng_model.specs.Tree.{IsSimpleBody, choice, group, s_empty, s_joined};
+ghost use Rattle.rng_model.specs.View.{class_of, pattern_of};
+ghost use Rattle.rng_model.specs.Written.{members};
 ghost use Rattle.rng_simple.specs.Draft.{Extends, IsDraft, cut};
-ghost use Rattle.rng_simple.specs.Part.{IsPart, part_tree};
+ghost use Rattle.rng_simple.specs.Made.{Makes};
+ghost use Rattle.rng_simple.specs.Schema.{start_of};
+ghost use Rattle.rng_simple.specs.Part.{IsCutOrKept, IsPart, Keeps, part_tree};
+ghost use Rattle.rng_simple.specs.SimpleOf.{join};
 
 use crate::draft::{Draft, Mark};
 use crate::schema::Schema;
@@ -21,12 +30,17 @@ pub enum Part {
     Pattern(PatternId),
 }
 
-/// The simple form of a schema, by the rules of sections 4.12, 4.20 and 4.21 of the RELAX NG Specification.
+/// The simple form of a schema, by the rules of sections 4.12 to 4.15, 4.20 and 4.21 of the RELAX NG Specification.
 ///
-/// The answer is in the simple syntax of section 5: notAllowed stands nowhere but as a whole start or body. The only
-/// fault is want of memory. Takes time and memory in proportion to the schema, and recurses as deep as it nests.
+/// The answer is in the simple syntax of section 5, it is the only simple form of the schema, up to the numbers of its
+/// elements, and a document is valid by it exactly if it is valid by the schema as written. Elements that the start
+/// does not reach are not in it. The only fault is want of memory. Takes time and memory in proportion to the schema,
+/// and recurses as deep as it nests.
 pub fn simplify(alloc: Global, schema: &Schema) -> Result<SimpleGrammar, SchemaFault>
-    ensures { IfOk result (λ g. IsInSimpleSyntax (grammar_of g)) }
+    ensures syntax { IfOk result (λ g. IsInSimpleSyntax (grammar_of g)) }
+    ensures simple_form { IfOk result (λ g. IsSimpleGrammarOf (start_of schema.now) (grammar_of g)) }
+    ensures only { IfOk result (λ g. IsOnlySimpleGrammarOf (start_of schema.now) (grammar_of g)) }
+    ensures documents { IfOk result (λ g. AreSameDocuments (start_of schema.now) (grammar_of g)) }
 {
     let mut draft = Draft::new(alloc);
     let start = part_of(alloc, &mut draft, schema.pattern())?;
@@ -39,8 +53,10 @@ pub fn simplify(alloc: Global, schema: &Schema) -> Result<SimpleGrammar, SchemaF
 fn part_of(alloc: Global, draft: &mut Draft, pattern: &Pattern) -> Result<Part, SchemaFault>
     ensures extends { OnOk result (Extends draft.old draft.new) }
     ensures part { IfOk result (IsPart draft.new.patterns) }
+    ensures makes { IfOk result (λ part. Makes draft.old draft.new (part_tree draft.new.patterns part) (pattern_of pattern.now)) }
 {
     match pattern {
+        Pattern::NotAllowed => Ok(Part::NotAllowed),
         Pattern::Empty => Ok(Part::Empty),
         Pattern::Text => Ok(Part::Pattern(draft.push(Simple::Text)?)),
         Pattern::Element(class, body) => {
@@ -68,6 +84,7 @@ fn part_of(alloc: Global, draft: &mut Draft, pattern: &Pattern) -> Result<Part, 
 fn group_of(alloc: Global, draft: &mut Draft, all: &[Pattern]) -> Result<Part, SchemaFault>
     ensures extends { OnOk result (Extends draft.old draft.new) }
     ensures part { IfOk result (IsPart draft.new.patterns) }
+    ensures makes { IfOk result (λ part. Makes draft.old draft.new (part_tree draft.new.patterns part) (members group (map pattern_of all.now))) }
 {
     let mark = draft.mark();
     let mut joined = Part::Empty;
@@ -83,6 +100,7 @@ fn group_of(alloc: Global, draft: &mut Draft, all: &[Pattern]) -> Result<Part, S
 fn choice_of(alloc: Global, draft: &mut Draft, all: &[Pattern]) -> Result<Part, SchemaFault>
     ensures extends { OnOk result (Extends draft.old draft.new) }
     ensures part { IfOk result (IsPart draft.new.patterns) }
+    ensures makes { IfOk result (λ part. Makes draft.old draft.new (part_tree draft.new.patterns part) (members choice (map pattern_of all.now))) }
 {
     let mut joined = Part::NotAllowed;
     for member in all {
@@ -99,6 +117,9 @@ fn group(draft: &mut Draft, mark: Mark, a: Part, b: Part) -> Result<Part, Schema
     requires second { IsPart draft.old.patterns b }
     ensures extends { OnOk result (Extends (cut mark draft.old) draft.new) }
     ensures part { IfOk result (IsPart draft.new.patterns) }
+    ensures kept { IfOk result (IsCutOrKept mark draft.old draft.new) }
+    ensures tree { IfOk result (λ part. part_tree draft.new.patterns part
+        ≡ join group (part_tree draft.old.patterns a) (part_tree draft.old.patterns b)) }
 {
     match (a, b) {
         (Part::NotAllowed, _) | (_, Part::NotAllowed) => {
@@ -116,8 +137,10 @@ fn group(draft: &mut Draft, mark: Mark, a: Part, b: Part) -> Result<Part, Schema
 fn choice(draft: &mut Draft, a: Part, b: Part) -> Result<Part, SchemaFault>
     requires first { IsPart draft.old.patterns a }
     requires second { IsPart draft.old.patterns b }
-    ensures extends { OnOk result (Extends draft.old draft.new) }
+    ensures kept { OnOk result (Keeps draft.old draft.new) }
     ensures part { IfOk result (IsPart draft.new.patterns) }
+    ensures tree { IfOk result (λ part. part_tree draft.new.patterns part
+        ≡ join choice (part_tree draft.old.patterns a) (part_tree draft.old.patterns b)) }
 {
     match (a, b) {
         (Part::NotAllowed, other) | (other, Part::NotAllowed) => Ok(other),
@@ -133,8 +156,9 @@ fn choice(draft: &mut Draft, a: Part, b: Part) -> Result<Part, SchemaFault>
 /// A choice of empty and a pattern of the table.
 fn empty_or(draft: &mut Draft, other: PatternId) -> Result<Part, SchemaFault>
     requires { IsPart draft.old.patterns (Part.Pattern other) }
-    ensures extends { OnOk result (Extends draft.old draft.new) }
+    ensures kept { OnOk result (Keeps draft.old draft.new) }
     ensures part { IfOk result (IsPart draft.new.patterns) }
+    ensures tree { IfOk result (λ part. part_tree draft.new.patterns part ≡ s_joined choice s_empty (tree_at draft.old.patterns other)) }
 {
     let empty = draft.push(Simple::Empty)?;
     let choice = draft.push(Simple::Choice(empty, other))?;
@@ -144,7 +168,7 @@ fn empty_or(draft: &mut Draft, other: PatternId) -> Result<Part, SchemaFault>
 /// The place of a part in the table, where it may stand as a whole start or body.
 fn placed(draft: &mut Draft, part: Part) -> Result<PatternId, SchemaFault>
     requires { IsPart draft.old.patterns part }
-    ensures extends { OnOk result (Extends draft.old draft.new) }
+    ensures kept { OnOk result (Keeps draft.old draft.new) }
     ensures there { IfOk result (λ id. id.0 < length draft.new.patterns) }
     ensures tree { IfOk result (λ id. tree_at draft.new.patterns id ≡ part_tree draft.old.patterns part) }
     ensures simple { IfOk result (λ id. IsSimpleBody (tree_at draft.new.patterns id)) }

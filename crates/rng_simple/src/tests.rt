@@ -1,5 +1,7 @@
 // Simple forms of small schemas, written out.
-use crate::{Schema, simplify};
+ghost use Rattle.std.specs.Prelude.{true, []};
+
+use crate::{Schema, TextFacts, has_same_documents, simplify};
 use rng_model::{
     ElementId, Name, NameClass, Pattern, PatternId, SchemaFault, Simple, SimpleGrammar,
 };
@@ -19,11 +21,6 @@ fn element(alloc: Global, local: &str, body: Pattern) -> Result<Pattern, AllocEr
 
 fn attribute(alloc: Global, local: &str, body: Pattern) -> Result<Pattern, AllocError> {
     Ok(Pattern::Attribute(class(alloc, local)?, Box::new(alloc, body)?))
-}
-
-/// A choice of no members, which matches nothing.
-fn not_allowed(alloc: Global) -> Pattern {
-    Pattern::Choice(Vec::new(alloc))
 }
 
 fn group(alloc: Global, first: Pattern, second: Pattern) -> Result<Pattern, AllocError> {
@@ -109,23 +106,23 @@ fn empties_go_and_choices_change_sides(rt: HostRuntime) -> Result<(), Fail> {
 #[test]
 fn not_allowed_takes_a_group_with_it(rt: HostRuntime) -> Result<(), Fail> {
     let alloc = rt.alloc();
-    let body = group(alloc, Pattern::Text, not_allowed(alloc))?;
+    let body = group(alloc, Pattern::Text, Pattern::NotAllowed)?;
     assert_eq!(rt;
         with_body(alloc, body)?.as_str(),
         "notAllowed; e0; a 0; start 1"
     );
-    let dead = group(alloc, Pattern::Text, not_allowed(alloc))?;
+    let dead = group(alloc, Pattern::Text, Pattern::NotAllowed)?;
     assert_eq!(rt;
         with_body(alloc, choice(alloc, dead, Pattern::Empty)?)?.as_str(),
         "empty; e0; a 0; start 1"
     );
-    let body = attribute(alloc, "x", not_allowed(alloc))?;
+    let body = attribute(alloc, "x", Pattern::NotAllowed)?;
     assert_eq!(rt;
         with_body(alloc, body)?.as_str(),
         "notAllowed; e0; a 0; start 1"
     );
     assert_eq!(rt;
-        simple(alloc, not_allowed(alloc))?.as_str(),
+        simple(alloc, Pattern::NotAllowed)?.as_str(),
         "notAllowed; start 0"
     );
     Ok(())
@@ -135,16 +132,30 @@ fn not_allowed_takes_a_group_with_it(rt: HostRuntime) -> Result<(), Fail> {
 fn an_element_that_is_not_reached_is_not_listed(rt: HostRuntime) -> Result<(), Fail> {
     let alloc = rt.alloc();
     let inner = element(alloc, "b", Pattern::Empty)?;
-    let dead = group(alloc, inner, not_allowed(alloc))?;
+    let dead = group(alloc, inner, Pattern::NotAllowed)?;
     assert_eq!(rt;
         with_body(alloc, choice(alloc, dead, Pattern::Text)?)?.as_str(),
         "text; e0; a 0; start 1"
     );
-    let inner = element(alloc, "b", not_allowed(alloc))?;
+    let inner = element(alloc, "b", Pattern::NotAllowed)?;
     assert_eq!(rt;
         with_body(alloc, inner)?.as_str(),
         "notAllowed; e0; e1; b 0; a 1; start 2"
     );
+    Ok(())
+}
+
+#[test]
+fn no_members_and_one(rt: HostRuntime) -> Result<(), Fail> {
+    let alloc = rt.alloc();
+    let none = Pattern::Choice(Vec::new(alloc));
+    assert_eq!(rt; simple(alloc, none)?.as_str(), "notAllowed; start 0");
+    let none = Pattern::Group(Vec::new(alloc));
+    assert_eq!(rt; simple(alloc, none)?.as_str(), "empty; start 0");
+    let one = Pattern::Choice(vec![in alloc; Pattern::Text]?);
+    assert_eq!(rt; simple(alloc, one)?.as_str(), "text; start 0");
+    let one = Pattern::Group(vec![in alloc; Pattern::Text]?);
+    assert_eq!(rt; simple(alloc, one)?.as_str(), "text; start 0");
     Ok(())
 }
 
@@ -172,5 +183,22 @@ fn a_long_choice_is_a_loop(rt: HostRuntime) -> Result<(), Fail> {
     }
     let grammar = simplify(alloc, &Schema::single(Pattern::Choice(members)))?;
     assert!(rt; grammar.start() == PatternId(399_998));
+    Ok(())
+}
+
+/// Texts of which nothing is known: all are blank.
+struct NoFacts;
+
+impl TextFacts for NoFacts {
+    ghost texts = { record { Allows = λ _ _. ⊥; Equals = λ _ _ _. ⊥; pieces = λ _. []; blank = λ _. true } };
+}
+
+#[test]
+fn the_law_holds_of_an_answer(rt: HostRuntime) -> Result<(), Fail> {
+    let alloc = rt.alloc();
+    let schema = Schema::single(element(alloc, "a", Pattern::Text)?);
+    let grammar = simplify(alloc, &schema)?;
+    has_same_documents::<NoFacts>(&schema, &grammar);
+    assert!(rt; grammar.start() == PatternId(1));
     Ok(())
 }

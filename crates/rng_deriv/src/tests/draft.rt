@@ -1,7 +1,11 @@
 // Grammars and documents for the tests.
+ghost use Rattle.std.specs.Prelude.{IfOk};
 ghost use Rattle.std.specs.Bool.{OnTrue};
 ghost use Rattle.rng_model.specs.Table.{AreChildrenBelow, IsLeafListed};
+ghost use Rattle.rng_model.specs.View.{item_of};
+ghost use Rattle.rng_deriv.specs.WellFormed.{IsWellFormed};
 
+use super::shape::is_well_formed;
 use rng_model::{Attr, Item, Name, NameClass, PatternId, Simple, SimpleGrammar};
 use std::alloc::{AllocError, Global};
 use std::marker::Model;
@@ -90,7 +94,17 @@ pub fn name(alloc: Global, local: &str) -> Result<Name, AllocError> {
 }
 
 /// The root of a document in lines that are parted by `/`.
-pub fn document(alloc: Global, lines: &str) -> Result<Item, Fail> {
+pub fn document(alloc: Global, lines: &str) -> Result<Item, Fail>
+    ensures { IfOk result (λ root. IsWellFormed (item_of root)) }
+{
+    let root = read(alloc, lines)?;
+    if !is_well_formed(&root) {
+        return Err(Fail::from("the document is not well formed"));
+    }
+    Ok(root)
+}
+
+fn read(alloc: Global, lines: &str) -> Result<Item, Fail> {
     let mut open: Vec<(Name, Vec<Attr>, Vec<Item>)> = Vec::new(alloc);
     for line in lines.split('/') {
         if let Some(local) = line.strip_prefix('(') {

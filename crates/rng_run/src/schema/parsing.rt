@@ -125,6 +125,7 @@ fn primary<'t, 'a>(
             }
             Some(Keyword::Empty) => Ok((Pattern::Empty, rest)),
             Some(Keyword::Text) => Ok((Pattern::Text, rest)),
+            Some(Keyword::NotAllowed) => Ok((Pattern::NotAllowed, rest)),
             None => Err(ReadFault::Outside),
         },
         [Token::Mark(Sign::LeftParen), rest @ ..] => {

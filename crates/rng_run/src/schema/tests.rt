@@ -42,6 +42,10 @@ fn reads_schemas(rt: HostRuntime) -> Result<(), Fail> {
         "element _a-1.b { (text), (empty) , text }",
         "element a { (text | empty), text }",
         "((empty))",
+        "notAllowed",
+        "element a { text, notAllowed }",
+        "element a { (element b { empty }, notAllowed) | text }",
+        "element notAllowed { attribute notAllowed { notAllowed } }",
     ] {
         assert!(rt; is_read(alloc, text)?, "{text}");
     }
@@ -70,6 +74,10 @@ fn refuses_others(rt: HostRuntime) -> Result<(), Fail> {
         "empty | text, text",
         "empty, text | text",
         "foo",
+        "notallowed",
+        "notAllowed, text | empty",
+        "notAllowed { empty }",
+        "notAllowed notAllowed",
         "element 1a { empty }",
         "element -a { empty }",
         "element a:b { empty }",
@@ -108,6 +116,19 @@ fn keeps_the_order(rt: HostRuntime) -> Result<(), Fail> {
     assert_eq!(rt; all.len(), 3);
     assert!(rt; matches!(all[0], Pattern::Empty));
     assert!(rt; matches!(all[1], Pattern::Choice(_)));
+    assert!(rt; matches!(all[2], Pattern::Text));
+    Ok(())
+}
+
+#[test]
+fn tells_not_allowed_from_the_others(rt: HostRuntime) -> Result<(), Fail> {
+    let pattern = read_schema(rt.alloc(), b"empty | notAllowed | text").map_err(|_| "not read")?;
+    let Pattern::Choice(all) = &pattern else {
+        return Err("no choice".into());
+    };
+    assert_eq!(rt; all.len(), 3);
+    assert!(rt; matches!(all[0], Pattern::Empty));
+    assert!(rt; matches!(all[1], Pattern::NotAllowed));
     assert!(rt; matches!(all[2], Pattern::Text));
     Ok(())
 }

@@ -29,6 +29,7 @@ pub enum Keyword {
     Attribute,
     Empty,
     Text,
+    NotAllowed,
 }
 
 /// The sign that this byte is.
@@ -56,6 +57,7 @@ pub fn find_keyword(word: &str) -> Option<Keyword>
         "attribute" => Some(Keyword::Attribute),
         "empty" => Some(Keyword::Empty),
         "text" => Some(Keyword::Text),
+        "notAllowed" => Some(Keyword::NotAllowed),
         _ => None,
     }
 }

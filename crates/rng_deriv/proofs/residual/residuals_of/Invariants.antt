@@ -1,5 +1,13 @@
-use Rattle.std.proofs.Common.{◌-◌, length}
+use Rattle.std.proofs.Common.{◌≡◌, ℕ, ◌-◌, ◌<◌, ◌≤◌, length}
+use Rattle.rng_model.specs.Table.{tree_at}
+use Rattle.rng_deriv.specs.Residual.{tree_of}
 use Rattle.rng_deriv.proofs.residual.residuals_of.Given as goal
 
-abbrev pub decreases-loop-pattern : goal.decreases-loop-pattern
-decreases-loop-pattern l = length l.grammar.patterns - length l.residuals
+abbrev pub invariant-patterns : goal.invariant-patterns
+invariant-patterns l = record {
+  within : length l.residuals ≤ length l.grammar.patterns;
+  trees : (i : ℕ) → i < length l.residuals → tree_of l.grammar l.residuals i ≡ tree_at l.grammar.patterns (record { 0 = i });
+}
+
+abbrev pub decreases-patterns : goal.decreases-patterns
+decreases-patterns l = length l.grammar.patterns - length l.residuals

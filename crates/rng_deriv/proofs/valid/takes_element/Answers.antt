@@ -1,5 +1,13 @@
-use Rattle.rng_deriv.proofs.Follows.{body_inside}
+use Rattle.std.proofs.Common.{sym, refl}
+use Rattle.std.proofs.lemmas.Result.{IfOk-weaker}
+use Rattle.rng_deriv.proofs.Follows.{AreCopied-longer}
+use Rattle.rng_deriv.proofs.Taken.{node_answer}
 use Rattle.rng_deriv.proofs.valid.takes_element.Goals as goal
 
-pub after_attributes-requires-clause-inside : goal.after_attributes-requires-clause-inside
-after_attributes-requires-clause-inside c = body_inside _ _ _ _ c.requires c.in-Some.ensures
+pub takes_content-requires-clause-copied : goal.takes_content-requires-clause-copied
+takes_content-requires-clause-copied c = AreCopied-longer c.args.grammar.now _ _ c.in_ok-left.ensures.longer c.requires
+
+pub returns-clause-takes : goal.returns-clause-takes
+returns-clause-takes c =
+    IfOk-weaker c.takes_content.result _ _
+    (λ answer h. node_answer c.args.grammar.now c.args.residuals.now c.after_attributes.new.residuals c.args.element c.in-Some.field-0.now _ _ c.args.content.now c.in_ok-left.left answer c.requires (sym c.in-Some.ensures) (c.if-not-holds.ensures.0 refl) c.in_ok-left.ensures.after h) c.takes_content.ensures.takes

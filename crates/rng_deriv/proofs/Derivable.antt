@@ -1,0 +1,76 @@
+-- Each pattern that a table numbers is of a kind that is derived.
+use Rattle.std.proofs.Common.{ℕ, suc, zero, List, [], ◌∷◌, ◌++◌, get_or, fold, slice_get, Option, Some, None}
+use Rattle.rng_model.specs.Tree as tree
+use Rattle.rng_model.specs.Tree.{choice, group}
+use Rattle.rng_model.specs.Table as table
+use Rattle.rng_model.specs.Table.{Table, tree_at}
+use Rattle.rng_model.specs.declared.simple.PatternId.{PatternId}
+use Rattle.rng_model.specs.declared.simple.Simple.{Simple}
+use Rattle.rng_model.specs.declared.simple.Simple.TheVariants as simple
+use Rattle.rng_deriv.specs.Plain.{IsDerivable}
+use Rattle.rng_deriv.specs.Residual.{attribute_found, shape, tree_in, tree_of, trees, with_tree}
+use Rattle.rng_deriv.specs.declared.residual.Node.{Node}
+use Rattle.rng_deriv.specs.declared.residual.Node.TheVariants as node
+use Rattle.rng_deriv.specs.declared.residual.Residual.{Residual}
+
+-- each tree of the list is, and so is what stands past its end
+abbrev AllDerivable : List (tree.Simple ℕ) → Type 0
+AllDerivable ts = (i : ℕ) → IsDerivable (get_or ts i tree.s_not_allowed)
+
+derivable_push : (ts : List (tree.Simple ℕ)) (x : tree.Simple ℕ) → AllDerivable ts → IsDerivable x → AllDerivable (ts ++ x ∷ [])
+derivable_push [] x all h zero = h
+derivable_push [] x all h (suc i) = tt
+derivable_push (y ∷ ts) x all h zero = all zero
+derivable_push (y ∷ ts) x all h (suc i) = derivable_push ts x (λ k. all (suc k)) h i
+
+-- ---- of a grammar
+
+table_shape : (of : PatternId → tree.Simple ℕ) → ((k : PatternId) → IsDerivable (of k)) → (p : Simple) → IsDerivable (table.shape of p)
+table_shape of all simple.NotAllowed = tt
+table_shape of all simple.Empty = tt
+table_shape of all simple.Text = tt
+table_shape of all (simple.Element e) = tt
+table_shape of all (simple.Attribute class body) = all body
+table_shape of all (simple.Group a b) = (all a, all b)
+table_shape of all (simple.Choice a b) = (all a, all b)
+
+table_from : (ts : List (tree.Simple ℕ)) (ps : List Simple) → AllDerivable ts → AllDerivable (fold table.with_tree ts ps)
+table_from ts [] all = all
+table_from ts (p ∷ ps) all = table_from (table.with_tree ts p) ps (derivable_push ts _ all (table_shape (table.tree_in ts) (λ k. all k.0) p))
+
+none_derivable : AllDerivable []
+none_derivable zero = tt
+none_derivable (suc i) = tt
+
+pub grammar_derivable : (t : Table) (id : PatternId) → IsDerivable (tree_at t.patterns id)
+unfolding table.trees
+grammar_derivable t id = table_from [] t.patterns none_derivable id.0
+
+-- ---- of residuals
+
+found_derivable : (t : Table) (found : Option Simple) → IsDerivable (attribute_found t found)
+found_derivable t None = tt
+found_derivable t (Some simple.NotAllowed) = tt
+found_derivable t (Some simple.Empty) = tt
+found_derivable t (Some simple.Text) = tt
+found_derivable t (Some (simple.Element e)) = tt
+found_derivable t (Some (simple.Attribute class body)) = grammar_derivable t body
+found_derivable t (Some (simple.Group a b)) = tt
+found_derivable t (Some (simple.Choice a b)) = tt
+
+shape_derivable : (t : Table) (of : ℕ → tree.Simple ℕ) → ((k : ℕ) → IsDerivable (of k)) → (n : Node) → IsDerivable (shape t of n)
+shape_derivable t of all node.NotAllowed = tt
+shape_derivable t of all node.Empty = tt
+shape_derivable t of all node.Text = tt
+shape_derivable t of all (node.Element e) = tt
+shape_derivable t of all (node.Attribute a) = found_derivable t (slice_get t.patterns a.0)
+shape_derivable t of all (node.Group a b) = (all a, all b)
+shape_derivable t of all (node.Choice a b) = (all a, all b)
+
+residual_from : (t : Table) (ts : List (tree.Simple ℕ)) (rs : List Residual) → AllDerivable ts → AllDerivable (fold (with_tree t) ts rs)
+residual_from t ts [] all = all
+residual_from t ts (r ∷ rs) all = residual_from t (with_tree t ts r) rs (derivable_push ts _ all (shape_derivable t (tree_in ts) all r.node))
+
+pub residual_derivable : (t : Table) (rs : List Residual) (number : ℕ) → IsDerivable (tree_of t rs number)
+unfolding trees
+residual_derivable t rs number = residual_from t [] rs none_derivable number

@@ -1,0 +1,170 @@
+-- What becomes of a pattern in the tables, one kind after another.
+use Rattle.std.proofs.Common.{◌≡◌, refl, ap, sym, ◌∙◌, subst, ℕ, ◌<◌, List, [], ◌∷◌, ◌++◌, length, append_assoc, append-nil, length-append, arith}
+use Rattle.std.proofs.lemmas.List.Elements.{All-nil, All-push, All-weaker}
+use Rattle.rng_model.specs.Names as names
+use Rattle.rng_model.specs.Tree.{leaf, attribute, Simple, s_not_allowed, s_empty, s_text, s_leaf, s_attribute, as_tree}
+use Rattle.rng_model.specs.Table.{tree_at}
+use Rattle.rng_model.specs.View.{class_of}
+use Rattle.rng_model.specs.Written as written
+use Rattle.rng_model.specs.Written.{Position, an_element}
+use Rattle.rng_model.specs.Unfold.{Leaf, leaf_at, main, tree_of, body_of}
+use Rattle.rng_model.specs.SimpleForm.{LeafIn, IsReached, AreLeavesBelow}
+use Rattle.rng_model.specs.SimpleForm as f
+use Rattle.rng_model.specs.declared.name.NameClass.{NameClass}
+use Rattle.rng_model.specs.declared.name.NameClass.TheVariants as classes
+use Rattle.rng_model.specs.declared.simple.PatternId.{PatternId}
+use Rattle.rng_simple.specs.Draft.{Tables, Extends}
+use Rattle.rng_simple.specs.Part.{Keeps}
+use Rattle.rng_simple.specs.SimpleOf.{Sort, nothing, blank, proper, sort_of, attribute_by, nested, simple_of, join_all}
+use Rattle.rng_simple.specs.Made.{simple_renamed, no_element, element_at, AreDistinct, IsWithin, IsListedAs, Lists, IsMade, Makes}
+use Rattle.rng_simple.proofs.Renamed.{renamed_sort, reached_more, reached_through}
+use Rattle.rng_simple.proofs.Listed.{element_last, distinct_append, within_child, not_within_child, lists_stay, lists_more}
+
+no_leaves : AreDistinct []
+no_leaves j k jn kn e = omega arith
+
+-- ---- any tree
+
+-- tables with more patterns
+pub made_stays : (P : Position → Type 0) (ls : List Leaf) (d e : Tables) (tree : Simple ℕ) (form : Simple Leaf) → Extends d e → e.elements ≡ d.elements → IsMade P ls d tree form → IsMade P ls e tree form
+made_stays P ls d e tree form more same m = record {
+  more = m.more;
+  lists = lists_stay d e (ls ++ m.more) more same m.lists;
+  below = m.below;
+  is = m.is;
+  reached = m.reached;
+  within = m.within;
+  distinct = m.distinct;
+}
+
+-- the same tree under another name
+pub made_same : (P : Position → Type 0) (ls : List Leaf) (d : Tables) (s t : Simple ℕ) (form : Simple Leaf) → t ≡ s → IsMade P ls d s form → IsMade P ls d t form
+made_same P ls d s t form e m = subst (λ z. IsMade P ls d z form) (sym e) m
+
+pub made_wider : (P Q : Position → Type 0) (ls : List Leaf) (d : Tables) (tree : Simple ℕ) (form : Simple Leaf) → ((y : Position) → P y → Q y) → IsMade P ls d tree form → IsMade Q ls d tree form
+made_wider P Q ls d tree form w m = record {
+  more = m.more;
+  lists = m.lists;
+  below = m.below;
+  is = m.is;
+  reached = m.reached;
+  within = All-weaker (λ l. P l.position) (λ l. Q l.position) (λ l. w l.position) m.more m.within;
+  distinct = m.distinct;
+}
+
+-- a tree without leaves, with nothing added to the elements
+pub made_of_nothing : (P : Position → Type 0) (ls : List Leaf) (d : Tables) (tree : Simple ℕ) (form : Simple Leaf) → ((g : ℕ → Leaf) → simple_renamed g tree ≡ form) → ((k : ℕ) → LeafIn k (as_tree tree) → ⊥) → Lists d ls → IsMade P ls d tree form
+made_of_nothing P ls d tree form is none has = record {
+  more = [];
+  lists = subst (Lists d) (sym (append-nil ls)) has;
+  below = λ k i. absurd (none k i);
+  is = is (element_at (ls ++ []));
+  reached = All-nil (IsReached (as_tree form));
+  within = All-nil (λ l. P l.position);
+  distinct = no_leaves;
+}
+
+pub makes_stays : (old d e : Tables) (tree : Simple ℕ) (p : written.Pattern) → Keeps d e → Makes old d tree p → Makes old e tree p
+makes_stays old d e tree p keeps makes x ls has = made_stays (IsWithin x) ls d e tree (simple_of (tree_of main x p)) keeps.extends keeps.elements (makes x ls has)
+
+-- ---- patterns without members
+
+pub makes_not_allowed : (d : Tables) → Makes d d s_not_allowed written.not_allowed
+unfolding simple_of join_all
+makes_not_allowed d x ls has = made_of_nothing (IsWithin x) ls d s_not_allowed s_not_allowed (λ g. refl) (λ k i. elim i [ ]) has
+
+pub makes_empty : (d : Tables) → Makes d d s_empty written.empty
+unfolding simple_of join_all
+makes_empty d x ls has = made_of_nothing (IsWithin x) ls d s_empty s_empty (λ g. refl) (λ k i. elim i [ ]) has
+
+pub makes_text : (d e : Tables) (tree : Simple ℕ) → Extends d e → e.elements ≡ d.elements → tree ≡ s_text → Makes d e tree written.text
+unfolding simple_of join_all
+makes_text d e tree more same is x ls has = made_same (IsWithin x) ls e s_text tree s_text is (made_of_nothing (IsWithin x) ls e s_text s_text (λ g. refl) (λ k i. elim i [ ]) (lists_stay d e ls more same has))
+
+-- ---- attributes
+
+-- the code's classes are nested as they stand
+pub nested_is : (c : NameClass) → nested (class_of c) ≡ class_of c
+nested_is (classes.Name n) = refl
+
+attribute_proper : (x : Sort) (c : names.NameClass) (s : Simple Leaf) → (x ≡ nothing → ⊥) → attribute_by x c s ≡ s_attribute c s
+attribute_proper nothing c s n = absurd (n refl)
+attribute_proper blank c s n = refl
+attribute_proper proper c s n = refl
+
+pub makes_no_attribute : (old d : Tables) (tree : Simple ℕ) (c : names.NameClass) (p : written.Pattern) → tree ≡ s_not_allowed → Makes old d tree p → Makes old d s_not_allowed (written.attribute c p)
+unfolding simple_of join_all
+makes_no_attribute old d tree c p e body x ls has =
+    let m = body (0 ∷ x) ls has in
+    let form = simple_of (tree_of main (0 ∷ x) p) in
+    let none : form ≡ s_not_allowed = sym m.is ∙ ap (simple_renamed (element_at (ls ++ m.more))) e in
+    let gone : attribute_by (sort_of form) (nested c) form ≡ s_not_allowed = ap (λ (s : Simple Leaf). attribute_by (sort_of s) (nested c) s) none in
+    let n : IsMade (IsWithin (0 ∷ x)) ls d s_not_allowed s_not_allowed = subst (λ s. IsMade (IsWithin (0 ∷ x)) ls d s_not_allowed s) none (subst (λ t. IsMade (IsWithin (0 ∷ x)) ls d t form) e m) in
+    subst (IsMade (IsWithin x) ls d s_not_allowed) (sym gone) (made_wider (IsWithin (0 ∷ x)) (IsWithin x) ls d s_not_allowed s_not_allowed (within_child x 0) n)
+
+attribute_leaves : (n : ℕ) (c : names.NameClass) (s : Simple ℕ) → AreLeavesBelow n (as_tree s) → AreLeavesBelow n (as_tree (s_attribute c s))
+attribute_leaves n c s b k (f.of_attribute i) = b k i
+
+pub makes_attribute : (old d e : Tables) (body tree : Simple ℕ) (c : NameClass) (p : written.Pattern) →
+    Extends d e → e.elements ≡ d.elements → (sort_of body ≡ nothing → ⊥) → tree ≡ s_attribute (class_of c) body → Makes old d body p → Makes old e tree (written.attribute (class_of c) p)
+unfolding simple_of join_all
+makes_attribute old d e body tree c p more same some is makes x ls has =
+    let m = makes (0 ∷ x) ls has in
+    let form = simple_of (tree_of main (0 ∷ x) p) in
+    let sort : sort_of form ≡ sort_of body = ap (λ (s : Simple Leaf). sort_of s) (sym m.is) ∙ renamed_sort (element_at (ls ++ m.more)) body in
+    let named : attribute_by (sort_of form) (nested (class_of c)) form ≡ s_attribute (class_of c) form = attribute_proper (sort_of form) (nested (class_of c)) form (λ z. some (sym sort ∙ z)) ∙ ap (λ d. s_attribute d form) (nested_is c) in
+    let made : IsMade (IsWithin x) ls d (s_attribute (class_of c) body) (s_attribute (class_of c) form) = record {
+      more = m.more;
+      lists = m.lists;
+      below = attribute_leaves (length (ls ++ m.more)) (class_of c) body m.below;
+      is = ap (s_attribute (class_of c)) m.is;
+      reached = All-weaker (IsReached (as_tree form)) (IsReached (attribute (class_of c) (as_tree form))) (λ l r. reached_more (as_tree form) (attribute (class_of c) (as_tree form)) (λ k i. f.of_attribute i) r) m.more m.reached;
+      within = All-weaker (λ l. IsWithin (0 ∷ x) l.position) (λ l. IsWithin x l.position) (λ l. within_child x 0 l.position) m.more m.within;
+      distinct = m.distinct;
+    } in
+    subst (IsMade (IsWithin x) ls e tree) (sym named) (made_stays (IsWithin x) ls d e tree (s_attribute (class_of c) form) more same (made_same (IsWithin x) ls d (s_attribute (class_of c) body) tree (s_attribute (class_of c) form) is made))
+
+-- ---- elements
+
+one_leaf : (l : Leaf) → AreDistinct (l ∷ [])
+one_leaf l j k jn kn e = omega arith
+
+leaf_below : (n k : ℕ) → k < n → AreLeavesBelow n (leaf k)
+leaf_below n k h j f.here = h
+
+-- the element `l` after those in its body
+element_made : (x : Position) (ls : List Leaf) (d e g : Tables) (body tree : Simple ℕ) (number : ℕ) (l : Leaf) (entry : NameClass × PatternId) →
+    l.position ≡ x → IsMade (IsWithin (0 ∷ x)) ls d body (simple_of (body_of l)) → entry.1.0 < length d.patterns → tree_at d.patterns entry.1 ≡ body → class_of entry.0 ≡ nested l.class →
+    e.patterns ≡ d.patterns → e.elements ≡ d.elements ++ entry ∷ [] → Extends e g → g.elements ≡ e.elements → number ≡ length d.elements → tree ≡ s_leaf number →
+    IsMade (IsWithin x) ls g tree (s_leaf l)
+element_made x ls d e g body tree number l entry at m inside is class ps es more same n t =
+    let listed : IsListedAs d.patterns (ls ++ m.more) l entry = record {
+      there = inside;
+      below = subst (λ s. AreLeavesBelow (length (ls ++ m.more)) (as_tree s)) (sym is) m.below;
+      class = class;
+      body = ap (simple_renamed (element_at (ls ++ m.more))) is ∙ m.is;
+    } in
+    let all : Lists e ((ls ++ m.more) ++ l ∷ []) = lists_more d e (ls ++ m.more) l entry ps es m.lists listed in
+    let joined : (ls ++ m.more) ++ l ∷ [] ≡ ls ++ (m.more ++ l ∷ []) = append_assoc ls m.more (l ∷ []) in
+    let last : length (ls ++ m.more) ≡ number = m.lists.count ∙ sym n in
+    let named : element_at (ls ++ (m.more ++ l ∷ [])) number ≡ l = ap (λ ks. element_at ks number) (sym joined) ∙ element_last (ls ++ m.more) l number last in
+    let long : number < length (ls ++ (m.more ++ l ∷ [])) = omega (arith, ap length joined, length-append (ls ++ m.more) (l ∷ [])) in
+    let here : IsReached (leaf l) l = f.from_tree f.here in
+    let made : IsMade (IsWithin x) ls g (s_leaf number) (s_leaf l) = record {
+      more = m.more ++ l ∷ [];
+      lists = subst (Lists g) joined (lists_stay e g ((ls ++ m.more) ++ l ∷ []) more same all);
+      below = leaf_below (length (ls ++ (m.more ++ l ∷ []))) number long;
+      is = ap s_leaf named;
+      reached = All-push (IsReached (leaf l)) m.more l (All-weaker (IsReached (as_tree (simple_of (body_of l)))) (IsReached (leaf l)) (λ k r. reached_through l (leaf l) here r refl) m.more m.reached) here;
+      within = All-push (λ k. IsWithin x k.position) m.more l (All-weaker (λ k. IsWithin (0 ∷ x) k.position) (λ k. IsWithin x k.position) (λ k. within_child x 0 k.position) m.more m.within) ([], at);
+      distinct = distinct_append m.more (l ∷ []) m.distinct (one_leaf l) (λ j k jn kn e. not_within_child x 0 (subst (IsWithin (0 ∷ x)) (ap (λ z. z.position) (e ∙ element_last [] l k (omega arith)) ∙ at) (m.within j no_element jn)));
+    } in
+    made_same (IsWithin x) ls g (s_leaf number) tree (s_leaf l) t made
+
+pub makes_element : (old d e g : Tables) (body tree : Simple ℕ) (number : ℕ) (c : NameClass) (entry : NameClass × PatternId) (p : written.Pattern) →
+    Makes old d body p → entry.1.0 < length d.patterns → tree_at d.patterns entry.1 ≡ body → class_of entry.0 ≡ class_of c →
+    e.patterns ≡ d.patterns → e.elements ≡ d.elements ++ entry ∷ [] → Extends e g → g.elements ≡ e.elements → number ≡ length d.elements → tree ≡ s_leaf number →
+    Makes old g tree (written.element (class_of c) p)
+unfolding simple_of join_all
+makes_element old d e g body tree number c entry p makes inside is class ps es more same n t x ls has =
+    element_made x ls d e g body tree number (leaf_at main (an_element x (class_of c) p)) entry refl (makes (0 ∷ x) ls has) inside is (class ∙ sym (nested_is c)) ps es more same n t

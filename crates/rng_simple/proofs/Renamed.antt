@@ -1,0 +1,168 @@
+-- Simple trees with renamed leaves, and which leaves the rules keep.
+use Rattle.std.proofs.Common.{◌≡◌, ◌⊎◌, inl, inr, refl, ap, ap₂, subst}
+use Rattle.rng_model.specs.Tree.{Connector, choice, group, interleave, Tree, attribute, list, data_except, one_or_more, joined, no_trees, as_tree}
+use Rattle.rng_model.specs.Tree.{Simple, s_not_allowed, s_empty, s_text, s_leaf, s_attribute, s_list, s_data, s_data_except, s_value, s_one_or_more, s_joined}
+use Rattle.rng_model.specs.Unfold.{Leaf, renamed, body_of}
+use Rattle.rng_model.specs.SimpleForm.{LeafIn, LeafAmong, IsReached}
+use Rattle.rng_model.specs.SimpleForm as f
+use Rattle.rng_simple.specs.SimpleOf.{Sort, nothing, blank, proper, sort_of, choice_by, both_by, joined_by, join, simple_of}
+use Rattle.rng_simple.specs.Made.{simple_renamed}
+use Rattle.rng_simple.proofs.Sorts.{Sorted, is_nothing, is_blank, is_proper, sorted}
+use Rattle.rng_simple.proofs.Unique.{has_simple_form}
+
+module _ {K L : Type 0} where
+  -- renaming is the same before and after
+  pub as_tree_renamed : (g : K → L) (s : Simple K) → as_tree (simple_renamed g s) ≡ renamed g (as_tree s)
+  as_tree_renamed g s_not_allowed = refl
+  as_tree_renamed g s_empty = refl
+  as_tree_renamed g s_text = refl
+  as_tree_renamed g (s_leaf k) = refl
+  as_tree_renamed g (s_attribute c s) = ap (attribute c) (as_tree_renamed g s)
+  as_tree_renamed g (s_list s) = ap list (as_tree_renamed g s)
+  as_tree_renamed g (s_data d) = refl
+  as_tree_renamed g (s_data_except d s) = ap (data_except d) (as_tree_renamed g s)
+  as_tree_renamed g (s_value d v) = refl
+  as_tree_renamed g (s_one_or_more s) = ap one_or_more (as_tree_renamed g s)
+  as_tree_renamed g (s_joined k s u) = ap₂ (λ a b. joined k a b no_trees) (as_tree_renamed g s) (as_tree_renamed g u)
+
+  -- only the names of its leaves matter
+  pub renamed_alike : (g h : K → L) (s : Simple K) → ((k : K) → LeafIn k (as_tree s) → g k ≡ h k) → simple_renamed g s ≡ simple_renamed h s
+  renamed_alike g h s_not_allowed n = refl
+  renamed_alike g h s_empty n = refl
+  renamed_alike g h s_text n = refl
+  renamed_alike g h (s_leaf k) n = ap s_leaf (n k f.here)
+  renamed_alike g h (s_attribute c s) n = ap (s_attribute c) (renamed_alike g h s (λ k i. n k (f.of_attribute i)))
+  renamed_alike g h (s_list s) n = ap s_list (renamed_alike g h s (λ k i. n k (f.of_list i)))
+  renamed_alike g h (s_data d) n = refl
+  renamed_alike g h (s_data_except d s) n = ap (s_data_except d) (renamed_alike g h s (λ k i. n k (f.of_except i)))
+  renamed_alike g h (s_value d v) n = refl
+  renamed_alike g h (s_one_or_more s) n = ap s_one_or_more (renamed_alike g h s (λ k i. n k (f.of_one_or_more i)))
+  renamed_alike g h (s_joined k s u) n = ap₂ (s_joined k) (renamed_alike g h s (λ j i. n j (f.of_first i))) (renamed_alike g h u (λ j i. n j (f.of_second i)))
+
+  pub record Origin (g : K → L) (s : Simple K) (l : L) : Type 0 where
+    pub name : K
+    pub inside : LeafIn name (as_tree s)
+    pub is : g name ≡ l
+
+  -- a leaf of a renamed tree was one before
+  pub origin : (g : K → L) (s : Simple K) (l : L) → LeafIn l (as_tree (simple_renamed g s)) → Origin g s l
+  origin g s_not_allowed l i = elim i [ ]
+  origin g s_empty l i = elim i [ ]
+  origin g s_text l i = elim i [ ]
+  origin g (s_leaf k) l f.here = record { name = k; inside = f.here; is = refl }
+  origin g (s_attribute c s) l (f.of_attribute i) = let o = origin g s l i in record { name = o.name; inside = f.of_attribute o.inside; is = o.is }
+  origin g (s_list s) l (f.of_list i) = let o = origin g s l i in record { name = o.name; inside = f.of_list o.inside; is = o.is }
+  origin g (s_data d) l i = elim i [ ]
+  origin g (s_data_except d s) l (f.of_except i) = let o = origin g s l i in record { name = o.name; inside = f.of_except o.inside; is = o.is }
+  origin g (s_value d v) l i = elim i [ ]
+  origin g (s_one_or_more s) l (f.of_one_or_more i) = let o = origin g s l i in record { name = o.name; inside = f.of_one_or_more o.inside; is = o.is }
+  origin g (s_joined k s u) l (f.of_first i) = let o = origin g s l i in record { name = o.name; inside = f.of_first o.inside; is = o.is }
+  origin g (s_joined k s u) l (f.of_second i) = let o = origin g u l i in record { name = o.name; inside = f.of_second o.inside; is = o.is }
+  origin g (s_joined k s u) l (f.of_others i) = elim i [ ]
+
+  -- the rules ask nothing of the names
+  pub renamed_sort : (g : K → L) (s : Simple K) → sort_of (simple_renamed g s) ≡ sort_of s
+  renamed_sort g s_not_allowed = refl
+  renamed_sort g s_empty = refl
+  renamed_sort g _ = refl
+
+  choice_renamed : (g : K → L) (x y : Sort) (s u : Simple K) → simple_renamed g (choice_by x y s u) ≡ choice_by x y (simple_renamed g s) (simple_renamed g u)
+  choice_renamed g nothing y s u = refl
+  choice_renamed g blank nothing s u = refl
+  choice_renamed g blank blank s u = refl
+  choice_renamed g blank proper s u = refl
+  choice_renamed g proper nothing s u = refl
+  choice_renamed g proper blank s u = refl
+  choice_renamed g proper proper s u = refl
+
+  both_renamed : (k : Connector) (g : K → L) (x y : Sort) (s u : Simple K) → simple_renamed g (both_by k x y s u) ≡ both_by k x y (simple_renamed g s) (simple_renamed g u)
+  both_renamed k g nothing y s u = refl
+  both_renamed k g blank y s u = refl
+  both_renamed k g proper nothing s u = refl
+  both_renamed k g proper blank s u = refl
+  both_renamed k g proper proper s u = refl
+
+  by_renamed : (k : Connector) (g : K → L) (x y : Sort) (s u : Simple K) → simple_renamed g (joined_by k x y s u) ≡ joined_by k x y (simple_renamed g s) (simple_renamed g u)
+  by_renamed choice = choice_renamed
+  by_renamed group = both_renamed group
+  by_renamed interleave = both_renamed interleave
+
+  pub join_renamed : (k : Connector) (g : K → L) (s u : Simple K) → simple_renamed g (join k s u) ≡ join k (simple_renamed g s) (simple_renamed g u)
+  join_renamed k g s u = rw (renamed_sort g s, renamed_sort g u) (by_renamed k g (sort_of s) (sort_of u) s u)
+
+module _ {L : Type 0} where
+  choice_leaves : (l : L) {s u : Simple L} {x y : Sort} → Sorted s x → Sorted u y → LeafIn l (as_tree (choice_by x y s u)) → LeafIn l (as_tree s) ⊎ LeafIn l (as_tree u)
+  choice_leaves l is_nothing e i = inr i
+  choice_leaves l is_blank is_nothing i = inl i
+  choice_leaves l is_blank is_blank i = inl i
+  choice_leaves l is_blank (is_proper q) (f.of_first i) = inl i
+  choice_leaves l is_blank (is_proper q) (f.of_second i) = inr i
+  choice_leaves l is_blank (is_proper q) (f.of_others i) = elim i [ ]
+  choice_leaves l (is_proper p) is_nothing i = inl i
+  choice_leaves l (is_proper p) is_blank (f.of_first i) = inr i
+  choice_leaves l (is_proper p) is_blank (f.of_second i) = inl i
+  choice_leaves l (is_proper p) is_blank (f.of_others i) = elim i [ ]
+  choice_leaves l (is_proper p) (is_proper q) (f.of_first i) = inl i
+  choice_leaves l (is_proper p) (is_proper q) (f.of_second i) = inr i
+  choice_leaves l (is_proper p) (is_proper q) (f.of_others i) = elim i [ ]
+
+  both_leaves : (k : Connector) (l : L) {s u : Simple L} {x y : Sort} → Sorted s x → Sorted u y → LeafIn l (as_tree (both_by k x y s u)) → LeafIn l (as_tree s) ⊎ LeafIn l (as_tree u)
+  both_leaves k l is_nothing e i = inl i
+  both_leaves k l is_blank e i = inr i
+  both_leaves k l (is_proper p) is_nothing i = inr i
+  both_leaves k l (is_proper p) is_blank i = inl i
+  both_leaves k l (is_proper p) (is_proper q) (f.of_first i) = inl i
+  both_leaves k l (is_proper p) (is_proper q) (f.of_second i) = inr i
+  both_leaves k l (is_proper p) (is_proper q) (f.of_others i) = elim i [ ]
+
+  -- a leaf of two sides that were joined is one of a side
+  pub join_leaves : (k : Connector) (l : L) (s u : Simple L) → LeafIn l (as_tree (join k s u)) → LeafIn l (as_tree s) ⊎ LeafIn l (as_tree u)
+  join_leaves choice l s u = choice_leaves l (sorted s) (sorted u)
+  join_leaves group l s u = both_leaves group l (sorted s) (sorted u)
+  join_leaves interleave l s u = both_leaves interleave l (sorted s) (sorted u)
+
+  choice_keeps : (l : L) {s u : Simple L} {x y : Sort} → Sorted s x → Sorted u y → LeafIn l (as_tree s) ⊎ LeafIn l (as_tree u) → LeafIn l (as_tree (choice_by x y s u))
+  choice_keeps l is_nothing e (inl i) = elim i [ ]
+  choice_keeps l is_nothing e (inr i) = i
+  choice_keeps l is_blank e (inl i) = elim i [ ]
+  choice_keeps l is_blank is_nothing (inr i) = elim i [ ]
+  choice_keeps l is_blank is_blank (inr i) = elim i [ ]
+  choice_keeps l is_blank (is_proper q) (inr i) = f.of_second i
+  choice_keeps l (is_proper p) is_nothing (inl i) = i
+  choice_keeps l (is_proper p) is_nothing (inr i) = elim i [ ]
+  choice_keeps l (is_proper p) is_blank (inl i) = f.of_second i
+  choice_keeps l (is_proper p) is_blank (inr i) = elim i [ ]
+  choice_keeps l (is_proper p) (is_proper q) (inl i) = f.of_first i
+  choice_keeps l (is_proper p) (is_proper q) (inr i) = f.of_second i
+
+  both_keeps : (k : Connector) (l : L) {s u : Simple L} {x y : Sort} → Sorted s x → Sorted u y → (sort_of (both_by k x y s u) ≡ nothing → ⊥) → LeafIn l (as_tree s) ⊎ LeafIn l (as_tree u) → LeafIn l (as_tree (both_by k x y s u))
+  both_keeps k l is_nothing e n (inl i) = elim i [ ]
+  both_keeps k l is_nothing e n (inr i) = absurd (n refl)
+  both_keeps k l is_blank e n (inl i) = elim i [ ]
+  both_keeps k l is_blank e n (inr i) = i
+  both_keeps k l (is_proper p) is_nothing n (inl i) = absurd (n refl)
+  both_keeps k l (is_proper p) is_nothing n (inr i) = elim i [ ]
+  both_keeps k l (is_proper p) is_blank n (inl i) = i
+  both_keeps k l (is_proper p) is_blank n (inr i) = elim i [ ]
+  both_keeps k l (is_proper p) (is_proper q) n (inl i) = f.of_first i
+  both_keeps k l (is_proper p) (is_proper q) n (inr i) = f.of_second i
+
+  -- sides that were joined keep their leaves, where not all became notAllowed
+  abbrev pub KeepsLeaves : Connector → Simple L → Simple L → Type 0
+  KeepsLeaves k s u = (l : L) → LeafIn l (as_tree s) ⊎ LeafIn l (as_tree u) → LeafIn l (as_tree (join k s u))
+
+  pub choice_keeps_leaves : (s u : Simple L) → KeepsLeaves choice s u
+  choice_keeps_leaves s u l = choice_keeps l (sorted s) (sorted u)
+
+  pub group_keeps_leaves : (s u : Simple L) → (sort_of (join group s u) ≡ nothing → ⊥) → KeepsLeaves group s u
+  group_keeps_leaves s u n l = both_keeps group l (sorted s) (sorted u) n
+
+-- more leaves reach more elements
+pub reached_more : (a b : Tree Leaf) → ((l : Leaf) → LeafIn l a → LeafIn l b) → {l : Leaf} → IsReached a l → IsReached b l
+reached_more a b n (f.from_tree i) = f.from_tree (n _ i)
+reached_more a b n (f.from_body r e i) = f.from_body (reached_more a b n r) e i
+
+-- what an element's body reaches, the element reaches
+pub reached_through : (m : Leaf) (a : Tree Leaf) → IsReached a m → {b : Tree Leaf} {l : Leaf} → IsReached b l → b ≡ as_tree (simple_of (body_of m)) → IsReached a l
+reached_through m a n (f.from_tree {l = l} i) e = f.from_body n (has_simple_form (body_of m)) (subst (λ b. LeafIn l b) e i)
+reached_through m a n (f.from_body r g i) e = f.from_body (reached_through m a n r e) g i
