@@ -1,7 +1,5 @@
 // Simple forms of small schemas, written out.
-ghost use Rattle.std.specs.Prelude.{true, []};
-
-use crate::{Schema, TextFacts, has_same_documents, simplify};
+use crate::{Schema, simplify};
 use rng_model::{
     ElementId, Name, NameClass, Pattern, PatternId, SchemaFault, Simple, SimpleGrammar,
 };
@@ -183,22 +181,5 @@ fn a_long_choice_is_a_loop(rt: HostRuntime) -> Result<(), Fail> {
     }
     let grammar = simplify(alloc, &Schema::single(Pattern::Choice(members)))?;
     assert!(rt; grammar.start() == PatternId(399_998));
-    Ok(())
-}
-
-/// Texts of which nothing is known: all are blank.
-struct NoFacts;
-
-impl TextFacts for NoFacts {
-    ghost texts = { record { Allows = λ _ _. ⊥; Equals = λ _ _ _. ⊥; pieces = λ _. []; blank = λ _. true } };
-}
-
-#[test]
-fn the_law_holds_of_an_answer(rt: HostRuntime) -> Result<(), Fail> {
-    let alloc = rt.alloc();
-    let schema = Schema::single(element(alloc, "a", Pattern::Text)?);
-    let grammar = simplify(alloc, &schema)?;
-    has_same_documents::<NoFacts>(&schema, &grammar);
-    assert!(rt; grammar.start() == PatternId(1));
     Ok(())
 }
