@@ -78,6 +78,7 @@ impl Residuals {
         self.patterns[number]
     }
 
+    /// Whether a pattern whose sides are there matches no attribute and no item.
     fn is_nullable(&self, node: Node) -> bool
         requires { AreSidesBelow (length self.now) node }
         ensures { (t : Table) → result ≡ is_nullable (shape t (tree_of t self.now) node) }
@@ -104,10 +105,8 @@ impl Residuals {
         self.numbers.insert(node, number)?;
         Ok(number)
     }
-}
 
-impl Residuals {
-    /// The number that a pattern has.
+    /// The number that a pattern has. What the map says is a hint, and is compared with the pattern itself.
     fn known(&self, node: Node) -> Option<usize>
         ensures inside { IfSome result (λ number. number < length self.now) }
         ensures tree { IfSome result (λ number. (t : Table) → tree_of t self.now number ≡ shape t (tree_of t self.now) node) }

@@ -22,7 +22,8 @@ use std::collections::{HashMap, HashSet};
 ///
 /// RELAX NG Specification, section 6.3. Each node is judged once against each element of the grammar with its name, by
 /// its attributes and children in turn; an item takes each numbered pattern once, so time and memory grow with the
-/// document and the numbered patterns and not with the trees that these stand for. Recursion goes as deep as the
+/// document and the numbered patterns and not with the trees that these stand for. Where n children of an element may
+/// each stand in many places of its body, memory grows as n squared and time as n cubed. Recursion goes as deep as the
 /// document and as the second sides of groups and choices. `OutOfMemory` where a growth was refused, and never else.
 pub fn is_valid(alloc: Global, grammar: &SimpleGrammar, root: &Item) -> Result<bool, OutOfMemory>
     requires { IsWellFormed (item_of root.now) }
@@ -72,12 +73,14 @@ fn symbol_of<'a>(
     }
 }
 
+/// Whether some item is an element.
 fn has_element(items: &[Item]) -> bool
     ensures { result ≡ list_any (λ item. is_element (item_of item)) items.now }
 {
     items.iter().any(is_element)
 }
 
+/// Whether an item is an element.
 fn is_element(item: &Item) -> bool
     ensures { result ≡ is_element (item_of item.now) }
 {
