@@ -14,11 +14,9 @@ use Rattle.rng_deriv.specs.Residual.{Longer, is_nullable, tree_of}
 use Rattle.rng_deriv.specs.Derivative.{IsAfter, IsDerivative, StandsForItem}
 use Rattle.rng_model.specs.Names.{In}
 use Rattle.rng_model.specs.View.{class_of}
-use Rattle.rng_model.specs.declared.name.NameClass.{NameClass}
-use Rattle.rng_model.specs.declared.name.NameClass.TheVariants as classes
 use Rattle.rng_deriv.specs.declared.names.ElementNames.{ElementNames}
-use Rattle.rng_deriv.specs.Named.{ListsElements, has_number, listed_under, local_of}
-use Rattle.rng_deriv.proofs.Named.{has_front, has_last}
+use Rattle.rng_deriv.specs.Named.{ListsElements, candidates, has_number}
+use Rattle.rng_deriv.proofs.Named.{has_front, has_last, held_candidate}
 use Rattle.rng_deriv.specs.Taken.{AnswersContent, AnswersPlain, IsAfterAttributes, StandForItems, TakesNode}
 use Rattle.rng_deriv.specs.declared.residual.Residual.{Residual}
 use Rattle.rng_deriv.specs.declared.derivative.Symbol.{Symbol}
@@ -138,43 +136,58 @@ has_more xs last k e =
     let both = in_either (has_number xs k) (nat_eq k last || false) (sym (list_any-append (λ x. nat_eq k x) xs (last ∷ [])) ∙ e) in
     ⊎_elim (λ h. inl h) (λ h. ⊎_elim (λ d. inr (eqb-true k last d)) (λ d. absurd (cc)) (in_either (nat_eq k last) false h)) both
 
-module _ (P : ℕ → Type 0) where
+-- S holds of what was found before
+module _ (S P : ℕ → Type 0) where
   -- the last candidate was taken in
   pub candidate_in : (old new : ℕ → Bool) (xs : List ℕ) (last : ℕ) → P last → ((k : ℕ) → new k ≡ cond (nat_eq last k) true (old k)) →
-      ((k : ℕ) → IsTrue (old k) ↔ ((has_number xs k ≡ true) × P k)) → (k : ℕ) → IsTrue (new k) ↔ ((has_number (xs ++ last ∷ []) k ≡ true) × P k)
+      ((k : ℕ) → IsTrue (old k) ↔ (S k ⊎ ((has_number xs k ≡ true) × P k))) → (k : ℕ) → IsTrue (new k) ↔ (S k ⊎ ((has_number (xs ++ last ∷ []) k ≡ true) × P k))
   candidate_in old new xs last holds grown so_far k = (
     λ e. ⊎_elim
-        (λ same. (ap (λ j. has_number (xs ++ last ∷ []) j) (sym same) ∙ has_last xs last, subst P same holds))
+        (λ same. inr (ap (λ j. has_number (xs ++ last ∷ []) j) (sym same) ∙ has_last xs last, subst P same holds))
         (λ other.
         let was : old k ≡ true = sym (ap (λ b. cond b true (old k)) (ne_eqb last k other)) ∙ sym (grown k) ∙ e in
-        let h = (so_far k).0 was in (has_front xs (last ∷ []) k h.0, h.1))
+        ⊎_elim (λ s. inl s) (λ h. inr (has_front xs (last ∷ []) k h.0, h.1)) ((so_far k).0 was))
         (cases_eq last k),
     λ h. ⊎_elim
-        (λ had.
-        let was : old k ≡ true = (so_far k).1 (had, h.1) in
-        grown k ∙ kept_true (nat_eq last k) (old k) was)
+        (λ s. had ((so_far k).1 (inl s)))
+        (λ h. ⊎_elim
+        (λ more. had ((so_far k).1 (inr (more, h.1))))
         (λ same. grown k ∙ ap (λ b. cond b true (old k)) (eq-eqb last k (sym same)))
-        (has_more xs last k h.0),
+        (has_more xs last k h.0))
+        h,
   )
     where
       kept_true : (b c : Bool) → c ≡ true → cond b true c ≡ true
       kept_true true c e = refl
       kept_true false c e = e
 
+      had : old k ≡ true → new k ≡ true
+      had was = grown k ∙ kept_true (nat_eq last k) (old k) was
+
   -- the last candidate was left out
-  pub candidate_out : (old : ℕ → Bool) (xs : List ℕ) (last : ℕ) → (P last → ⊥) → ((k : ℕ) → IsTrue (old k) ↔ ((has_number xs k ≡ true) × P k)) → (k : ℕ) → IsTrue (old k) ↔ ((has_number (xs ++ last ∷ []) k ≡ true) × P k)
+  pub candidate_out : (old : ℕ → Bool) (xs : List ℕ) (last : ℕ) → (P last → ⊥) → ((k : ℕ) → IsTrue (old k) ↔ (S k ⊎ ((has_number xs k ≡ true) × P k))) → (k : ℕ) → IsTrue (old k) ↔ (S k ⊎ ((has_number (xs ++ last ∷ []) k ≡ true) × P k))
   candidate_out old xs last not so_far k = (
-    λ e. let h = (so_far k).0 e in (has_front xs (last ∷ []) k h.0, h.1),
-    λ h. ⊎_elim (λ had. (so_far k).1 (had, h.1)) (λ same. absurd (not (subst P same h.1))) (has_more xs last k h.0),
+    λ e. ⊎_elim (λ s. inl s) (λ h. inr (has_front xs (last ∷ []) k h.0, h.1)) ((so_far k).0 e),
+    λ h. ⊎_elim
+        (λ s. (so_far k).1 (inl s))
+        (λ h. ⊎_elim (λ had. (so_far k).1 (inr (had, h.1))) (λ same. absurd (not (subst P same h.1))) (has_more xs last k h.0))
+        h,
   )
 
--- the local name of a class that holds a name
-local_held : (c : NameClass) (q : names.Name) → In (class_of c) q → local_of c ≡ q.local
-local_held (classes.Name only) q e = ap (λ (n : names.Name). n.local) (sym e)
+-- two lists of candidates, one after the other, from nothing
+pub both_found : (P : ℕ → Type 0) (none first last : ℕ → Bool) (xs ys : List ℕ) (k : ℕ) → none k ≡ false → (IsTrue (first k) ↔ (IsTrue (none k) ⊎ ((has_number xs k ≡ true) × P k))) →
+    (IsTrue (last k) ↔ (IsTrue (first k) ⊎ ((has_number ys k ≡ true) × P k))) → (P k → has_number (xs ++ ys) k ≡ true) → IsTrue (last k) ↔ P k
+both_found P none first last xs ys k nothing one two listed = (
+  λ e. ⊎_elim (λ f. ⊎_elim (λ n. absurd (cc)) (λ h. h.1) (one.0 f)) (λ h. h.1) (two.0 e),
+  λ p. ⊎_elim
+      (λ h. two.1 (inl (one.1 (inr (h, p)))))
+      (λ h. two.1 (inr (h, p)))
+      (in_either (has_number xs k) (has_number ys k) (sym (list_any-append (λ x. nat_eq k x) xs ys) ∙ listed p)),
+)
 
 -- each element that takes a node is a candidate for its name
-pub is_candidate : (t : Table) (table : ElementNames) (tests : TextTests) (k : ℕ) (q : names.Name) (xs : List Attribute) (ns : List Item) → ListsElements t table → k < 2 ^ 64 → TakesNode (grammar_of t) tests k q xs ns → has_number (listed_under table.by_local q.local) k ≡ true
+pub is_candidate : (t : Table) (table : ElementNames) (tests : TextTests) (k : ℕ) (q : names.Name) (xs : List Attribute) (ns : List Item) → ListsElements t table → k < 2 ^ 64 → TakesNode (grammar_of t) tests k q xs ns → has_number (candidates table q.local) k ≡ true
 is_candidate t table tests k q xs ns lists small takes =
     let there = in_table t k takes.class takes.body takes.listed in
     let held : In (class_of there.entry.0) q = subst (λ c. In c q) (sym there.class_is) takes.named in
-    ap (λ l. has_number (listed_under table.by_local l) k) (sym (local_held there.entry.0 q held)) ∙ lists k there.entry small there.found
+    held_candidate table there.entry.0 q k held (lists k there.entry small there.found)

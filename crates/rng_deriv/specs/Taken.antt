@@ -1,5 +1,5 @@
 -- Which content a pattern takes, and which nodes an element of the grammar does.
-use Rattle.std.specs.Prelude.{◌≡◌, ◌↔◌, ℕ, ◌<◌, ◌^◌, List, [], ◌∷◌, Bool, IsTrue, Some, nat_eq, slice_get}
+use Rattle.std.specs.Prelude.{◌≡◌, ◌↔◌, ◌⊎◌, ℕ, ◌<◌, ◌^◌, List, [], ◌∷◌, Bool, true, IsTrue, Some, nat_eq, slice_get}
 use Rattle.std.specs.HashSet.{HashSet, contains}
 use Rattle.rng_model.specs.Names as names
 use Rattle.rng_model.specs.Names.{In}
@@ -7,6 +7,7 @@ use Rattle.rng_model.specs.Tree as tree
 use Rattle.rng_model.specs.Document.{Attribute, Item}
 use Rattle.rng_model.specs.Table.{Table, Grammar, grammar_of}
 use Rattle.rng_model.specs.Texts.{TextTests}
+use Rattle.rng_deriv.specs.Named.{has_number}
 use Rattle.rng_deriv.specs.Plain.{Contains, Plain}
 use Rattle.rng_deriv.specs.Residual.{tree_of}
 use Rattle.rng_deriv.specs.Derivative.{StandsForItem}
@@ -49,3 +50,8 @@ AnswersNode t k q xs ss answer = (ns : List Item) → StandForItems (grammar_of 
 -- which elements of the grammar match a node, of those that the program can number
 abbrev pub AnswersNodes : {Z : Type 0} → Table → names.Name → List Attribute → List Symbol → HashSet ℕ Z → Type 0
 AnswersNodes t q xs ss found = (ns : List Item) → StandForItems (grammar_of t) ss ns → (tests : TextTests) (k : ℕ) → k < 2 ^ 64 → IsTrue (contains nat_eq found k) ↔ TakesNode (grammar_of t) tests k q xs ns
+
+-- of these numbers, those of elements that match a node are added to what was found
+abbrev pub AddsNodes : {Z : Type 0} → Table → names.Name → List Attribute → List Symbol → List ℕ → HashSet ℕ Z → HashSet ℕ Z → Type 0
+AddsNodes t q xs ss numbers old new = (ns : List Item) → StandForItems (grammar_of t) ss ns → (tests : TextTests) (k : ℕ) →
+    IsTrue (contains nat_eq new k) ↔ (IsTrue (contains nat_eq old k) ⊎ ((has_number numbers k ≡ true) × TakesNode (grammar_of t) tests k q xs ns))

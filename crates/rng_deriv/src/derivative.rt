@@ -8,9 +8,10 @@ ghost use Rattle.rng_deriv.specs.Plain.{IsAfterAttribute, TakesText};
 ghost use Rattle.rng_deriv.specs.Residual.{AreCopied, Longer, attribute_found, tree_of};
 ghost use Rattle.rng_deriv.specs.Derivative.{IsAfter, IsBottom, IsFirstAfter, IsFirstSide, IsLeaf, IsLeftOfLeaf, IsSpine, Knows};
 
-use crate::names::{holds, is_blank};
+use crate::names::is_blank;
 use crate::residual::{Node, Residuals};
 use rng_model::{Attr, OutOfMemory, PatternId, Simple, SimpleGrammar};
+use rng_names::contains;
 use std::alloc::Global;
 use std::collections::{HashMap, HashSet};
 
@@ -232,7 +233,7 @@ fn takes_attribute(
 {
     match grammar.pattern(pattern) {
         Some(Simple::Attribute(class, body)) => {
-            if !holds(class, &attr.name) {
+            if !contains(class, &attr.name) {
                 return Ok(false);
             }
             takes_text(alloc, grammar, residuals, attr.value.as_str(), body.0)

@@ -1,25 +1,12 @@
-// Which names a class holds, which texts are blank, and which elements have a name.
-ghost use Rattle.std.specs.Prelude.{◌≡◌, ◌↔◌, ◌++◌, ◌∷◌, [], ℕ, List, IsTrue, IfOk, OnOk, string_bytes, if◌then◌else◌};
+// Which texts are blank, and which elements may have a name.
+ghost use Rattle.std.specs.Prelude.{◌≡◌, ◌↔◌, ◌++◌, ◌∷◌, [], ℕ, List, Option, IsTrue, IfOk, OnOk, string_bytes, if◌then◌else◌};
 ghost use Rattle.std.specs.Str.{bytes_eq};
-ghost use Rattle.rng_model.specs.Names.{In};
-ghost use Rattle.rng_model.specs.View.{class_of, name_of};
 ghost use Rattle.rng_model.specs.Texts.{is_blank};
-ghost use Rattle.rng_deriv.specs.Named.{ListsElements, listed_under, local_of};
+ghost use Rattle.rng_deriv.specs.Named.{ListsElements, is_same_place, listed_under, local_of, place_of};
 
 use rng_model::{ElementId, Name, NameClass, OutOfMemory, SimpleGrammar};
 use std::alloc::Global;
 use std::collections::HashMap;
-
-/// Whether a class holds a name.
-pub fn holds(class: &NameClass, name: &Name) -> bool
-    ensures { IsTrue result ↔ In (class_of class.now) (name_of name.now) }
-{
-    match class {
-        NameClass::Name(only) => {
-            name.local.as_str() == only.local.as_str() && name.ns.as_str() == only.ns.as_str()
-        }
-    }
-}
 
 /// Whether a text is nothing but spaces, tabs and line ends.
 pub fn is_blank(text: &str) -> bool
@@ -30,29 +17,33 @@ pub fn is_blank(text: &str) -> bool
         .all(|byte| matches!(*byte, b' ' | b'\t' | b'\n' | b'\r'))
 }
 
-/// The elements of a grammar by the local name that their class holds.
+/// The elements of a grammar by what their class may hold.
 #[derive(Drop)]
 pub struct ElementNames<'a> {
+    /// Those whose class is one name, under its local name.
     by_local: HashMap<&'a str, Vec<usize>>,
+    /// The others.
+    others: Vec<usize>,
 }
 
 impl<'a> ElementNames<'a> {
-    /// The elements of a grammar, each under its name.
+    /// The elements of a grammar, each under its name, or among the others.
     pub fn new(alloc: Global, grammar: &'a SimpleGrammar) -> Result<Self, OutOfMemory>
         ensures { IfOk result (ListsElements grammar.now) }
     {
         let mut by_local: HashMap<&'a str, Vec<usize>> = HashMap::new(alloc);
+        let mut others = Vec::new(alloc);
         'elements: for number in 0..=usize::MAX {
             let Some((class, _)) = grammar.element(ElementId(number)) else {
                 break;
             };
-            list_under(&mut by_local, local_of(class), number)?;
+            list_element(&mut by_local, &mut others, class, number)?;
         }
-        Ok(ElementNames { by_local })
+        Ok(ElementNames { by_local, others })
     }
 
-    /// The elements whose class may hold a name.
-    pub fn candidates(&self, name: &Name) -> &[usize]
+    /// The elements whose class is one name, with the local name of this one.
+    pub fn named(&self, name: &Name) -> &[usize]
         ensures { result.now ≡ listed_under self.now.by_local (string_bytes name.now.local) }
     {
         match self.by_local.get(name.local.as_str()) {
@@ -60,14 +51,28 @@ impl<'a> ElementNames<'a> {
             None => &[],
         }
     }
+
+    /// The elements whose class is not one name.
+    pub fn others(&self) -> &[usize]
+        ensures { result.now ≡ self.now.others.items }
+    {
+        self.others.as_slice()
+    }
 }
 
-/// The local name that a class holds.
-fn local_of(class: &NameClass) -> &str
-    ensures { result.now ≡ local_of class.now }
+/// Adds the number of an element at the place of its class.
+fn list_element<'a>(
+    by_local: &mut HashMap<&'a str, Vec<usize>>,
+    others: &mut Vec<usize>,
+    class: &'a NameClass,
+    number: usize,
+) -> Result<(), OutOfMemory>
+    ensures { OnOk result ((o : Option (List ℕ)) → place_of by_local.new others.new.items o
+        ≡ (if is_same_place o (local_of class.now) then place_of by_local.old others.old.items o ++ number ∷ [] else place_of by_local.old others.old.items o)) }
 {
     match class {
-        NameClass::Name(only) => only.local.as_str(),
+        NameClass::Name(only) => list_under(by_local, only.local.as_str(), number),
+        _ => Ok(others.push(number)?),
     }
 }
 

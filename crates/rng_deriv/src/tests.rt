@@ -5,7 +5,7 @@ mod shape;
 use crate::valid::is_valid;
 use draft::{Draft, document, name};
 use rng_model::{ElementId, NameClass, PatternId, Simple, SimpleGrammar};
-use std::alloc::Global;
+use std::alloc::{AllocError, Global};
 use std::process::Abort;
 use std::test::Fail;
 
@@ -212,4 +212,53 @@ fn long_group(rt: HostRuntime) -> Result<(), Fail> {
         ("(a/(b/)b/(b/)b/-x/)a", false),
     ];
     judged(&rt, alloc, &grammar, &cases)
+}
+
+/// `* - (x | y)`
+fn all_but_x_and_y(alloc: Global) -> Result<NameClass, AllocError> {
+    let x = NameClass::Name(name(alloc, "x")?);
+    let y = NameClass::Name(name(alloc, "y")?);
+    let both = NameClass::Choice(vec![in alloc; x, y]?);
+    Ok(NameClass::AnyExcept(Box::new(alloc, both)?))
+}
+
+// element * { attribute * - (x | y) { text }, (element * - (x | y) { text } | empty) }
+#[test]
+fn names_by_classes(rt: HostRuntime) -> Result<(), Fail> {
+    let alloc = rt.alloc();
+    let mut draft = Draft::new(alloc, 2);
+    let empty = draft.add(Simple::Empty)?;
+    let text = draft.add(Simple::Text)?;
+    let attribute = draft.add(Simple::Attribute(all_but_x_and_y(alloc)?, text))?;
+    let inner = draft.add(Simple::Element(ElementId(1)))?;
+    let some = draft.add(Simple::Choice(inner, empty))?;
+    let body = draft.add(Simple::Group(attribute, some))?;
+    let start = draft.add(Simple::Element(ElementId(0)))?;
+    draft.list_class(NameClass::Any, body)?;
+    draft.list_class(all_but_x_and_y(alloc)?, text)?;
+    let grammar = draft.finish(start)?;
+    let cases = [
+        ("(a/Az 1/)a", true),
+        ("(x/Az 1/)x", true),
+        ("(a/Az 1/(b/-hi/)b/)a", true),
+        ("(a/Az 1/(y/-hi/)y/)a", false),
+        ("(a/)a", false),
+        ("(a/Ax 1/)a", false),
+    ];
+    judged(&rt, alloc, &grammar, &cases)
+}
+
+// element u:* { empty }: no name of these documents has a namespace.
+#[test]
+fn names_of_one_namespace(rt: HostRuntime) -> Result<(), Fail> {
+    let alloc = rt.alloc();
+    for (ns, answer) in [("", true), ("u", false)] {
+        let mut draft = Draft::new(alloc, 1);
+        let empty = draft.add(Simple::Empty)?;
+        let start = draft.add(Simple::Element(ElementId(0)))?;
+        draft.list_class(NameClass::Ns(String::from_str(alloc, ns)?), empty)?;
+        let grammar = draft.finish(start)?;
+        judged(&rt, alloc, &grammar, &[("(a/)a", answer)])?;
+    }
+    Ok(())
 }

@@ -9,12 +9,13 @@ ghost use Rattle.rng_deriv.specs.Plain.{is_blank_text, is_element};
 ghost use Rattle.rng_deriv.specs.Residual.{AreCopied, Longer, tree_of};
 ghost use Rattle.rng_deriv.specs.Derivative.{IsAfter, StandsForItem};
 ghost use Rattle.rng_deriv.specs.Named.{ListsElements};
-ghost use Rattle.rng_deriv.specs.Taken.{AnswersContent, AnswersNode, AnswersNodes, AnswersPlain, IsAfterAttributes};
+ghost use Rattle.rng_deriv.specs.Taken.{AddsNodes, AnswersContent, AnswersNode, AnswersNodes, AnswersPlain, IsAfterAttributes};
 
 use crate::derivative::{Symbol, after, takes_text};
-use crate::names::{ElementNames, holds, is_blank};
+use crate::names::{ElementNames, is_blank};
 use crate::residual::{Residuals, residuals_of};
 use rng_model::{Attr, ElementId, Item, Name, OutOfMemory, SimpleGrammar};
+use rng_names::contains;
 use std::alloc::Global;
 use std::collections::{HashMap, HashSet};
 
@@ -113,12 +114,38 @@ fn elements_of(
     ensures found { IfOk result (AnswersNodes grammar.now (name_of name.now) (map attribute_of attrs.now) content.now) }
 {
     let mut found = HashSet::new(alloc);
-    'elements: for element in names.candidates(name) {
+    let named = names.named(name);
+    add_elements(
+        alloc, grammar, residuals, &mut found, named, name, attrs, content,
+    )?;
+    let others = names.others();
+    add_elements(
+        alloc, grammar, residuals, &mut found, others, name, attrs, content,
+    )?;
+    Ok(found)
+}
+
+/// Adds those of the candidates that a node with this name, these attributes and this content matches.
+fn add_elements(
+    alloc: Global,
+    grammar: &SimpleGrammar,
+    residuals: &mut Residuals,
+    found: &mut HashSet<usize>,
+    candidates: &[usize],
+    name: &Name,
+    attrs: &[Attr],
+    content: &[Symbol],
+) -> Result<(), OutOfMemory>
+    requires { AreCopied grammar.now residuals.old }
+    ensures longer { OnOk result (Longer residuals.old residuals.new) }
+    ensures found { OnOk result (AddsNodes grammar.now (name_of name.now) (map attribute_of attrs.now) content.now candidates.now found.old found.new) }
+{
+    'elements: for element in candidates {
         if takes_element(alloc, grammar, residuals, *element, name, attrs, content)? {
             found.insert(*element)?;
         }
     }
-    Ok(found)
+    Ok(())
 }
 
 /// Whether an element of the grammar matches a node.
@@ -138,7 +165,7 @@ fn takes_element(
     let Some((class, body)) = grammar.element(ElementId(element)) else {
         return Ok(false);
     };
-    if !holds(class, name) {
+    if !contains(class, name) {
         return Ok(false);
     }
     let left = after_attributes(alloc, grammar, residuals, attrs, body.0)?;

@@ -14,3 +14,6 @@ pub mod Texts
 pub mod Unfold
 pub mod Step
 pub mod SimpleForm
+pub mod Characters
+pub mod Blanks
+pub mod Types

@@ -1,5 +1,6 @@
 -- Names, name classes, and which names a class holds.
-use Rattle.std.specs.Prelude.{◌≡◌, ◌⊎◌, ℕ, List}
+use Rattle.std.specs.Prelude.{◌≡◌, ◌⊎◌, ℕ, List, [], ◌∷◌}
+use Rattle.std.specs.Str.{IsUtf8}
 
 -- an expanded name: a namespace, empty where there is none, and a local name, as the bytes of texts
 -- (Namespaces in XML 1.0, section 2.1)
@@ -21,6 +22,17 @@ mutual
     no_classes : NameClasses
     class_and : NameClass → NameClasses → NameClasses
 
+-- a list of classes as the members of a choice
+abbrev pub classes_of : List NameClass → NameClasses
+classes_of [] = no_classes
+classes_of (c ∷ cs) = class_and c (classes_of cs)
+
+-- a choice of any number of members: one alone is itself (RELAX NG Specification, section 4.12), none hold no name
+abbrev pub some_of : List NameClass → NameClass
+some_of [] = any_except any_name
+some_of (c ∷ []) = c
+some_of (c ∷ (d ∷ cs)) = one_of c d (classes_of cs)
+
 -- the class holds the name (RELAX NG Specification, section 6.1)
 abbrev mutual
   pub In : NameClass → Name → Type 0
@@ -34,3 +46,15 @@ abbrev mutual
   pub InSome : NameClasses → Name → Type 0
   InSome no_classes q = ⊥
   InSome (class_and c cs) q = In c q ⊎ InSome cs q
+
+-- both parts of the name are texts
+abbrev pub IsPairOfTexts : Name → Type 0
+IsPairOfTexts q = IsUtf8 q.ns × IsUtf8 q.local
+
+-- some name lies in both classes (RELAX NG Specification, section 7.3)
+abbrev pub Overlap : NameClass → NameClass → Type 0
+Overlap c d = (q : Name) × IsPairOfTexts q × In c q × In d q
+
+-- no name lies in both classes, whatever its bytes
+abbrev pub AreApart : NameClass → NameClass → Type 0
+AreApart c d = (q : Name) → In c q → ¬ (In d q)

@@ -1,5 +1,6 @@
 -- A simple grammar in tables, and the trees that it stands for.
-use Rattle.std.specs.Prelude.{◌≡◌, ℕ, ◌<◌, ⊤, List, [], ◌∷◌, ◌++◌, length, fold, map, All, slice_get, slice_index_or, Some}
+use Rattle.std.specs.Prelude.{◌≡◌, ℕ, ◌<◌, ⊤, List, [], ◌∷◌, ◌++◌, length, fold, map, All, slice_get, slice_index_or, Some, Bool, true, ◌==◌, ◌&&◌, IsTrue}
+use Rattle.std.specs.List.{list_all}
 use Rattle.rng_model.specs.Names as names
 use Rattle.rng_model.specs.Names.{In}
 use Rattle.rng_model.specs.Tree as tree
@@ -9,7 +10,8 @@ use Rattle.rng_model.specs.Matching.{Leaves, Texts, IsValid}
 use Rattle.rng_model.specs.Lex.{HasText}
 use Rattle.rng_model.specs.Written.{Nothing}
 use Rattle.rng_model.specs.View.{class_of}
-use Rattle.rng_model.specs.declared.name.NameClass.{NameClass}
+use Rattle.rng_model.specs.declared.name.NameClass.{NameClass, fold-NameClass}
+use Rattle.rng_model.specs.declared.name.NameClass.TheOpen.{NameClass-F}
 use Rattle.rng_model.specs.declared.simple.PatternId.{PatternId}
 use Rattle.rng_model.specs.declared.simple.Simple.{Simple}
 use Rattle.rng_model.specs.declared.simple.Simple.TheVariants as simple
@@ -87,6 +89,24 @@ abbrev pub IsLeafListed : ℕ → Simple → Type 0
 IsLeafListed n (simple.Element e) = e.0 < n
 IsLeafListed n _ = ⊤
 
+-- one level of: each choice has two members, told of the classes inside
+abbrev pub paired_step : NameClass-F Bool → Bool
+paired_step NameClass-F.Any = true
+paired_step (NameClass-F.AnyExcept except) = except.value
+paired_step (NameClass-F.Ns ns) = true
+paired_step (NameClass-F.NsExcept ns except) = except.value
+paired_step (NameClass-F.Name n) = true
+paired_step (NameClass-F.Choice all) = (length all.items == 2) && list_all (λ b. b) all.items
+
+-- each choice in a name class, at any depth, has two members (RELAX NG Specification, section 4.12)
+abbrev pub IsPaired : NameClass → Type 0
+IsPaired c = IsTrue (fold-NameClass Bool paired_step c)
+
+-- the same of the name class of an attribute
+abbrev pub IsClassPaired : Simple → Type 0
+IsClassPaired (simple.Attribute class body) = IsPaired class
+IsClassPaired _ = ⊤
+
 -- each pattern's children stand before it
 abbrev pub Falls : List Simple → Type 0
 Falls ps = (i : ℕ) (p : Simple) → slice_get ps i ≡ Some p → AreChildrenBelow i p
@@ -96,3 +116,5 @@ pub record IsTable (t : Table) : Type 0 where
   pub bodies : All (λ e. e.1.0 < length t.patterns) t.elements
   pub falls : Falls t.patterns
   pub listed : All (IsLeafListed (length t.elements)) t.patterns
+  pub paired : All IsClassPaired t.patterns
+  pub paired_elements : All (λ e. IsPaired e.0) t.elements

@@ -9,8 +9,9 @@ use std::marker::Model;
 /// A grammar in simple form: a table of patterns, a table of elements (a name class and a body each), and the start.
 ///
 /// RELAX NG Specification, section 5. The start and each body are positions in the table of patterns, a child's
-/// position is smaller than its parent's, and every ref is a position in the table of elements. Contracts see the
-/// tables; `Rattle.rng_model.specs.Table.grammar_of` gives the trees that they stand for.
+/// position is smaller than its parent's, every ref is a position in the table of elements, and every choice in a
+/// name class has two members. Contracts see the tables; `Rattle.rng_model.specs.Table.grammar_of` gives the trees
+/// that they stand for.
 #[derive(Debug, Drop)]
 pub struct SimpleGrammar {
     patterns: Vec<Simple>,
@@ -22,6 +23,11 @@ impl Model for SimpleGrammar {
     ghost use Rattle.rng_model.specs.Table.{Table, IsTable};
 
     ghost Value = { Table };
+
+    ghost use Rattle.rng_model.specs.contracts.name.NameClass as classes;
+    ghost use Rattle.std.specs.Coded.{codes};
+
+    ghost coded = { Prim.hlevel (codes, classes.the_row.coded) };
 
     ghost view = { λ g. record { patterns = g.patterns.items; elements = g.elements.items; start = g.start } };
 

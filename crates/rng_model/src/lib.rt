@@ -5,6 +5,8 @@
 //! simple grammar in order, and count the failed calls of a reader or a writer.
 #![tactic(auto)]
 
+mod blanks;
+mod character;
 mod device;
 mod document;
 mod fault;
@@ -14,7 +16,12 @@ mod pattern;
 mod simple;
 #[cfg(test)]
 mod tests;
+#[cfg(test)]
+mod text_tests;
+mod type_use;
 
+pub use blanks::{Pieces, collapse, split_blanks};
+pub use character::{is_name_char, is_name_start, is_ncname, is_xml_char};
 pub use device::{Device, DeviceFault};
 pub use document::{Attr, Item};
 pub use fault::{OutOfMemory, SchemaFault};
@@ -22,3 +29,4 @@ pub use grammar::SimpleGrammar;
 pub use name::{Name, NameClass};
 pub use pattern::Pattern;
 pub use simple::{ElementId, PatternId, Simple};
+pub use type_use::TypeUse;

@@ -11,9 +11,20 @@ pub struct Name {
 
 /// A set of names.
 ///
-/// RELAX NG Specification, section 6.1.
+/// RELAX NG Specification, section 6.1; Compact Syntax, section 3. A choice has its members as they are written; one
+/// of no members holds no name. Any class may stand in an except.
 #[derive(Debug, Drop)]
 pub enum NameClass {
+    /// Every name: `*`.
+    Any,
+    /// Every name but those of the class: `* - class`.
+    AnyExcept(Box<NameClass>),
+    /// Every name of the namespace, empty for names without one: `p:*`.
+    Ns(String),
+    /// Every name of the namespace but those of the class: `p:* - class`.
+    NsExcept(String, Box<NameClass>),
     /// This name alone.
     Name(Name),
+    /// The names of each member: members joined by `|`.
+    Choice(Vec<NameClass>),
 }

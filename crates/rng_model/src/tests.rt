@@ -1,4 +1,7 @@
 // What no contract says: that working devices are not counted as failed, and the calls once on their happy path.
+ghost use Rattle.std.specs.Prelude.{IfOk};
+ghost use Rattle.rng_model.specs.Table.{IsPaired};
+
 use crate::{Device, DeviceFault, ElementId, Name, NameClass, PatternId, Simple, SimpleGrammar};
 use std::alloc::{AllocError, Global};
 use std::io;
@@ -58,16 +61,30 @@ fn counts_failed_writes_alone(rt: HostRuntime) -> Result<(), Fail> {
     Ok(())
 }
 
-fn class(alloc: Global, local: &str) -> Result<NameClass, AllocError> {
-    Ok(NameClass::Name(Name {
-        ns: String::new(alloc),
+fn name(alloc: Global, ns: &str, local: &str) -> Result<Name, AllocError> {
+    Ok(Name {
+        ns: String::from_str(alloc, ns)?,
         local: String::from_str(alloc, local)?,
-    }))
+    })
+}
+
+/// `p:* - (p:a | p:b) | * - x`, of two members on each level.
+fn wide_class(alloc: Global) -> Result<NameClass, AllocError>
+    ensures { IfOk result IsPaired }
+{
+    let refused = NameClass::Choice(vec![in alloc;
+        NameClass::Name(name(alloc, "p", "a")?),
+        NameClass::Name(name(alloc, "p", "b")?),
+    ]?);
+    let of_p = NameClass::NsExcept(String::from_str(alloc, "p")?, Box::new(alloc, refused)?);
+    let x = NameClass::Name(name(alloc, "", "x")?);
+    let others = NameClass::AnyExcept(Box::new(alloc, x)?);
+    Ok(NameClass::Choice(vec![in alloc; of_p, others]?))
 }
 
 /// An element that is empty or has an attribute with any text.
 fn small_grammar(alloc: Global) -> Result<SimpleGrammar, AllocError> {
-    let attribute = class(alloc, "x")?;
+    let attribute = NameClass::Name(name(alloc, "", "x")?);
     let patterns = vec![in alloc;
         Simple::Empty,
         Simple::Text,
@@ -75,7 +92,7 @@ fn small_grammar(alloc: Global) -> Result<SimpleGrammar, AllocError> {
         Simple::Choice(PatternId(0), PatternId(2)),
         Simple::Element(ElementId(0)),
     ]?;
-    let elements = vec![in alloc; (class(alloc, "a")?, PatternId(3))]?;
+    let elements = vec![in alloc; (wide_class(alloc)?, PatternId(3))]?;
     Ok(SimpleGrammar::new(patterns, elements, PatternId(4)))
 }
 
@@ -96,7 +113,12 @@ fn reads_a_grammar(rt: HostRuntime) -> Result<(), Fail> {
         )
     );
     assert!(rt; grammar.pattern(PatternId(5)).is_none());
-    assert!(rt; matches!(grammar.element(ElementId(0)), Some((_, PatternId(3)))));
+    assert!(rt;
+        matches!(
+            grammar.element(ElementId(0)),
+            Some((NameClass::Choice(_), PatternId(3)))
+        )
+    );
     assert!(rt; grammar.element(ElementId(1)).is_none());
     Ok(())
 }

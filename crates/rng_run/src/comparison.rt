@@ -19,9 +19,9 @@ struct Chosen<'a> {
     bits: u32,
 }
 
+/// Schemas of the fragment have plain names alone.
 fn holds(class: &NameClass, name: &Name) -> bool {
-    let NameClass::Name(only) = class;
-    only == name
+    matches!(class, NameClass::Name(only) if only == name)
 }
 
 fn is_blank(text: &str) -> bool {

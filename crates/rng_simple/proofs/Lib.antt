@@ -17,6 +17,7 @@ pub mod Renamed
 pub mod Listed
 pub mod Making
 pub mod Members
+pub mod Nesting
 pub mod Views
 pub mod Numbered
 pub mod Examples

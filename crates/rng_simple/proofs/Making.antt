@@ -11,7 +11,6 @@ use Rattle.rng_model.specs.Unfold.{Leaf, leaf_at, main, tree_of, body_of}
 use Rattle.rng_model.specs.SimpleForm.{LeafIn, IsReached, AreLeavesBelow}
 use Rattle.rng_model.specs.SimpleForm as f
 use Rattle.rng_model.specs.declared.name.NameClass.{NameClass}
-use Rattle.rng_model.specs.declared.name.NameClass.TheVariants as classes
 use Rattle.rng_model.specs.declared.simple.PatternId.{PatternId}
 use Rattle.rng_simple.specs.Draft.{Tables, Extends}
 use Rattle.rng_simple.specs.Part.{Keeps}
@@ -83,10 +82,6 @@ makes_text d e tree more same is x ls has = made_same (IsWithin x) ls e s_text t
 
 -- ---- attributes
 
--- the code's classes are nested as they stand
-pub nested_is : (c : NameClass) → nested (class_of c) ≡ class_of c
-nested_is (classes.Name n) = refl
-
 attribute_proper : (x : Sort) (c : names.NameClass) (s : Simple Leaf) → (x ≡ nothing → ⊥) → attribute_by x c s ≡ s_attribute c s
 attribute_proper nothing c s n = absurd (n refl)
 attribute_proper blank c s n = refl
@@ -105,24 +100,24 @@ makes_no_attribute old d tree c p e body x ls has =
 attribute_leaves : (n : ℕ) (c : names.NameClass) (s : Simple ℕ) → AreLeavesBelow n (as_tree s) → AreLeavesBelow n (as_tree (s_attribute c s))
 attribute_leaves n c s b k (f.of_attribute i) = b k i
 
-pub makes_attribute : (old d e : Tables) (body tree : Simple ℕ) (c : NameClass) (p : written.Pattern) →
-    Extends d e → e.elements ≡ d.elements → (sort_of body ≡ nothing → ⊥) → tree ≡ s_attribute (class_of c) body → Makes old d body p → Makes old e tree (written.attribute (class_of c) p)
+pub makes_attribute : (old d e : Tables) (body tree : Simple ℕ) (c : names.NameClass) (p : written.Pattern) →
+    Extends d e → e.elements ≡ d.elements → (sort_of body ≡ nothing → ⊥) → tree ≡ s_attribute (nested c) body → Makes old d body p → Makes old e tree (written.attribute c p)
 unfolding simple_of join_all
 makes_attribute old d e body tree c p more same some is makes x ls has =
     let m = makes (0 ∷ x) ls has in
     let form = simple_of (tree_of main (0 ∷ x) p) in
     let sort : sort_of form ≡ sort_of body = ap (λ (s : Simple Leaf). sort_of s) (sym m.is) ∙ renamed_sort (element_at (ls ++ m.more)) body in
-    let named : attribute_by (sort_of form) (nested (class_of c)) form ≡ s_attribute (class_of c) form = attribute_proper (sort_of form) (nested (class_of c)) form (λ z. some (sym sort ∙ z)) ∙ ap (λ d. s_attribute d form) (nested_is c) in
-    let made : IsMade (IsWithin x) ls d (s_attribute (class_of c) body) (s_attribute (class_of c) form) = record {
+    let named : attribute_by (sort_of form) (nested c) form ≡ s_attribute (nested c) form = attribute_proper (sort_of form) (nested c) form (λ z. some (sym sort ∙ z)) in
+    let made : IsMade (IsWithin x) ls d (s_attribute (nested c) body) (s_attribute (nested c) form) = record {
       more = m.more;
       lists = m.lists;
-      below = attribute_leaves (length (ls ++ m.more)) (class_of c) body m.below;
-      is = ap (s_attribute (class_of c)) m.is;
-      reached = All-weaker (IsReached (as_tree form)) (IsReached (attribute (class_of c) (as_tree form))) (λ l r. reached_more (as_tree form) (attribute (class_of c) (as_tree form)) (λ k i. f.of_attribute i) r) m.more m.reached;
+      below = attribute_leaves (length (ls ++ m.more)) (nested c) body m.below;
+      is = ap (s_attribute (nested c)) m.is;
+      reached = All-weaker (IsReached (as_tree form)) (IsReached (attribute (nested c) (as_tree form))) (λ l r. reached_more (as_tree form) (attribute (nested c) (as_tree form)) (λ k i. f.of_attribute i) r) m.more m.reached;
       within = All-weaker (λ l. IsWithin (0 ∷ x) l.position) (λ l. IsWithin x l.position) (λ l. within_child x 0 l.position) m.more m.within;
       distinct = m.distinct;
     } in
-    subst (IsMade (IsWithin x) ls e tree) (sym named) (made_stays (IsWithin x) ls d e tree (s_attribute (class_of c) form) more same (made_same (IsWithin x) ls d (s_attribute (class_of c) body) tree (s_attribute (class_of c) form) is made))
+    subst (IsMade (IsWithin x) ls e tree) (sym named) (made_stays (IsWithin x) ls d e tree (s_attribute (nested c) form) more same (made_same (IsWithin x) ls d (s_attribute (nested c) body) tree (s_attribute (nested c) form) is made))
 
 -- ---- elements
 
@@ -161,10 +156,10 @@ element_made x ls d e g body tree number l entry at m inside is class ps es more
     } in
     made_same (IsWithin x) ls g (s_leaf number) tree (s_leaf l) t made
 
-pub makes_element : (old d e g : Tables) (body tree : Simple ℕ) (number : ℕ) (c : NameClass) (entry : NameClass × PatternId) (p : written.Pattern) →
-    Makes old d body p → entry.1.0 < length d.patterns → tree_at d.patterns entry.1 ≡ body → class_of entry.0 ≡ class_of c →
+pub makes_element : (old d e g : Tables) (body tree : Simple ℕ) (number : ℕ) (c : names.NameClass) (entry : NameClass × PatternId) (p : written.Pattern) →
+    Makes old d body p → entry.1.0 < length d.patterns → tree_at d.patterns entry.1 ≡ body → class_of entry.0 ≡ nested c →
     e.patterns ≡ d.patterns → e.elements ≡ d.elements ++ entry ∷ [] → Extends e g → g.elements ≡ e.elements → number ≡ length d.elements → tree ≡ s_leaf number →
-    Makes old g tree (written.element (class_of c) p)
+    Makes old g tree (written.element c p)
 unfolding simple_of join_all
 makes_element old d e g body tree number c entry p makes inside is class ps es more same n t x ls has =
-    element_made x ls d e g body tree number (leaf_at main (an_element x (class_of c) p)) entry refl (makes (0 ∷ x) ls has) inside is (class ∙ sym (nested_is c)) ps es more same n t
+    element_made x ls d e g body tree number (leaf_at main (an_element x c p)) entry refl (makes (0 ∷ x) ls has) inside is class ps es more same n t

@@ -1,6 +1,6 @@
 -- The tables of a grammar that is being made.
 use Rattle.std.specs.Prelude.{◌≡◌, ◌<◌, List, length, take, All}
-use Rattle.rng_model.specs.Table.{Falls, IsLeafListed, tree_at}
+use Rattle.rng_model.specs.Table.{Falls, IsClassPaired, IsLeafListed, IsPaired, tree_at}
 use Rattle.rng_model.specs.Tree.{IsSimpleBody}
 use Rattle.rng_model.specs.declared.name.NameClass.{NameClass}
 use Rattle.rng_model.specs.declared.simple.PatternId.{PatternId}
@@ -11,12 +11,15 @@ pub record Tables : Type 0 where
   pub patterns : List Simple
   pub elements : List (NameClass × PatternId)
 
--- children stand before their parents, refs are to listed elements, and each body is there and in the simple syntax
+-- children stand before their parents, refs are to listed elements, each body is there and in the simple syntax, and each
+-- choice in a name class has two members
 pub record IsDraft (d : Tables) : Type 0 where
   pub bodies : All (λ e. e.1.0 < length d.patterns) d.elements
   pub simple : All (λ e. IsSimpleBody (tree_at d.patterns e.1)) d.elements
   pub falls : Falls d.patterns
   pub listed : All (IsLeafListed (length d.elements)) d.patterns
+  pub paired : All IsClassPaired d.patterns
+  pub paired_elements : All (λ e. IsPaired e.0) d.elements
 
 -- what the tables held when they were as long as the mark says
 abbrev pub cut : Mark → Tables → Tables

@@ -1,6 +1,6 @@
 // The tables of a grammar that is being made.
 ghost use Rattle.std.specs.Prelude.{◌≡◌, ◌<◌, ◌≤◌, [], ◌∷◌, ◌++◌, length, All, IfOk, OnErr, OnOk};
-ghost use Rattle.rng_model.specs.Table.{AreChildrenBelow, IsLeafListed, shape, tree_at};
+ghost use Rattle.rng_model.specs.Table.{AreChildrenBelow, IsClassPaired, IsLeafListed, IsPaired, shape, tree_at};
 ghost use Rattle.rng_model.specs.Tree.{IsSimpleBody};
 ghost use Rattle.rng_simple.specs.Draft.{IsDraft, cut};
 
@@ -24,8 +24,12 @@ pub struct Mark {
 
 impl Model for Draft {
     ghost use Rattle.rng_simple.specs.Draft.{Tables, IsDraft};
+    ghost use Rattle.rng_model.specs.contracts.name.NameClass as classes;
+    ghost use Rattle.std.specs.Coded.{codes};
 
     ghost Value = { Tables };
+
+    ghost coded = { Prim.hlevel (codes, classes.the_row.coded) };
 
     ghost view = { λ d. record { patterns = d.patterns.items; elements = d.elements.items } };
 
@@ -55,10 +59,11 @@ impl Draft {
         }
     }
 
-    /// Adds a pattern whose children and whose element are there.
+    /// Adds a pattern whose children and whose element are there, each choice in its name class of two members.
     pub fn push(&mut self, pattern: Simple) -> Result<PatternId, AllocError>
         requires below { AreChildrenBelow (length self.old.patterns) pattern }
         requires listed { IsLeafListed (length self.old.elements) pattern }
+        requires paired { IsClassPaired pattern }
         ensures id { IfOk result (λ id. id.0 ≡ length self.old.patterns) }
         ensures there { IfOk result (λ id. id.0 < length self.new.patterns) }
         ensures ok { OnOk result (self.new ≡ record self.old { patterns = self.old.patterns ++ pattern ∷ [] }) }
@@ -78,6 +83,7 @@ impl Draft {
     ) -> Result<ElementId, AllocError>
         requires body { body.0 < length self.old.patterns }
         requires simple { IsSimpleBody (tree_at self.old.patterns body) }
+        requires paired { IsPaired class }
         ensures id { IfOk result (λ id. id.0 ≡ length self.old.elements) }
         ensures ok { OnOk result (self.new ≡ record self.old { elements = self.old.elements ++ (class, body) ∷ [] }) }
         ensures err { OnErr result (self.new ≡ self.old) }

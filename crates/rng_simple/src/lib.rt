@@ -6,6 +6,7 @@
 #![tactic(auto)]
 
 mod draft;
+mod name_class;
 mod schema;
 mod simplification;
 #[cfg(test)]

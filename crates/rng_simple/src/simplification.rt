@@ -8,7 +8,7 @@ ghost use Rattle.rng_model.specs.SimpleForm.{
 };
 ghost use Rattle.rng_model.specs.Table.{IsInSimpleSyntax, grammar_of, tree_at};
 ghost use Rattle.rng_model.specs.Tree.{IsSimpleBody, choice, group, s_empty, s_joined};
-ghost use Rattle.rng_model.specs.View.{class_of, pattern_of};
+ghost use Rattle.rng_model.specs.View.{pattern_of};
 ghost use Rattle.rng_model.specs.Written.{members};
 ghost use Rattle.rng_simple.specs.Draft.{Extends, IsDraft, cut};
 ghost use Rattle.rng_simple.specs.Made.{Makes};
@@ -17,9 +17,10 @@ ghost use Rattle.rng_simple.specs.Part.{IsCutOrKept, IsPart, Keeps, part_tree};
 ghost use Rattle.rng_simple.specs.SimpleOf.{join};
 
 use crate::draft::{Draft, Mark};
+use crate::name_class::nested;
 use crate::schema::Schema;
-use rng_model::{Name, NameClass, Pattern, PatternId, SchemaFault, Simple, SimpleGrammar};
-use std::alloc::{AllocError, Global};
+use rng_model::{Pattern, PatternId, SchemaFault, Simple, SimpleGrammar};
+use std::alloc::Global;
 
 /// What a pattern has become. `NotAllowed` and `Empty` have no place in the table yet, since the pattern around them
 /// may vanish with them.
@@ -62,7 +63,7 @@ fn part_of(alloc: Global, draft: &mut Draft, pattern: &Pattern) -> Result<Part, 
         Pattern::Element(class, body) => {
             let body = part_of(alloc, draft, body)?;
             let body = placed(draft, body)?;
-            let element = draft.push_element(copied(alloc, class)?, body)?;
+            let element = draft.push_element(nested(alloc, class)?, body)?;
             Ok(Part::Pattern(draft.push(Simple::Element(element))?))
         }
         Pattern::Attribute(class, body) => {
@@ -71,7 +72,7 @@ fn part_of(alloc: Global, draft: &mut Draft, pattern: &Pattern) -> Result<Part, 
                 return Ok(Part::NotAllowed);
             }
             let body = placed(draft, body)?;
-            let class = copied(alloc, class)?;
+            let class = nested(alloc, class)?;
             Ok(Part::Pattern(draft.push(Simple::Attribute(class, body))?))
         }
         Pattern::Group(all) => group_of(alloc, draft, all),
@@ -177,16 +178,5 @@ fn placed(draft: &mut Draft, part: Part) -> Result<PatternId, SchemaFault>
         Part::NotAllowed => Ok(draft.push(Simple::NotAllowed)?),
         Part::Empty => Ok(draft.push(Simple::Empty)?),
         Part::Pattern(id) => Ok(id),
-    }
-}
-
-fn copied(alloc: Global, class: &NameClass) -> Result<NameClass, AllocError>
-    ensures { IfOk result (λ copy. class_of copy ≡ class_of class.now) }
-{
-    match class {
-        NameClass::Name(name) => Ok(NameClass::Name(Name {
-            ns: String::from_str(alloc, name.ns.as_str())?,
-            local: String::from_str(alloc, name.local.as_str())?,
-        })),
     }
 }

@@ -29,6 +29,36 @@ fn choice(alloc: Global, first: Pattern, second: Pattern) -> Result<Pattern, All
     Ok(Pattern::Choice(vec![in alloc; first, second]?))
 }
 
+/// A name class as a text, each choice in parentheses, names and namespaces alone.
+#[cycle(shown)]
+fn class_text(alloc: Global, class: &NameClass) -> Result<String, AllocError> {
+    match class {
+        NameClass::Any => String::from_str(alloc, "*"),
+        NameClass::AnyExcept(except) => {
+            let except = class_text(alloc, except)?;
+            format!(in alloc; "*-{except}")
+        }
+        NameClass::Ns(ns) => format!(in alloc; "{ns}:*"),
+        NameClass::NsExcept(ns, except) => {
+            let except = class_text(alloc, except)?;
+            format!(in alloc; "{ns}:*-{except}")
+        }
+        NameClass::Name(name) => String::from_str(alloc, name.local.as_str()),
+        NameClass::Choice(members) => members_text(alloc, members),
+    }
+}
+
+#[cycle(shown)]
+fn members_text(alloc: Global, members: &[NameClass]) -> Result<String, AllocError> {
+    let mut text = String::from_str(alloc, "(")?;
+    for member in members {
+        text.push_str(class_text(alloc, member)?.as_str())?;
+        text.push_str(";")?;
+    }
+    text.push_str(")")?;
+    Ok(text)
+}
+
 /// One pattern of a table as a text, its children by their places.
 fn pattern_text(alloc: Global, pattern: &Simple) -> Result<String, AllocError> {
     match pattern {
@@ -36,9 +66,9 @@ fn pattern_text(alloc: Global, pattern: &Simple) -> Result<String, AllocError> {
         Simple::Empty => String::from_str(alloc, "empty"),
         Simple::Text => String::from_str(alloc, "text"),
         Simple::Element(ElementId(number)) => format!(in alloc; "e{number}"),
-        Simple::Attribute(NameClass::Name(name), PatternId(body)) => {
-            let local = &name.local;
-            format!(in alloc; "@{local} {body}")
+        Simple::Attribute(class, PatternId(body)) => {
+            let class = class_text(alloc, class)?;
+            format!(in alloc; "@{class} {body}")
         }
         Simple::Group(PatternId(a), PatternId(b)) => format!(in alloc; "{a},{b}"),
         Simple::Choice(PatternId(a), PatternId(b)) => format!(in alloc; "{a}|{b}"),
@@ -55,9 +85,9 @@ fn shown(alloc: Global, grammar: &SimpleGrammar) -> Result<String, AllocError> {
         }
     }
     for place in 0..32 {
-        if let Some((NameClass::Name(name), PatternId(body))) = grammar.element(ElementId(place)) {
-            let local = &name.local;
-            text.push_str(format!(in alloc; "{local} {body}; ")?.as_str())?;
+        if let Some((class, PatternId(body))) = grammar.element(ElementId(place)) {
+            let class = class_text(alloc, class)?;
+            text.push_str(format!(in alloc; "{class} {body}; ")?.as_str())?;
         }
     }
     let PatternId(start) = grammar.start();
@@ -181,5 +211,59 @@ fn a_long_choice_is_a_loop(rt: HostRuntime) -> Result<(), Fail> {
     }
     let grammar = simplify(alloc, &Schema::single(Pattern::Choice(members)))?;
     assert!(rt; grammar.start() == PatternId(399_998));
+    Ok(())
+}
+
+/// A choice of three names.
+fn three_names(alloc: Global) -> Result<NameClass, AllocError> {
+    Ok(NameClass::Choice(vec![in alloc;
+        class(alloc, "x")?,
+        class(alloc, "y")?,
+        class(alloc, "z")?,
+    ]?))
+}
+
+/// The tables of `element CLASS { empty }`.
+fn with_class(alloc: Global, class: NameClass) -> Result<String, SchemaFault> {
+    let body = Box::new(alloc, Pattern::Empty)?;
+    simple(alloc, Pattern::Element(class, body))
+}
+
+#[test]
+fn name_classes_nest_in_twos_from_the_left(rt: HostRuntime) -> Result<(), Fail> {
+    let alloc = rt.alloc();
+    assert_eq!(rt;
+        with_class(alloc, three_names(alloc)?)?.as_str(),
+        "empty; e0; ((x;y;);z;) 0; start 1"
+    );
+    let except = Box::new(alloc, three_names(alloc)?)?;
+    let class = NameClass::NsExcept(String::from_str(alloc, "u")?, except);
+    assert_eq!(rt;
+        with_class(alloc, class)?.as_str(),
+        "empty; e0; u:*-((x;y;);z;) 0; start 1"
+    );
+    let except = Box::new(alloc, three_names(alloc)?)?;
+    let body = Box::new(alloc, Pattern::Text)?;
+    let attribute = Pattern::Attribute(NameClass::AnyExcept(except), body);
+    assert_eq!(rt;
+        with_body(alloc, attribute)?.as_str(),
+        "text; @*-((x;y;);z;) 0; e0; a 1; start 2"
+    );
+    Ok(())
+}
+
+#[test]
+fn a_choice_of_fewer_than_two_members(rt: HostRuntime) -> Result<(), Fail> {
+    let alloc = rt.alloc();
+    let alone = NameClass::Choice(vec![in alloc; class(alloc, "x")?]?);
+    assert_eq!(rt;
+        with_class(alloc, alone)?.as_str(),
+        "empty; e0; x 0; start 1"
+    );
+    let none = NameClass::Choice(Vec::new(alloc));
+    assert_eq!(rt;
+        with_class(alloc, none)?.as_str(),
+        "empty; e0; *-* 0; start 1"
+    );
     Ok(())
 }

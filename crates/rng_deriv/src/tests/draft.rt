@@ -1,7 +1,7 @@
 // Grammars and documents for the tests.
 ghost use Rattle.std.specs.Prelude.{IfOk};
 ghost use Rattle.std.specs.Bool.{OnTrue};
-ghost use Rattle.rng_model.specs.Table.{AreChildrenBelow, IsLeafListed};
+ghost use Rattle.rng_model.specs.Table.{AreChildrenBelow, IsClassPaired, IsLeafListed, IsPaired};
 ghost use Rattle.rng_model.specs.View.{item_of};
 ghost use Rattle.rng_deriv.specs.WellFormed.{IsWellFormed};
 
@@ -21,16 +21,20 @@ pub struct Draft {
 
 impl Model for Draft {
     ghost use Rattle.std.specs.Prelude.{◌<◌, ℕ, List, length, All};
-    ghost use Rattle.rng_model.specs.Table.{Falls, IsLeafListed};
+    ghost use Rattle.rng_model.specs.Table.{Falls, IsClassPaired, IsLeafListed, IsPaired};
     ghost use Rattle.rng_model.specs.declared.simple.Simple.{Simple};
     ghost use Rattle.rng_model.specs.declared.simple.PatternId.{PatternId};
     ghost use Rattle.rng_model.specs.declared.name.NameClass.{NameClass};
+    ghost use Rattle.rng_model.specs.contracts.name.NameClass as classes;
+    ghost use Rattle.std.specs.Coded.{codes};
 
     ghost Value = { List Simple × List (NameClass × PatternId) × ℕ };
 
+    ghost coded = { Prim.hlevel (codes, classes.the_row.coded) };
+
     ghost view = { λ d. (d.patterns.items, d.elements.items, d.count) };
 
-    ghost invariant = { λ d. Falls d.patterns.items × All (IsLeafListed d.count) d.patterns.items × All (λ e. e.1.0 < length d.patterns.items) d.elements.items };
+    ghost invariant = { λ d. Falls d.patterns.items × All (IsLeafListed d.count) d.patterns.items × All (λ e. e.1.0 < length d.patterns.items) d.elements.items × All IsClassPaired d.patterns.items × All (λ e. IsPaired e.0) d.elements.items };
 }
 
 impl Draft {
@@ -55,11 +59,18 @@ impl Draft {
 
     /// Adds the next element.
     pub fn list(&mut self, alloc: Global, local: &str, body: PatternId) -> Result<(), Fail> {
+        self.list_class(NameClass::Name(name(alloc, local)?), body)
+    }
+
+    /// Adds the next element, with any name class whose choices have two members each.
+    pub fn list_class(&mut self, class: NameClass, body: PatternId) -> Result<(), Fail> {
         if body.0 >= self.patterns.len() {
             return Err(Fail::from("the body is not there"));
         }
-        self.elements
-            .push((NameClass::Name(name(alloc, local)?), body))?;
+        if !is_paired(&class) {
+            return Err(Fail::from("a choice has not two members"));
+        }
+        self.elements.push((class, body))?;
         Ok(())
     }
 
@@ -72,13 +83,27 @@ impl Draft {
     }
 }
 
-/// Whether the sides of a pattern are below `next`, and its ref below `count`.
+/// Whether each choice in a class has two members.
+fn is_paired(class: &NameClass) -> bool
+    ensures { OnTrue result (IsPaired class.now) }
+{
+    match class {
+        NameClass::Any | NameClass::Ns(_) | NameClass::Name(_) => true,
+        NameClass::AnyExcept(except) | NameClass::NsExcept(_, except) => is_paired(except),
+        NameClass::Choice(members) => match members.as_slice() {
+            [first, second] => is_paired(first) && is_paired(second),
+            _ => false,
+        },
+    }
+}
+
+/// Whether the sides of a pattern are below `next`, its ref below `count`, and its name class is paired.
 fn fits(pattern: &Simple, next: usize, count: usize) -> bool
-    ensures { OnTrue result (AreChildrenBelow next pattern.now × IsLeafListed count pattern.now) }
+    ensures { OnTrue result (AreChildrenBelow next pattern.now × IsLeafListed count pattern.now × IsClassPaired pattern.now) }
 {
     match pattern {
         Simple::Element(element) => element.0 < count,
-        Simple::Attribute(_, body) => body.0 < next,
+        Simple::Attribute(class, body) => body.0 < next && is_paired(class),
         Simple::Group(first, second) | Simple::Choice(first, second) => {
             first.0 < next && second.0 < next
         }

@@ -160,15 +160,15 @@ leaf_after-returns-in_ok-takes-in-Attribute-symbol-clause-left t c =
     let taken = subst (λ u. IsDerivative (grammar_of g) u found (cond takes s_empty s_not_allowed)) (sym c.in-Attribute-symbol.is) c.in_ok-takes-in-Attribute-symbol.ensures.left in
     subst (λ n. IsLeftOfLeaf g rs s c.args.number n) (sym c.empty_if-in-Attribute-symbol.ensures) (left_empty_if g rs s _ takes _ (c.at.ensures.tree g ∙ ap (shape g (tree_of g rs)) c.in-Attribute.is) taken)
 
-pub takes_attribute-returns-else-not-holds-clause-left : goal.takes_attribute-returns-else-not-holds-clause-left
-takes_attribute-returns-else-not-holds-clause-left t c =
+pub takes_attribute-returns-else-not-contains-clause-left : goal.takes_attribute-returns-else-not-contains-clause-left
+takes_attribute-returns-else-not-contains-clause-left t c =
     let g = c.args.grammar.now in
     let k = c.args.pattern.0 in
     let class = c.in-Some-Attribute.class in
     let body = c.in-Some-Attribute.body in
     let found = sym c.in-Some-Attribute.ensures.value ∙ ap Some c.in-Some-Attribute.field-0-is in
     let below = subst (AreChildrenBelow k) c.in-Some-Attribute.field-0-is c.in-Some-Attribute.ensures.below in
-    IfOk-weaker c.takes_text.result _ _ (λ takes test. attribute_answer g c.args.residuals.now k class body c.args.attr.now _ takes c.requires found below (c.if-not-holds.ensures.0 refl) c.as_str.ensures.value test) c.takes_text.ensures.takes
+    IfOk-weaker c.takes_text.result _ _ (λ takes test. attribute_answer g c.args.residuals.now k class body c.args.attr.now _ takes c.requires found below (c.if-not-contains.ensures.0 refl) c.as_str.ensures.value test) c.takes_text.ensures.takes
 
 pub takes_text-returns-clause-takes : goal.takes_text-returns-clause-takes
 takes_text-returns-clause-takes t c =

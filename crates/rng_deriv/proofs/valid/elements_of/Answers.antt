@@ -1,47 +1,23 @@
-use Rattle.std.proofs.Common.{◌≡◌, ◌↔◌, ◌+◌, ◌<◌, ℕ, true, nat_eq, IsTrue, arith, sym, ap, ◌∙◌, subst, length, map, take, get_or}
-use Rattle.std.proofs.lemmas.List.{get_or_default, take_all}
+use Rattle.std.proofs.Common.{◌≡◌, ◌∙◌, ℕ, ◌++◌, false, nat_eq, ap, map}
 use Rattle.std.specs.HashSet.{contains}
+use Rattle.std.specs.List.{list_any}
 use Rattle.rng_model.specs.Table.{grammar_of}
 use Rattle.rng_model.specs.View.{attribute_of, name_of}
-use Rattle.rng_deriv.specs.Named.{has_number}
+use Rattle.rng_deriv.specs.Named.{has_number, listed_under}
 use Rattle.rng_deriv.specs.Taken.{TakesNode}
-use Rattle.rng_deriv.proofs.Follows.{AreCopied-longer, Longer-trans}
-use Rattle.rng_deriv.proofs.Loops.{candidate_in, candidate_out, is_candidate, taken_more}
+use Rattle.rng_deriv.proofs.Follows.{AreCopied-longer}
+use Rattle.rng_deriv.proofs.Loops.{both_found, is_candidate}
 use Rattle.rng_deriv.proofs.valid.elements_of.Goals as goal
-use Rattle.rng_deriv.proofs.valid.elements_of.Goals.{then-branch+in_ok-insert, else-branch}
 
-pub elements-preserved : goal.elements-preserved
-elements-preserved c =
-    let t = c.args.grammar.now in
-    let items = c.candidates-element-items.result.now in
-    let i = c.elements.element-index in
-    let element = get_or items i 0 in
-    let inside : i < length items = c.elements-test.true in
-    let more = taken_more items i element inside (get_or_default items i 0 element inside) in
-    record {
-      longer = Longer-trans _ _ _ c.elements.invariant.longer c.in_ok-takes_element.ensures.longer;
-      copied = AreCopied-longer t _ _ c.in_ok-takes_element.ensures.longer c.elements.invariant.copied;
-      found = λ ns stand tests k.
-          let P : ℕ → Type 0 = λ j. TakesNode (grammar_of t) tests j (name_of c.args.name.now) (map attribute_of c.args.attrs.now) ns in
-          let answer = c.in_ok-takes_element.ensures.takes ns stand tests in
-          let inv = c.elements.invariant.found ns stand tests in
-          elim c.if-branch.branch [
-            | then-branch+in_ok-insert w ↦
-                let grown = candidate_in P (λ j. contains nat_eq c.elements.found j) (λ j. contains nat_eq w.insert.new.self j) (take i items) element (answer.0 w.if-branch.true) w.in_ok-insert.ensures.updates.0 inv k in
-                subst (λ s. IsTrue (contains nat_eq s k) ↔ ((has_number (take (i + 1) items) k ≡ true) × P k)) (sym w.found-is) (subst (λ l. IsTrue (contains nat_eq w.insert.new.self k) ↔ ((has_number l k ≡ true) × P k)) (sym more) grown)
-            | else-branch w ↦
-                let same = candidate_out P (λ j. contains nat_eq c.elements.found j) (take i items) element (λ h. let e = answer.1 h in let f = w.if-branch.false in absurd (cc)) inv k in
-                subst (λ s. IsTrue (contains nat_eq s k) ↔ ((has_number (take (i + 1) items) k ≡ true) × P k)) (sym w.found-is) (subst (λ l. IsTrue (contains nat_eq c.elements.found k) ↔ ((has_number l k ≡ true) × P k)) (sym more) same)
-          ];
-    }
+pub add_elements-requires-2 : goal.add_elements-requires-2
+add_elements-requires-2 c = AreCopied-longer c.args.grammar.now _ _ c.in_ok-add_elements.ensures.longer c.requires.copied
 
 pub returns-clause-found : goal.returns-clause-found
 returns-clause-found c = λ ns stand tests k small.
-    let items = c.candidates-element-items.result.now in
-    let all : take c.elements.element-index items ≡ items = take_all _ _ (omega arith) in
-    let inv = c.elements.invariant.found ns stand tests k in (
-      λ e. (inv.0 e).1,
-      λ h.
-          let listed = is_candidate c.args.grammar.now c.args.names.now tests k (name_of c.args.name.now) (map attribute_of c.args.attrs.now) ns c.requires.names small h in
-          inv.1 (ap (λ xs. has_number xs k) (all ∙ c.candidates-element-items.ensures) ∙ listed, h),
-    )
+    let P : ℕ → Type 0 = λ j. TakesNode (grammar_of c.args.grammar.now) tests j (name_of c.args.name.now) (map attribute_of c.args.attrs.now) ns in
+    let nothing : contains nat_eq c.new-found.result k ≡ false = ap (λ xs. list_any (λ x. nat_eq k x) xs) c.new-found.ensures.empty in
+    both_found P (λ j. contains nat_eq c.new-found.result j) (λ j. contains nat_eq c.add_elements.new.found j) (λ j. contains nat_eq c.add_elements-2.new.found j) c.named-named.result.now c.others-others.result.now k nothing
+    (c.in_ok-add_elements.ensures.found ns stand tests k) (c.in_ok-add_elements-2.ensures.found ns stand tests k)
+    (λ h.
+    let listed = is_candidate c.args.grammar.now c.args.names.now tests k (name_of c.args.name.now) (map attribute_of c.args.attrs.now) ns c.requires.names small h in
+    ap (λ xs. has_number (xs ++ c.others-others.result.now) k) c.named-named.ensures ∙ ap (λ ys. has_number (listed_under c.args.names.now.by_local (name_of c.args.name.now).local ++ ys) k) c.others-others.ensures ∙ listed)

@@ -8,6 +8,7 @@ use Rattle.rng_simple.specs.Draft.{Extends, IsDraft, cut}
 use Rattle.rng_simple.specs.Made.{Makes, MakesFirst}
 use Rattle.rng_model.specs.Written.{members}
 use Rattle.rng_simple.specs.Part.{part_tree}
+use Rattle.rng_simple.specs.SimpleOf.{nested}
 use Rattle.rng_simple.specs.declared.simplification.Part.TheVariants as parts
 use Rattle.rng_simple.proofs.Drafts.{keeps_after_push, some_part, part_stays, extends_itself, extends_twice, cut_again}
 use Rattle.rng_simple.proofs.Making.{makes_stays, makes_not_allowed, makes_empty, makes_text, makes_element, makes_attribute, makes_no_attribute}
@@ -120,11 +121,11 @@ part_of-returns-in_ok-push-in-Attribute-clause-makes t c =
     let made = c.part_of-in-Attribute.new.draft in
     let body = part_tree made.patterns c.in_ok-body-in-Attribute.body in
     let keeps = keeps_after_push c.placed-in-Attribute.new.draft c.push-in-Attribute.new.self _ c.in_ok-push-in-Attribute.ensures.ok in
-    let tree : tree_at c.push-in-Attribute.new.self.patterns c.in_ok-push-in-Attribute.field-0 ≡ s_attribute (class_of c.in-Attribute.class) body =
-    c.in_ok-push-in-Attribute.ensures.tree ∙ ap₂ (λ d s. s_attribute d s) c.in_ok-class-in-Attribute.ensures c.in_ok-body-in-Attribute-2.ensures.tree in
+    let tree : tree_at c.push-in-Attribute.new.self.patterns c.in_ok-push-in-Attribute.field-0 ≡ s_attribute (nested (class_of c.in-Attribute.class)) body =
+    c.in_ok-push-in-Attribute.ensures.tree ∙ ap₂ (λ d s. s_attribute d s) c.in_ok-class-in-Attribute.ensures.nested c.in_ok-body-in-Attribute-2.ensures.tree in
     let makes = makes_stays c.args.draft.now made c.placed-in-Attribute.new.draft body (pattern_of c.deref-in-Attribute.result.now) c.in_ok-body-in-Attribute-2.ensures.kept c.in_ok-body-in-Attribute.ensures.makes in
     subst (Makes c.args.draft.now c.push-in-Attribute.new.self (tree_at c.push-in-Attribute.new.self.patterns c.in_ok-push-in-Attribute.field-0)) (sym e)
-    (makes_attribute c.args.draft.now c.placed-in-Attribute.new.draft c.push-in-Attribute.new.self body (tree_at c.push-in-Attribute.new.self.patterns c.in_ok-push-in-Attribute.field-0) c.in-Attribute.class (pattern_of c.in-Attribute.body.value)
+    (makes_attribute c.args.draft.now c.placed-in-Attribute.new.draft c.push-in-Attribute.new.self body (tree_at c.push-in-Attribute.new.self.patterns c.in_ok-push-in-Attribute.field-0) (class_of c.in-Attribute.class) (pattern_of c.in-Attribute.body.value)
     keeps.extends keeps.elements (some_part made.patterns c.in_ok-body-in-Attribute.body c.in_ok-body-in-Attribute.ensures.part some) tree
     (subst (λ p. Makes c.args.draft.now c.placed-in-Attribute.new.draft body (pattern_of p)) c.deref-in-Attribute.ensures makes))
 
@@ -137,7 +138,7 @@ part_of-returns-in_ok-push-in-Element-clause-makes t c =
     let there = c.placed.new.draft in
     let makes = makes_stays c.args.draft.now made there body (pattern_of c.deref.result.now) c.in_ok-body-in-Element-2.ensures.kept c.in_ok-body-in-Element.ensures.makes in
     subst (Makes c.args.draft.now c.push-in-Element.new.self (tree_at c.push-in-Element.new.self.patterns c.in_ok-push-in-Element.field-0)) (sym e)
-    (makes_element c.args.draft.now there c.push_element.new.self c.push-in-Element.new.self body (tree_at c.push-in-Element.new.self.patterns c.in_ok-push-in-Element.field-0) c.in_ok-element-in-Element.element.0 c.in-Element.class
-    (c.in_ok-copied-in-Element.field-0, c.in_ok-body-in-Element-2.body) (pattern_of c.in-Element.body.value)
-    (subst (λ p. Makes c.args.draft.now there body (pattern_of p)) c.deref.ensures makes) c.in_ok-body-in-Element-2.ensures.there c.in_ok-body-in-Element-2.ensures.tree c.in_ok-copied-in-Element.ensures
+    (makes_element c.args.draft.now there c.push_element.new.self c.push-in-Element.new.self body (tree_at c.push-in-Element.new.self.patterns c.in_ok-push-in-Element.field-0) c.in_ok-element-in-Element.element.0 (class_of c.in-Element.class)
+    (c.in_ok-nested-in-Element.field-0, c.in_ok-body-in-Element-2.body) (pattern_of c.in-Element.body.value)
+    (subst (λ p. Makes c.args.draft.now there body (pattern_of p)) c.deref.ensures makes) c.in_ok-body-in-Element-2.ensures.there c.in_ok-body-in-Element-2.ensures.tree c.in_ok-nested-in-Element.ensures.nested
     (ap (λ d. d.patterns) c.in_ok-element-in-Element.ensures.ok) (ap (λ d. d.elements) c.in_ok-element-in-Element.ensures.ok) keeps.extends keeps.elements c.in_ok-element-in-Element.ensures.id c.in_ok-push-in-Element.ensures.tree)

@@ -1,5 +1,5 @@
-use Rattle.rng_deriv.specs.Named.{ListsFirst}
+use Rattle.rng_deriv.specs.Named.{ListsFirst, place_of}
 use Rattle.rng_deriv.proofs.names.ElementNames.new.Given as goal
 
 abbrev pub invariant-elements : goal.invariant-elements
-invariant-elements l = ListsFirst l.grammar l.by_local l.number
+invariant-elements l = ListsFirst l.grammar (place_of l.by_local l.others.items) l.number

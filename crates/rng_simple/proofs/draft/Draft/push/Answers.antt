@@ -11,6 +11,8 @@ invariant_of-self-2 c =
       simple = bodies_stay _ _ _ c.self.invariant c.in_ok-push.ensures.items;
       falls = falls_after_push _ _ _ c.self.invariant.falls c.in_ok-push.ensures.items below;
       listed = search rules;
+      paired = search rules;
+      paired_elements = search rules;
     }
 
 pub returns-clause-tree : goal.returns-clause-tree

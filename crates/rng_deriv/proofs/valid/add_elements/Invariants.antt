@@ -1,4 +1,4 @@
-use Rattle.std.proofs.Common.{◌≡◌, ◌↔◌, ℕ, List, true, nat_eq, map, take, IsTrue}
+use Rattle.std.proofs.Common.{◌≡◌, ◌↔◌, ◌⊎◌, ℕ, List, true, nat_eq, map, take, IsTrue}
 use Rattle.std.specs.HashSet.{contains}
 use Rattle.rng_model.specs.Document.{Item}
 use Rattle.rng_model.specs.Table.{grammar_of}
@@ -7,12 +7,12 @@ use Rattle.rng_model.specs.Texts.{TextTests}
 use Rattle.rng_deriv.specs.Named.{has_number}
 use Rattle.rng_deriv.specs.Residual.{AreCopied, Longer}
 use Rattle.rng_deriv.specs.Taken.{StandForItems, TakesNode}
-use Rattle.rng_deriv.proofs.valid.elements_of.Given as goal
+use Rattle.rng_deriv.proofs.valid.add_elements.Given as goal
 
 abbrev pub invariant-elements : goal.invariant-elements
 invariant-elements l = record {
   longer : Longer l.fn.residuals l.residuals;
   copied : AreCopied l.grammar l.residuals;
   found : (ns : List Item) → StandForItems (grammar_of l.grammar) l.content ns → (tests : TextTests) (k : ℕ) →
-      IsTrue (contains nat_eq l.found k) ↔ ((has_number (take l.element-index l.element-items) k ≡ true) × TakesNode (grammar_of l.grammar) tests k (name_of l.name) (map attribute_of l.attrs) ns);
+      IsTrue (contains nat_eq l.found k) ↔ (IsTrue (contains nat_eq l.fn.found k) ⊎ ((has_number (take l.element-index l.candidates) k ≡ true) × TakesNode (grammar_of l.grammar) tests k (name_of l.name) (map attribute_of l.attrs) ns));
 }

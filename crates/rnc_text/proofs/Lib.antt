@@ -1,0 +1,14 @@
+mod Characters
+mod HexadecimalSteps
+mod HeldMarks
+mod Opening
+mod Escapes
+mod Fronts
+mod Decoded
+mod Classes
+mod Quotes
+mod Places
+mod Scans
+mod Pieces
+mod Longest
+mod Cuts

@@ -1,0 +1,12 @@
+use Rattle.rnc_text.proofs.Cuts.{gives_tokens, gives_five, whole_cut}
+use Rattle.rnc_text.specs.Cut.{lexemes_of}
+use Rattle.rnc_text.proofs.cutting.tokens.Goals as goal
+
+pub returns-clause-only : goal.returns-clause-only
+returns-clause-only c = gives_tokens _ _ _ c.cut.ensures.found c.cut.ensures.fault
+
+pub returns-clause-one : goal.returns-clause-one
+returns-clause-one c = λ pieces others p q. whole_cut _ pieces others p q
+
+pub returns-clause-broken : goal.returns-clause-broken
+returns-clause-broken c = gives_five _ _ _ c.cut.ensures.found c.cut.ensures.fault

@@ -1,0 +1,7 @@
+use Rattle.std.proofs.Common.{◌∙◌, sym}
+use Rattle.std.proofs.lemmas.Str.{IsUtf8-string_bytes}
+use Rattle.rnc_text.proofs.HeldMarks.{bytes_kept}
+use Rattle.rnc_text.proofs.text.Text.as_str.Goals as goal
+
+pub returns : goal.returns
+returns c = c.as_str.ensures.value ∙ bytes_kept _ _ _ (IsUtf8-string_bytes c.args.self.now.text)

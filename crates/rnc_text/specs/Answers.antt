@@ -1,0 +1,21 @@
+-- What the calls answer, unless memory is wanting.
+use Rattle.std.specs.Prelude.{◌≡◌, ℕ, List, Result, Ok, Err}
+use Rattle.rnc_text.specs.declared.fault.TextFault.{TextFault}
+use Rattle.rnc_text.specs.declared.fault.TextFault.TheVariants.{At, Memory}
+
+-- the answer is this value, as the view sees it
+abbrev pub GivesOk : {X Y : Type 0} → (X → Y) → Result X TextFault → Y → Type 0
+GivesOk view (Ok x) y = view x ≡ y
+GivesOk view (Err Memory) y = Unit {0}
+GivesOk view (Err (At clause place)) y = ⊥
+
+-- the answer is this clause at this place
+abbrev pub GivesFault : {X : Type 0} → Result X TextFault → ℕ → ℕ → Type 0
+GivesFault (Ok x) c p = ⊥
+GivesFault (Err Memory) c p = Unit {0}
+GivesFault (Err (At clause place)) c p = (clause ≡ c) × (place ≡ p)
+
+-- a fault of a clause has that clause broken at its place
+abbrev pub IfBroken : (ℕ → ℕ → Type 0) → TextFault → Type 0
+IfBroken Breaks Memory = Unit {0}
+IfBroken Breaks (At clause place) = Breaks clause place

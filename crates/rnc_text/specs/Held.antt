@@ -1,0 +1,37 @@
+-- The characters that a `Text` keeps: the decoded text, and which of its LFs came of escapes.
+use Rattle.std.specs.Prelude.{◌≡◌, ℕ, ◌-◌, List, [], ◌∷◌, Option, Some, None, length, ◌==◌, if◌then◌else◌}
+use Rattle.std.specs.Str.{chars, encode_utf8_all}
+use Rattle.std.specs.String.{string_bytes}
+use Rattle.rnc_text.specs.declared.character.Character.{Character}
+use Rattle.rnc_text.specs.declared.character.Character.TheVariants.{LineEnd, Ordinary}
+use Rattle.rnc_text.specs.declared.text.Text.{Text}
+
+-- an LF with no mark is a line end
+abbrev pub unmarked : ℕ → Character
+unmarked c = if c == 0xA then LineEnd else Ordinary c
+
+-- The characters with these numbers, at the end of a text of so many bytes. The marks are the offsets of the LFs that are
+-- no line ends, in order.
+unfoldable pub marked : ℕ → List ℕ → List ℕ → List Character
+marked whole marks [] = []
+marked whole [] (c ∷ cs) = unmarked c ∷ marked whole [] cs
+marked whole (m ∷ marks) (c ∷ cs) = if m == whole - length (encode_utf8_all (c ∷ cs)) then Ordinary c ∷ marked whole marks cs else unmarked c ∷ marked whole (m ∷ marks) cs
+
+-- the marks that are left after these numbers
+unfoldable pub unused : ℕ → List ℕ → List ℕ → List ℕ
+unused whole marks [] = marks
+unused whole [] (c ∷ cs) = unused whole [] cs
+unused whole (m ∷ marks) (c ∷ cs) = if m == whole - length (encode_utf8_all (c ∷ cs)) then unused whole marks cs else unused whole (m ∷ marks) cs
+
+-- the characters of a text
+abbrev pub characters_of : Text → List Character
+characters_of t = marked (length (string_bytes t.text)) t.escaped.items (chars (string_bytes t.text))
+
+-- each mark is the offset of an LF
+abbrev pub AllMarksUsed : Text → Type 0
+AllMarksUsed t = unused (length (string_bytes t.text)) t.escaped.items (chars (string_bytes t.text)) ≡ []
+
+-- the marks behind a place, if it is marked
+abbrev pub next_marks : ℕ → List ℕ → Option (List ℕ)
+next_marks place [] = None
+next_marks place (m ∷ marks) = if m == place then Some marks else None

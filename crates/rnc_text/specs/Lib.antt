@@ -1,0 +1,9 @@
+pub mod Characters
+pub mod Decoding
+pub mod Tokens
+pub mod Cut
+pub mod Answers
+pub mod Held
+pub mod DecodingSteps
+pub mod CutSteps
+pub mod Cursors

@@ -1,0 +1,24 @@
+// Characters of a decoded text, and the characters of a text one by one.
+ghost use Rattle.std.specs.Prelude.{◌≡◌, ◌++◌, [], MatchOption, option_map};
+ghost use Rattle.rnc_text.specs.DecodingSteps.{first_and_rest};
+ghost use Rattle.std.specs.Str.{chars};
+ghost use Rattle.std.specs.Char.{encode_utf8, IsScalar};
+
+/// A character of a decoded text.
+#[derive(Clone, Copy, Debug, PartialEq, Eq)]
+pub enum Character {
+    /// A line end that stands in the file as CR LF, CR or LF. It is one LF in the decoded text.
+    LineEnd,
+    /// Any other character, also a CR or LF that came of an escape.
+    Ordinary(char),
+}
+
+/// The first character, and what follows it.
+pub fn split_first(text: &str) -> Option<(char, &str)>
+    ensures bytes { MatchOption result (text.now ≡ []) (λ x. text.now ≡ encode_utf8 x.0 ++ x.1.now) }
+    ensures chars { option_map (λ x. (x.0, chars x.1.now)) result ≡ first_and_rest (chars text.now) }
+{
+    let mut all = text.chars();
+    let first = all.next()?;
+    Some((first, all.as_str()))
+}

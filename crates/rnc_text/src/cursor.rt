@@ -1,0 +1,100 @@
+// A place in a decoded text.
+ghost use Rattle.std.specs.Prelude.{◌≡◌, ◌-◌, ◌==◌, ◌∷◌, [], List, MatchOption, option_map, length};
+ghost use Rattle.rnc_text.specs.Characters.{bytes_of};
+ghost use Rattle.rnc_text.specs.Held.{characters_of, unmarked, next_marks};
+ghost use Rattle.rnc_text.specs.Cursors.{remaining, IsPast, IsBefore};
+ghost use Rattle.rnc_text.specs.declared.character.Character.{Character};
+
+use crate::character::{Character, split_first};
+use crate::text::Text;
+
+/// The character of a decoded text that did not come of an escape.
+fn unmarked(first: char) -> Character
+    ensures { result ≡ unmarked first }
+{
+    if first == '\n' {
+        Character::LineEnd
+    } else {
+        Character::Ordinary(first)
+    }
+}
+
+/// A place in a decoded text.
+#[derive(Clone, Copy)]
+pub struct Cursor<'a> {
+    /// How many bytes the whole text has.
+    length: usize,
+    /// What stands from here on.
+    rest: &'a str,
+    /// The offsets of the LFs that came of escapes, from here on.
+    escaped: &'a [usize],
+}
+
+impl<'a> Cursor<'a> {
+    /// The beginning of a text.
+    pub fn new(text: &'a Text) -> Cursor<'a>
+        ensures characters { remaining result ≡ characters_of text.now }
+        ensures bytes { result.rest.now ≡ bytes_of (characters_of text.now) }
+        ensures whole { result.length ≡ length result.rest.now }
+    {
+        let rest = text.as_str();
+        let length = rest.len();
+        Cursor {
+            length,
+            rest,
+            escaped: text.escaped(),
+        }
+    }
+
+    /// Whether nothing stands here.
+    pub fn is_at_end(self) -> bool
+        ensures { result ≡ (length self.entry.rest.now == 0) }
+    {
+        self.rest.is_empty()
+    }
+
+    /// The offset of this place in the text, in bytes.
+    pub fn place(self) -> usize
+        ensures { result ≡ self.entry.length - length self.entry.rest.now }
+    {
+        // A place lies within the text, so this is no less than their difference.
+        self.length.saturating_sub(self.rest.len())
+    }
+
+    /// The offsets behind this place, if the LF here came of an escape.
+    fn marks_behind(self) -> Option<&'a [usize]>
+        ensures { option_map (λ x. x.now) result ≡ next_marks (self.entry.length - length self.entry.rest.now) self.entry.escaped.now }
+    {
+        match self.escaped {
+            [mark, marks @ ..] if *mark == self.place() => Some(marks),
+            _ => None,
+        }
+    }
+
+    /// The character here, and the place behind it.
+    pub fn step(self) -> Option<(Character, Cursor<'a>)>
+        ensures { MatchOption result (remaining self.entry ≡ []) (λ x. IsPast self.entry (x.0 ∷ []) x.1) }
+    {
+        let (first, rest) = split_first(self.rest)?;
+        let length = self.length;
+        match self.marks_behind() {
+            Some(escaped) => {
+                let after = Cursor { length, rest, escaped };
+                Some((Character::Ordinary(first), after))
+            }
+            None => {
+                let after = Cursor { rest, ..self };
+                Some((unmarked(first), after))
+            }
+        }
+    }
+
+    /// The text from here to a later place.
+    pub fn text_to(self, end: Cursor<'a>) -> &'a str
+        requires { IsBefore self end }
+        ensures { (taken : List Character) → IsPast self.entry taken end.entry → result.now ≡ bytes_of taken }
+    {
+        let (text, _) = self.rest.split_at(self.rest.len() - end.rest.len());
+        text
+    }
+}

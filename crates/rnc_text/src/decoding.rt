@@ -1,0 +1,123 @@
+// From the bytes of a file to characters.
+ghost use Rattle.std.specs.Prelude.{◌≡◌, List, option_map, IfOk, IfErr, ℕ, Bool, true, false};
+ghost use Rattle.std.specs.Str.{chars};
+ghost use Rattle.rng_model.specs.Characters.{is_xml_char};
+ghost use Rattle.rnc_text.specs.Decoding.{IsDecoded, BreaksCharactersAt, BreaksTextAt};
+ghost use Rattle.rnc_text.specs.Answers.{IfBroken, GivesOk, GivesFault};
+ghost use Rattle.rnc_text.specs.Held.{characters_of};
+ghost use Rattle.rnc_text.specs.DecodingSteps.{without_line_feed, opens_from, escape_front, front_of};
+ghost use Rattle.rnc_text.specs.declared.character.Character.{Character};
+
+use crate::character::{Character, split_first};
+use crate::fault::TextFault;
+use crate::hexadecimal::hexadecimal;
+use crate::text::Text;
+use rng_model::is_xml_char;
+use std::alloc::Global;
+
+/// What follows a CR, without an LF that belongs to its line end.
+#[tactic(auto, unfolding(crate::specs::DecodingSteps::without_line_feed))]
+fn skip_line_feed(text: &str) -> &str
+    ensures { chars result.now ≡ without_line_feed (chars text.now) }
+{
+    match split_first(text) {
+        Some(('\n', after)) => after,
+        _ => text,
+    }
+}
+
+/// Whether one `x` or more and an opening brace are in front.
+fn opens_escape(text: &str) -> bool
+    ensures { result ≡ opens_from false (chars text.now) }
+{
+    let mut rest = text;
+    let mut any = false;
+    'letters: while let Some((character, after)) = split_first(rest) {
+        match character {
+            'x' => any = true,
+            '{' => return any,
+            _ => return false,
+        }
+        rest = after;
+    }
+    false
+}
+
+/// The character of an escape whose backslash is gone, and what follows it.
+#[tactic(auto, unfolding(crate::specs::DecodingSteps::escape_front))]
+fn escape(text: &str) -> Option<(Character, &str)>
+    ensures { option_map (λ x. (x.0, chars x.1.now)) result ≡ escape_front (chars text.now) }
+{
+    let ('x', braced) = split_first(text)? else {
+        return None;
+    };
+    let ('{', digits) = split_first(braced)? else {
+        return None;
+    };
+    let (number, after) = hexadecimal(digits)?;
+    let character = char::from_u32(number)?;
+    if is_xml_char(character) {
+        Some((Character::Ordinary(character), after))
+    } else {
+        None
+    }
+}
+
+/// The character that the text begins with, and what follows it.
+#[tactic(auto, unfolding(crate::specs::DecodingSteps::front_of))]
+fn front(text: &str) -> Option<(Character, &str)>
+    ensures { option_map (λ x. (x.0, chars x.1.now)) result ≡ front_of (chars text.now) }
+{
+    let (first, after) = split_first(text)?;
+    match first {
+        '\r' => Some((Character::LineEnd, skip_line_feed(after))),
+        '\n' => Some((Character::LineEnd, after)),
+        '\\' if opens_escape(after) => escape(after),
+        _ if is_xml_char(first) => Some((Character::Ordinary(first), after)),
+        _ => None,
+    }
+}
+
+/// The characters of a text in which escapes are not yet replaced.
+fn decode(alloc: Global, text: &str) -> Result<Text, TextFault>
+    ensures found { IfOk result (λ t. IsDecoded text.now (characters_of t)) }
+    ensures fault { IfErr result (IfBroken (λ clause place. (clause ≡ 4) × BreaksCharactersAt text.now place)) }
+{
+    let mut decoded = Text::new(alloc);
+    let mut rest = text;
+    'rest: while !rest.is_empty() {
+        let Some((character, after)) = front(rest) else {
+            return Err(TextFault::At {
+                clause: 4,
+                place: (text.len() - rest.len()) as u64,
+            });
+        };
+        decoded.push(character)?;
+        rest = after;
+    }
+    Ok(decoded)
+}
+
+/// The characters that the bytes of a file stand for.
+///
+/// A file that is not UTF-8 breaks clause 3, and else one with a character that is none of XML's or with a bad escape
+/// breaks clause 4; the fault tells the first offset in the file, in bytes. `Memory` answers that there was no memory for
+/// the text. Linear. RELAX NG Compact Syntax, "Lexical structure".
+pub fn read_text(alloc: Global, bytes: &[u8]) -> Result<Text, TextFault>
+    // What is answered is what the bytes stand for.
+    ensures found { IfOk result (λ t. IsDecoded bytes.now (characters_of t)) }
+    // What the bytes stand for is answered, so there is no other.
+    ensures only { (cs : List Character) → IsDecoded bytes.now cs → GivesOk characters_of result cs }
+    // A fault has its clause broken at its place.
+    ensures fault { IfErr result (IfBroken (BreaksTextAt bytes.now)) }
+    // A broken clause is answered, with its place.
+    ensures broken { (clause place : ℕ) → BreaksTextAt bytes.now clause place → GivesFault result clause place }
+{
+    match simdutf8::compat::from_utf8(bytes) {
+        Ok(text) => decode(alloc, text),
+        Err(fault) => Err(TextFault::At {
+            clause: 3,
+            place: fault.valid_up_to() as u64,
+        }),
+    }
+}

@@ -1,0 +1,34 @@
+// Why a text was not read, or not cut into tokens.
+ghost use Rattle.std.specs.Prelude.{◌≡◌};
+ghost use Rattle.rnc_text.specs.declared.fault.TextFault.TheVariants as faults;
+
+use std::alloc::{AllocError, AllocFailed};
+
+/// Why a text was not read, or not cut into tokens.
+#[derive(Clone, Copy, Debug, PartialEq, Eq)]
+pub enum TextFault {
+    /// The text breaks a clause at a place, which is an offset in bytes.
+    ///
+    /// Clause 3: the file is not UTF-8; the place is the length of its longest front that is.
+    /// Clause 4: a character is none of XML's, or an escape is bad; the place in the file is where it begins.
+    /// Clause 5: neither a blank, a comment nor a token begins at the place in the decoded text.
+    At { clause: u8, place: u64 },
+    /// There was no memory for what had to be kept.
+    Memory,
+}
+
+impl From<AllocError> for TextFault {
+    ghost from_gives = { λ _ e. e ≡ faults.Memory };
+
+    fn from(_e: AllocError) -> TextFault {
+        TextFault::Memory
+    }
+}
+
+impl<T: Drop> From<AllocFailed<T>> for TextFault {
+    ghost from_gives = { λ _ e. e ≡ faults.Memory };
+
+    fn from(_e: AllocFailed<T>) -> TextFault {
+        TextFault::Memory
+    }
+}

@@ -1,0 +1,24 @@
+//! From the bytes of a schema in compact syntax to its characters, and from these to its tokens.
+//!
+//! `read_text` answers the characters that the bytes stand for, escapes replaced, or the first place at which they are
+//! not UTF-8 or no characters of XML. `tokens` answers the tokens of these characters, each the longest that begins at
+//! its place, or the first place at which nothing begins.
+#![tactic(auto)]
+
+mod character;
+mod cursor;
+mod cutting;
+mod decoding;
+mod fault;
+mod hexadecimal;
+mod scanning;
+mod table;
+mod text;
+mod token;
+
+pub use character::Character;
+pub use cutting::tokens;
+pub use decoding::read_text;
+pub use fault::TextFault;
+pub use text::Text;
+pub use token::{Keyword, Sign, Token, TokenKind};

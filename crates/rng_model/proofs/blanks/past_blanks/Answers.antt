@@ -1,0 +1,5 @@
+use Rattle.rng_model.proofs.BlankLemmas.{blanks_boundary}
+use Rattle.rng_model.proofs.blanks.past_blanks.Goals as goal
+
+pub split_at-requires : goal.split_at-requires
+split_at-requires c = blanks_boundary c.args.text.now _ c.utf8.text c.blanks_len.ensures

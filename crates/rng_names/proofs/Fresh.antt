@@ -1,0 +1,200 @@
+-- Why a text that is longer than all that are written stands for every text that is not written.
+use Rattle.std.proofs.Common.{◌≡◌, ℕ, ◌<◌, max, bytes_eq, List, length, Bool, true, false, not, ◌&&◌, ◌||◌, refl, ap, ap₂, sym, ◌∙◌, subst, rules, arith}
+use Rattle.std.proofs.lemmas.Slice.Eq.{bytes_eq-Decides}
+use Rattle.rng_model.specs.Names.{Name, NameClass, NameClasses, AreApart, any_name, any_except, ns_name, ns_except, name_is, one_of, no_classes, class_and}
+use Rattle.rng_names.specs.Holding.{holds, some_hold, same_name, pair}
+use Rattle.rng_names.specs.Written.{both_hold, is_met, is_some_met, longest, longest_of}
+use Rattle.rng_names.proofs.Holding.{same_name-Decides, holds-Decides}
+
+-- ---- what is written in a class
+
+-- the name is written
+abbrev mutual
+  writes_name : NameClass → Name → Bool
+  writes_name any_name q = false
+  writes_name (any_except c) q = writes_name c q
+  writes_name (ns_name u) q = false
+  writes_name (ns_except u c) q = writes_name c q
+  writes_name (name_is n) q = same_name n q
+  writes_name (one_of c d cs) q = writes_name c q || (writes_name d q || some_write_name cs q)
+
+  some_write_name : NameClasses → Name → Bool
+  some_write_name no_classes q = false
+  some_write_name (class_and c cs) q = writes_name c q || some_write_name cs q
+
+-- the namespace is written
+abbrev mutual
+  writes_ns : NameClass → List ℕ → Bool
+  writes_ns any_name v = false
+  writes_ns (any_except c) v = writes_ns c v
+  writes_ns (ns_name u) v = bytes_eq u v
+  writes_ns (ns_except u c) v = bytes_eq u v || writes_ns c v
+  writes_ns (name_is n) v = bytes_eq n.ns v
+  writes_ns (one_of c d cs) v = writes_ns c v || (writes_ns d v || some_write_ns cs v)
+
+  some_write_ns : NameClasses → List ℕ → Bool
+  some_write_ns no_classes v = false
+  some_write_ns (class_and c cs) v = writes_ns c v || some_write_ns cs v
+
+-- ---- tests
+
+pub or_left : (x y : Bool) → x ≡ true → (x || y) ≡ true
+or_left true y e = refl
+or_left false y e = search rules
+
+pub or_right : (x y : Bool) → y ≡ true → (x || y) ≡ true
+or_right true y e = refl
+or_right false y e = e
+
+or_both : (x y z w : Bool) → (x ≡ true → z ≡ true) → (y ≡ true → w ≡ true) → (x || y) ≡ true → (z || w) ≡ true
+or_both true y z w f g e = or_left z w (f refl)
+or_both false y z w f g e = or_right z w (g e)
+
+neither : (x y : Bool) → (x || y) ≡ false → (x ≡ false) × (y ≡ false)
+neither true y e = search rules
+neither false y e = (refl, e)
+
+never : (x : Bool) → false ≡ true → x ≡ true
+never x e = search rules
+
+max-below : (a b m : ℕ) → max a b < m → (a < m) × (b < m)
+max-below a b m h = (omega (arith, h), omega (arith, h))
+
+-- a longer text is another one
+shorter : (u v : List ℕ) → length u < length v → bytes_eq u v ≡ false
+shorter u v less = off (bytes_eq u v) refl where
+  off : (b : Bool) → bytes_eq u v ≡ b → bytes_eq u v ≡ false
+  off false e = e
+  off true e = let long : length u ≡ length v = ap length ((bytes_eq-Decides u v).0 e) in let absurd : ⊥ = omega (arith, less, long) in elim absurd [ ]
+
+-- ---- the test passes for what is written
+
+mutual
+  met_by_name : (test : Name → Bool) (fresh : List ℕ) (c : NameClass) (q : Name) → test q ≡ true → writes_name c q ≡ true → is_met test fresh c ≡ true
+  met_by_name test fresh any_name q passes e = e
+  met_by_name test fresh (any_except c) q passes e = met_by_name test fresh c q passes e
+  met_by_name test fresh (ns_name u) q passes e = never _ e
+  met_by_name test fresh (ns_except u c) q passes e = or_right (test (pair u fresh)) _ (met_by_name test fresh c q passes e)
+  met_by_name test fresh (name_is n) q passes e = or_left (test n) _ (subst (λ r. test r ≡ true) ((same_name-Decides n q).0 e) passes)
+  met_by_name test fresh (one_of c d cs) q passes e = or_both _ _ _ _ (met_by_name test fresh c q passes) (or_both _ _ _ _ (met_by_name test fresh d q passes) (some_met_by_name test fresh cs q passes)) e
+
+  some_met_by_name : (test : Name → Bool) (fresh : List ℕ) (cs : NameClasses) (q : Name) → test q ≡ true → some_write_name cs q ≡ true → is_some_met test fresh cs ≡ true
+  some_met_by_name test fresh no_classes q passes e = e
+  some_met_by_name test fresh (class_and c cs) q passes e = or_both _ _ _ _ (met_by_name test fresh c q passes) (some_met_by_name test fresh cs q passes) e
+
+met_at : (test : Name → Bool) (fresh u v : List ℕ) → test (pair v fresh) ≡ true → bytes_eq u v ≡ true → test (pair u fresh) ≡ true
+met_at test fresh u v passes e = subst (λ w. test (pair w fresh) ≡ true) (sym ((bytes_eq-Decides u v).0 e)) passes
+
+mutual
+  met_by_ns : (test : Name → Bool) (fresh : List ℕ) (c : NameClass) (v : List ℕ) → test (pair v fresh) ≡ true → writes_ns c v ≡ true → is_met test fresh c ≡ true
+  met_by_ns test fresh any_name v passes e = e
+  met_by_ns test fresh (any_except c) v passes e = met_by_ns test fresh c v passes e
+  met_by_ns test fresh (ns_name u) v passes e = met_at test fresh u v passes e
+  met_by_ns test fresh (ns_except u c) v passes e = or_both _ _ _ _ (met_at test fresh u v passes) (met_by_ns test fresh c v passes) e
+  met_by_ns test fresh (name_is n) v passes e = or_right (test n) _ (met_at test fresh n.ns v passes e)
+  met_by_ns test fresh (one_of c d cs) v passes e = or_both _ _ _ _ (met_by_ns test fresh c v passes) (or_both _ _ _ _ (met_by_ns test fresh d v passes) (some_met_by_ns test fresh cs v passes)) e
+
+  some_met_by_ns : (test : Name → Bool) (fresh : List ℕ) (cs : NameClasses) (v : List ℕ) → test (pair v fresh) ≡ true → some_write_ns cs v ≡ true → is_some_met test fresh cs ≡ true
+  some_met_by_ns test fresh no_classes v passes e = e
+  some_met_by_ns test fresh (class_and c cs) v passes e = or_both _ _ _ _ (met_by_ns test fresh c v passes) (some_met_by_ns test fresh cs v passes) e
+
+-- ---- a name that is not written is like one with the fresh local name
+
+and-off : (x y : Bool) → x ≡ false → (x && y) ≡ false
+and-off false y e = refl
+and-off true y e = search rules
+
+other_local : (n q : Name) (fresh : List ℕ) → same_name n q ≡ false → max (length n.ns) (length n.local) < length fresh → same_name n q ≡ same_name n (pair q.ns fresh)
+other_local n q fresh e less = e ∙ sym (and-off (bytes_eq n.local fresh) (bytes_eq n.ns q.ns) (shorter n.local fresh (max-below _ _ _ less).1))
+
+mutual
+  like_local : (c : NameClass) (q : Name) (fresh : List ℕ) → writes_name c q ≡ false → longest c < length fresh → holds c q ≡ holds c (pair q.ns fresh)
+  like_local any_name q fresh e less = refl
+  like_local (any_except c) q fresh e less = ap not (like_local c q fresh e less)
+  like_local (ns_name u) q fresh e less = refl
+  like_local (ns_except u c) q fresh e less = ap (λ b. bytes_eq u q.ns && not b) (like_local c q fresh e (max-below (length u) (longest c) _ less).1)
+  like_local (name_is n) q fresh e less = other_local n q fresh e less
+  like_local (one_of c d cs) q fresh e less =
+      let first = neither _ _ e in
+      let rest = neither _ _ first.1 in
+      let below = max-below (longest c) (max (longest d) (longest_of cs)) _ less in
+      let after = max-below (longest d) (longest_of cs) _ below.1 in
+      ap₂ (λ x y. x || y) (like_local c q fresh first.0 below.0) (ap₂ (λ x y. x || y) (like_local d q fresh rest.0 after.0) (some_like_local cs q fresh rest.1 after.1))
+
+  some_like_local : (cs : NameClasses) (q : Name) (fresh : List ℕ) → some_write_name cs q ≡ false → longest_of cs < length fresh → some_hold cs q ≡ some_hold cs (pair q.ns fresh)
+  some_like_local no_classes q fresh e less = refl
+  some_like_local (class_and c cs) q fresh e less =
+      let apart = neither _ _ e in
+      let below = max-below (longest c) (longest_of cs) _ less in
+      ap₂ (λ x y. x || y) (like_local c q fresh apart.0 below.0) (some_like_local cs q fresh apart.1 below.1)
+
+-- ---- a namespace that is not written is like the fresh one
+
+other_ns : (u v fresh : List ℕ) → bytes_eq u v ≡ false → length u < length fresh → bytes_eq u v ≡ bytes_eq u fresh
+other_ns u v fresh e less = e ∙ sym (shorter u fresh less)
+
+mutual
+  like_ns : (c : NameClass) (v w fresh : List ℕ) → writes_ns c v ≡ false → longest c < length fresh → holds c (pair v w) ≡ holds c (pair fresh w)
+  like_ns any_name v w fresh e less = refl
+  like_ns (any_except c) v w fresh e less = ap not (like_ns c v w fresh e less)
+  like_ns (ns_name u) v w fresh e less = other_ns u v fresh e less
+  like_ns (ns_except u c) v w fresh e less =
+      let apart = neither _ _ e in
+      let below = max-below (length u) (longest c) _ less in
+      ap₂ (λ x y. x && not y) (other_ns u v fresh apart.0 below.0) (like_ns c v w fresh apart.1 below.1)
+  like_ns (name_is n) v w fresh e less = ap (λ b. bytes_eq n.local w && b) (other_ns n.ns v fresh e (max-below (length n.ns) (length n.local) _ less).0)
+  like_ns (one_of c d cs) v w fresh e less =
+      let first = neither _ _ e in
+      let rest = neither _ _ first.1 in
+      let below = max-below (longest c) (max (longest d) (longest_of cs)) _ less in
+      let after = max-below (longest d) (longest_of cs) _ below.1 in
+      ap₂ (λ x y. x || y) (like_ns c v w fresh first.0 below.0) (ap₂ (λ x y. x || y) (like_ns d v w fresh rest.0 after.0) (some_like_ns cs v w fresh rest.1 after.1))
+
+  some_like_ns : (cs : NameClasses) (v w fresh : List ℕ) → some_write_ns cs v ≡ false → longest_of cs < length fresh → some_hold cs (pair v w) ≡ some_hold cs (pair fresh w)
+  some_like_ns no_classes v w fresh e less = refl
+  some_like_ns (class_and c cs) v w fresh e less =
+      let apart = neither _ _ e in
+      let below = max-below (longest c) (longest_of cs) _ less in
+      ap₂ (λ x y. x || y) (like_ns c v w fresh apart.0 below.0) (some_like_ns cs v w fresh apart.1 below.1)
+
+-- ---- where some name passes, one of those that are tried does
+
+module _ (test : Name → Bool) (fresh : List ℕ) (c d : NameClass) where
+  abbrev pub Found : Type 0
+  Found = (test (pair fresh fresh) || (is_met test fresh c || is_met test fresh d)) ≡ true
+
+  in_first : is_met test fresh c ≡ true → Found
+  in_first e = or_right (test (pair fresh fresh)) _ (or_left _ _ e)
+
+  in_second : is_met test fresh d ≡ true → Found
+  in_second e = or_right (test (pair fresh fresh)) _ (or_right (is_met test fresh c) _ e)
+
+  by_ns : (v : List ℕ) (x y : Bool) → writes_ns c v ≡ x → writes_ns d v ≡ y → test (pair v fresh) ≡ true → (writes_ns c v ≡ false → writes_ns d v ≡ false → test (pair v fresh) ≡ test (pair fresh fresh)) → Found
+  by_ns v true y ex ey passes same = in_first (met_by_ns test fresh c v passes ex)
+  by_ns v false true ex ey passes same = in_second (met_by_ns test fresh d v passes ey)
+  by_ns v false false ex ey passes same = or_left _ _ (sym (same ex ey) ∙ passes)
+
+  by_name : (q : Name) (x y : Bool) → writes_name c q ≡ x → writes_name d q ≡ y → test q ≡ true → (writes_name c q ≡ false → writes_name d q ≡ false → test q ≡ test (pair q.ns fresh)) → (test (pair q.ns fresh) ≡ true → Found) → Found
+  by_name q true y ex ey passes same else_by = in_first (met_by_name test fresh c q passes ex)
+  by_name q false true ex ey passes same else_by = in_second (met_by_name test fresh d q passes ey)
+  by_name q false false ex ey passes same else_by = else_by (sym (same ex ey) ∙ passes)
+
+-- if both classes hold a name, both hold one of those that are tried
+pub one_is_found : (fresh : List ℕ) (c d : NameClass) (q : Name) → longest c < length fresh → longest d < length fresh → both_hold c d q ≡ true → Found (both_hold c d) fresh c d
+one_is_found fresh c d q less less' passes =
+    let test : Name → Bool = both_hold c d in
+    let locals : writes_name c q ≡ false → writes_name d q ≡ false → test q ≡ test (pair q.ns fresh) =
+    λ x y. ap₂ (λ x y. x && y) (like_local c q fresh x less) (like_local d q fresh y less') in
+    let spaces : writes_ns c q.ns ≡ false → writes_ns d q.ns ≡ false → test (pair q.ns fresh) ≡ test (pair fresh fresh) =
+    λ x y. ap₂ (λ x y. x && y) (like_ns c q.ns fresh fresh x less) (like_ns d q.ns fresh fresh y less') in
+    by_name test fresh c d q (writes_name c q) (writes_name d q) refl refl passes locals
+    (λ passes'. by_ns test fresh c d q.ns (writes_ns c q.ns) (writes_ns d q.ns) refl refl passes' spaces)
+
+found-neither : (x y z : Bool) → x ≡ false → y ≡ false → z ≡ false → (x || (y || z)) ≡ true → ⊥
+found-neither x y z ex ey ez found = search rules
+
+-- if the test passes for none of those that are tried, no name lies in both classes
+pub none_is_found : (fresh : List ℕ) (c d : NameClass) → longest c < length fresh → longest d < length fresh → both_hold c d (pair fresh fresh) ≡ false → is_met (both_hold c d) fresh c ≡ false → is_met (both_hold c d) fresh d ≡ false → AreApart c d
+none_is_found fresh c d less less' outside first second q in_c in_d =
+    let passes : both_hold c d q ≡ true = ap₂ (λ x y. x && y) ((holds-Decides c q).1 in_c) ((holds-Decides d q).1 in_d) in
+    found-neither _ _ _ outside first second (one_is_found fresh c d q less less' passes)

@@ -1,0 +1,5 @@
+pub mod Views
+pub mod Choices
+pub mod Holding
+pub mod Fresh
+pub mod Plain

@@ -1,0 +1,17 @@
+-- A class that is one name overlaps with those that hold the name.
+use Rattle.std.proofs.Common.{◌≡◌, refl, sym, subst, Bool, IsTrue, IsFalse, Decides}
+use Rattle.std.proofs.lemmas.Bool.Decides.{not_from_Decides}
+use Rattle.rng_model.specs.Names.{Name, NameClass, In, IsPairOfTexts, Overlap, AreApart, name_is}
+
+-- the name itself lies in both
+pub plain_common : (r : Bool) (q : Name) (c d : NameClass) → IsPairOfTexts q → c ≡ name_is q → Decides r (In d q) → IsTrue r → Overlap c d
+plain_common r q c d texts e decides told = (q, texts, subst (λ k. In k q) (sym e) refl, decides.0 told)
+
+-- no other name lies in the first
+pub plain_apart : (r : Bool) (q : Name) (c d : NameClass) → c ≡ name_is q → Decides r (In d q) → IsFalse r → AreApart c d
+plain_apart r q c d e decides denied p in_c in_d =
+    let same : p ≡ q = subst (λ k. In k p) e in_c in
+    not_from_Decides r decides denied (subst (In d) same in_d)
+
+pub swapped : (c d : NameClass) → Overlap c d → Overlap d c
+swapped c d both = (both.0, both.1, both.3, both.2)

@@ -1,0 +1,12 @@
+use Rattle.std.proofs.Common.{sym, ◌∙◌}
+use Rattle.rng_model.specs.View.{class_of}
+use Rattle.rng_names.specs.Holding.{pair}
+use Rattle.rng_names.proofs.Holding.{holds-Decides}
+use Rattle.rng_names.proofs.common_name.both_hold.Goals as goal
+
+pub returns-then-holds-clause-common : goal.returns-then-holds-clause-common
+returns-then-holds-clause-common c = λ told.
+    let q = pair c.args.ns.now c.args.local.now in
+    let first = (holds-Decides (class_of c.args.a.now) q).0 (sym c.holds.ensures ∙ c.if-holds.true) in
+    let second = (holds-Decides (class_of c.args.b.now) q).0 (sym c.holds-then-holds.ensures ∙ told) in
+    (q, (c.utf8.ns, c.utf8.local), first, second)

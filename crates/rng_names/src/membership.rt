@@ -1,0 +1,40 @@
+// Whether a name class holds a name.
+ghost use Rattle.std.specs.Prelude.{◌≡◌};
+ghost use Rattle.std.specs.Bool.{Decides};
+ghost use Rattle.rng_model.specs.Names.{In};
+ghost use Rattle.rng_model.specs.View.{class_of, name_of};
+ghost use Rattle.rng_names.specs.Holding.{holds, pair};
+
+use rng_model::{Name, NameClass};
+
+/// Whether the class holds the name. Takes no memory.
+///
+/// RELAX NG Specification, section 6.1: `*` holds every name, `p:*` every name of that namespace, a name itself, a
+/// choice the names of its members, and an except the names of its class that are not names of the except. The cost is
+/// one comparison of the name with each namespace and each name that is written in the class, at most.
+pub fn contains(class: &NameClass, name: &Name) -> bool
+    ensures { Decides result (In (class_of class.now) (name_of name.now)) }
+{
+    holds(class, name.ns.as_str(), name.local.as_str())
+}
+
+/// Whether the class holds the name of this namespace and this local name.
+pub fn holds(class: &NameClass, ns: &str, local: &str) -> bool
+    ensures { result ≡ holds (class_of class.now) (pair ns.now local.now) }
+{
+    match class {
+        NameClass::Any => true,
+        NameClass::AnyExcept(except) => !holds(except, ns, local),
+        NameClass::Ns(only) => only.as_str() == ns,
+        NameClass::NsExcept(only, except) => only.as_str() == ns && !holds(except, ns, local),
+        NameClass::Name(only) => only.local.as_str() == local && only.ns.as_str() == ns,
+        NameClass::Choice(members) => {
+            'members: for member in members {
+                if holds(member, ns, local) {
+                    return true;
+                }
+            }
+            false
+        }
+    }
+}

@@ -1,0 +1,4 @@
+pub mod OnePiece
+pub mod SameItems
+pub mod TextValues
+pub mod Decimals

@@ -1,0 +1,8 @@
+use Rattle.std.proofs.Common.{◌≡◌, map, drop}
+use Rattle.rng_model.specs.Types.{parameter_of}
+use Rattle.rng_types.specs.Table.{value_named}
+use Rattle.rng_types.proofs.parameters.value_named.Given as goal
+
+-- none of the parameters so far has the name
+abbrev pub invariant-loop-param : goal.invariant-loop-param
+invariant-loop-param l = value_named l.name (map parameter_of l.params) ≡ value_named l.name (map parameter_of (drop l.param-index l.params))

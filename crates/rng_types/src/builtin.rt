@@ -1,0 +1,143 @@
+// All datatypes, and which one a schema names.
+ghost use Rattle.std.specs.Prelude.{◌≡◌, is_some, map};
+ghost use Rattle.rng_model.specs.Types.{parameter_of};
+ghost use Rattle.rng_types.specs.Values.{are_equal};
+ghost use Rattle.rng_types.specs.Laws as laws;
+ghost use Rattle.rng_types.specs.Table.{value_of, without_parameters, plain_type, xsd_type, find_type};
+
+use crate::datatype::Datatype;
+use crate::parameters::{bounds, lengths};
+use crate::plain::{PlainString, PlainToken};
+use crate::texts::{NcName, NmToken, XsdString, XsdToken};
+use crate::values::{Boolean, Integer};
+
+/// A datatype of one of the two libraries, with its parameters.
+#[derive(Clone, Copy, Debug, PartialEq, Eq)]
+pub enum Builtin {
+    PlainString(PlainString),
+    PlainToken(PlainToken),
+    XsdString(XsdString),
+    XsdToken(XsdToken),
+    NcName(NcName),
+    NmToken(NmToken),
+    Boolean(Boolean),
+    Integer(Integer),
+}
+
+/// Why there is no datatype of some library, name and parameters.
+#[derive(Clone, Copy, Debug, PartialEq, Eq)]
+pub enum TypeFault {
+    /// There is no library of that uri.
+    UnknownLibrary,
+    /// The library has no datatype of that name.
+    UnknownType,
+    /// The datatype does not take these parameters.
+    BadParameter,
+}
+
+impl Builtin {
+    /// The datatype of that library and name, with those parameters.
+    ///
+    /// The library that is built in has the empty uri, and the other is `http://www.w3.org/2001/XMLSchema-datatypes`.
+    /// Of several faults the first in the order of `TypeFault` is answered. It takes no memory, and reads the
+    /// parameters a few times.
+    #[tactic(auto, unfolding(crate::specs::Table::find_type))]
+    pub fn find(lib: &str, name: &str, params: &[(String, String)]) -> Result<Builtin, TypeFault>
+        ensures { result ≡ find_type lib.now name.now (map parameter_of params.now) }
+    {
+        match lib {
+            "" => plain(name, params),
+            "http://www.w3.org/2001/XMLSchema-datatypes" => xsd(name, params),
+            _ => Err(TypeFault::UnknownLibrary),
+        }
+    }
+}
+
+// the datatype of the library that is built in
+#[tactic(auto, unfolding(crate::specs::Table::plain_type))]
+fn plain(name: &str, params: &[(String, String)]) -> Result<Builtin, TypeFault>
+    ensures { result ≡ plain_type name.now (map parameter_of params.now) }
+{
+    match name {
+        "string" => without_parameters(Builtin::PlainString(PlainString), params),
+        "token" => without_parameters(Builtin::PlainToken(PlainToken), params),
+        _ => Err(TypeFault::UnknownType),
+    }
+}
+
+// the datatype of the library of XML Schema
+#[tactic(auto, unfolding(crate::specs::Table::xsd_type))]
+fn xsd(name: &str, params: &[(String, String)]) -> Result<Builtin, TypeFault>
+    ensures { result ≡ xsd_type name.now (map parameter_of params.now) }
+{
+    match name {
+        "string" => Ok(Builtin::XsdString(XsdString {
+            lengths: lengths(params)?,
+        })),
+        "token" => Ok(Builtin::XsdToken(XsdToken {
+            lengths: lengths(params)?,
+        })),
+        "NCName" => Ok(Builtin::NcName(NcName {
+            lengths: lengths(params)?,
+        })),
+        "NMTOKEN" => Ok(Builtin::NmToken(NmToken {
+            lengths: lengths(params)?,
+        })),
+        "boolean" => without_parameters(Builtin::Boolean(Boolean), params),
+        "integer" => Ok(Builtin::Integer(Integer {
+            bounds: bounds(params)?,
+        })),
+        _ => Err(TypeFault::UnknownType),
+    }
+}
+
+// the datatype, if there are no parameters
+fn without_parameters(found: Builtin, params: &[(String, String)]) -> Result<Builtin, TypeFault>
+    ensures { result ≡ without_parameters found (map parameter_of params.now) }
+{
+    if params.is_empty() {
+        Ok(found)
+    } else {
+        Err(TypeFault::BadParameter)
+    }
+}
+
+impl Datatype for Builtin {
+    ghost allows = { λ d s. is_some (value_of d s) };
+
+    ghost equal = { λ d v w. are_equal (value_of d v) (value_of d w) };
+
+    ghost equal_allowed = { λ d v w e. laws.equal_allowed (value_of d v) (value_of d w) e };
+
+    ghost equal_reflexive = { λ d v e. laws.equal_reflexive (value_of d v) e };
+
+    ghost equal_symmetric = { λ d v w e. laws.equal_symmetric (value_of d v) (value_of d w) e };
+
+    ghost equal_transitive = { λ d u v w e f. laws.equal_transitive (value_of d u) (value_of d v) (value_of d w) e f };
+
+    fn allows(&self, text: &str) -> bool {
+        match self {
+            Builtin::PlainString(datatype) => datatype.allows(text),
+            Builtin::PlainToken(datatype) => datatype.allows(text),
+            Builtin::XsdString(datatype) => datatype.allows(text),
+            Builtin::XsdToken(datatype) => datatype.allows(text),
+            Builtin::NcName(datatype) => datatype.allows(text),
+            Builtin::NmToken(datatype) => datatype.allows(text),
+            Builtin::Boolean(datatype) => datatype.allows(text),
+            Builtin::Integer(datatype) => datatype.allows(text),
+        }
+    }
+
+    fn equal(&self, a: &str, b: &str) -> bool {
+        match self {
+            Builtin::PlainString(datatype) => datatype.equal(a, b),
+            Builtin::PlainToken(datatype) => datatype.equal(a, b),
+            Builtin::XsdString(datatype) => datatype.equal(a, b),
+            Builtin::XsdToken(datatype) => datatype.equal(a, b),
+            Builtin::NcName(datatype) => datatype.equal(a, b),
+            Builtin::NmToken(datatype) => datatype.equal(a, b),
+            Builtin::Boolean(datatype) => datatype.equal(a, b),
+            Builtin::Integer(datatype) => datatype.equal(a, b),
+        }
+    }
+}

@@ -1,0 +1,48 @@
+// Texts seen as their collapsed forms, which are never built.
+ghost use Rattle.std.specs.Prelude.{◌≡◌, length, option_copied};
+ghost use Rattle.std.specs.Str.{chars, bytes_eq};
+ghost use Rattle.rng_model.specs.Blanks.{pieces, collapse};
+ghost use Rattle.rng_types.specs.Pieces.{only};
+
+use rng_model::Pieces;
+
+// the only piece between the blanks of the text
+pub(crate) fn only_piece(text: &str) -> Option<&str>
+    ensures { option_copied result ≡ only (pieces text.now) }
+{
+    let mut pieces = Pieces::new(text);
+    let piece = pieces.next()?;
+    match pieces.next() {
+        None => Some(piece),
+        Some(_) => None,
+    }
+}
+
+// whether the two texts collapse to one
+pub(crate) fn is_same_collapsed(a: &str, b: &str) -> bool
+    ensures { result ≡ bytes_eq (collapse a.now) (collapse b.now) }
+{
+    Pieces::new(a).eq(Pieces::new(b))
+}
+
+// how many characters the text has
+pub(crate) fn char_count(text: &str) -> usize
+    ensures { result ≡ length (chars text.now) }
+{
+    text.chars().count()
+}
+
+// how many characters the text has once it is collapsed
+pub(crate) fn collapsed_char_count(text: &str) -> usize
+    ensures { result ≡ length (chars (collapse text.now)) }
+{
+    let mut pieces = Pieces::new(text);
+    let Some(first) = pieces.next() else {
+        return 0;
+    };
+    let mut count = char_count(first);
+    for piece in pieces {
+        count += 1 + char_count(piece);
+    }
+    count
+}

@@ -1,0 +1,39 @@
+// Bounds on how many characters a text has.
+ghost use Rattle.std.specs.Prelude.{◌≡◌};
+ghost use Rattle.rng_types.specs.Lengths.{is_at_least, is_at_most, is_within};
+
+/// The least and the greatest number of characters of a text, where there is one.
+///
+/// XML Schema Part 2, sections 4.3.2 and 4.3.3. A least one above the greatest allows nothing.
+#[derive(Clone, Copy, Debug, PartialEq, Eq)]
+pub struct Lengths {
+    pub min: Option<usize>,
+    pub max: Option<usize>,
+}
+
+impl Lengths {
+    /// Whether so many characters are within the bounds.
+    pub fn allow(&self, len: usize) -> bool
+        ensures { result ≡ is_within self.now len }
+    {
+        is_at_least(self.min, len) && is_at_most(self.max, len)
+    }
+}
+
+fn is_at_least(min: Option<usize>, len: usize) -> bool
+    ensures { result ≡ is_at_least min len }
+{
+    match min {
+        Some(min) => min <= len,
+        None => true,
+    }
+}
+
+fn is_at_most(max: Option<usize>, len: usize) -> bool
+    ensures { result ≡ is_at_most max len }
+{
+    match max {
+        Some(max) => len <= max,
+        None => true,
+    }
+}

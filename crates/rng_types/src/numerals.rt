@@ -1,0 +1,128 @@
+// Numbers and truth values, and bounds on numbers.
+ghost use Rattle.std.specs.Prelude.{◌≡◌};
+ghost use Rattle.std.specs.Char.{is_ascii_digit};
+ghost use Rattle.std.specs.List.{list_all};
+ghost use Rattle.std.specs.Str.Parse.{without_leading_sign};
+ghost use Rattle.rng_model.specs.Blanks.{collapse};
+ghost use Rattle.rng_types.specs.Numerals.{is_decimal, is_no_less, is_no_more, is_inside, truth_of, integer_of, length_of};
+
+use crate::collapsed::only_piece;
+
+/// The greatest number of digits of an integer.
+const MOST_DIGITS: usize = 18;
+
+/// The greatest number of digits of a length.
+const MOST_LENGTH_DIGITS: usize = 9;
+
+/// The least and the greatest integer, where there is one. Both are inclusive.
+///
+/// XML Schema Part 2, sections 4.3.7 and 4.3.10. A least one above the greatest allows nothing.
+#[derive(Clone, Copy, Debug, PartialEq, Eq)]
+pub struct Bounds {
+    pub min: Option<i128>,
+    pub max: Option<i128>,
+}
+
+impl Bounds {
+    /// Whether the number is within the bounds.
+    pub fn allow(&self, n: i128) -> bool
+        ensures { result ≡ is_inside self.now n }
+    {
+        is_no_less(self.min, n) && is_no_more(self.max, n)
+    }
+}
+
+fn is_no_less(min: Option<i128>, n: i128) -> bool
+    ensures { result ≡ is_no_less min n }
+{
+    match min {
+        Some(min) => min <= n,
+        None => true,
+    }
+}
+
+fn is_no_more(max: Option<i128>, n: i128) -> bool
+    ensures { result ≡ is_no_more max n }
+{
+    match max {
+        Some(max) => n <= max,
+        None => true,
+    }
+}
+
+// the truth value that the text stands for once it is collapsed
+pub(crate) fn truth(text: &str) -> Option<bool>
+    ensures { result ≡ truth_of (collapse text.now) }
+{
+    match only_piece(text) {
+        Some(piece) => truth_in(piece),
+        None => None,
+    }
+}
+
+// the truth value that the text writes
+#[tactic(auto, unfolding(crate::specs::Numerals::truth_of))]
+fn truth_in(text: &str) -> Option<bool>
+    ensures { result ≡ truth_of text.now }
+{
+    match text {
+        "true" | "1" => Some(true),
+        "false" | "0" => Some(false),
+        _ => None,
+    }
+}
+
+// the number that the text stands for once it is collapsed
+pub(crate) fn integer(text: &str) -> Option<i128>
+    ensures { result ≡ integer_of (collapse text.now) }
+{
+    match only_piece(text) {
+        Some(piece) => integer_in(piece),
+        None => None,
+    }
+}
+
+// the number that the text writes
+#[tactic(auto, unfolding(crate::specs::Numerals::integer_of))]
+fn integer_in(numeral: &str) -> Option<i128>
+    ensures { result ≡ integer_of numeral.now }
+{
+    if is_decimal(without_sign(numeral.as_bytes()), MOST_DIGITS) {
+        numeral.parse().ok()
+    } else {
+        None
+    }
+}
+
+// the length that the text writes
+#[tactic(auto, unfolding(crate::specs::Numerals::length_of))]
+pub(crate) fn length(numeral: &str) -> Option<usize>
+    ensures { result ≡ length_of numeral.now }
+{
+    if is_decimal(numeral.as_bytes(), MOST_LENGTH_DIGITS) {
+        numeral.parse().ok()
+    } else {
+        None
+    }
+}
+
+fn without_sign(numeral: &[u8]) -> &[u8]
+    ensures { result.now ≡ without_leading_sign numeral.now }
+{
+    match numeral {
+        [b'+' | b'-', digits @ ..] => digits,
+        digits => digits,
+    }
+}
+
+fn is_decimal(digits: &[u8], most: usize) -> bool
+    ensures { result ≡ is_decimal most digits.now }
+{
+    !digits.is_empty() && are_digits(digits) && digits.len() <= most
+}
+
+fn are_digits(bytes: &[u8]) -> bool
+    ensures { result ≡ list_all is_ascii_digit bytes.now }
+{
+    bytes.iter().all(|b| b.is_ascii_digit())
+}

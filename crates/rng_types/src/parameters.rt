@@ -1,0 +1,127 @@
+// The parameters of datatypes.
+ghost use Rattle.std.specs.Prelude.{◌≡◌, map, option_copied};
+ghost use Rattle.std.specs.List.{list_all};
+ghost use Rattle.rng_model.specs.Types.{parameter_of};
+ghost use Rattle.rng_types.specs.Numerals.{length_of};
+ghost use Rattle.rng_types.specs.Table.{is_named, stands_once, value_named, read_named, bound_of, is_length, is_bound, takes_lengths, takes_bounds, lengths_of, bounds_of, or_bad};
+
+use crate::builtin::TypeFault;
+use crate::lengths::Lengths;
+use crate::numerals::{Bounds, integer, length};
+
+// the bounds on lengths that the parameters write
+#[tactic(auto, unfolding(crate::specs::Table::lengths_of))]
+pub(crate) fn lengths(params: &[(String, String)]) -> Result<Lengths, TypeFault>
+    ensures { result ≡ or_bad (lengths_of (map parameter_of params.now)) }
+{
+    if takes_lengths(params) {
+        Ok(Lengths {
+            min: length_named(params, "minLength"),
+            max: length_named(params, "maxLength"),
+        })
+    } else {
+        Err(TypeFault::BadParameter)
+    }
+}
+
+// the bounds on numbers that the parameters write
+#[tactic(auto, unfolding(crate::specs::Table::bounds_of))]
+pub(crate) fn bounds(params: &[(String, String)]) -> Result<Bounds, TypeFault>
+    ensures { result ≡ or_bad (bounds_of (map parameter_of params.now)) }
+{
+    if takes_bounds(params) {
+        Ok(Bounds {
+            min: bound_named(params, "minInclusive"),
+            max: bound_named(params, "maxInclusive"),
+        })
+    } else {
+        Err(TypeFault::BadParameter)
+    }
+}
+
+// each parameter is a bound on lengths, and none stands twice
+fn takes_lengths(params: &[(String, String)]) -> bool
+    ensures { result ≡ takes_lengths (map parameter_of params.now) }
+{
+    are_lengths(params) && stands_once(params, "minLength") && stands_once(params, "maxLength")
+}
+
+// each parameter is a bound on numbers, and none stands twice
+fn takes_bounds(params: &[(String, String)]) -> bool
+    ensures { result ≡ takes_bounds (map parameter_of params.now) }
+{
+    are_bounds(params) && stands_once(params, "minInclusive") && stands_once(params, "maxInclusive")
+}
+
+// each parameter is a bound on lengths
+fn are_lengths(params: &[(String, String)]) -> bool
+    ensures { result ≡ list_all is_length (map parameter_of params.now) }
+{
+    params.iter().all(is_length)
+}
+
+// each parameter is a bound on numbers
+fn are_bounds(params: &[(String, String)]) -> bool
+    ensures { result ≡ list_all is_bound (map parameter_of params.now) }
+{
+    params.iter().all(is_bound)
+}
+
+fn is_length(param: &(String, String)) -> bool
+    ensures { result ≡ is_length (parameter_of param.now) }
+{
+    (is_named(param, "minLength") || is_named(param, "maxLength"))
+        && length(param.1.as_str()).is_some()
+}
+
+fn is_bound(param: &(String, String)) -> bool
+    ensures { result ≡ is_bound (parameter_of param.now) }
+{
+    (is_named(param, "minInclusive") || is_named(param, "maxInclusive"))
+        && integer(param.1.as_str()).is_some()
+}
+
+fn is_named(param: &(String, String), name: &str) -> bool
+    ensures { result ≡ is_named name.now (parameter_of param.now) }
+{
+    param.0.as_str() == name
+}
+
+// no two parameters have the name
+fn stands_once(params: &[(String, String)], name: &str) -> bool
+    ensures { result ≡ stands_once name.now (map parameter_of params.now) }
+{
+    params.iter().filter(|param| is_named(param, name)).count() <= 1
+}
+
+// the length that the parameter of that name writes
+fn length_named(params: &[(String, String)], name: &str) -> Option<usize>
+    ensures { result ≡ read_named length_of (value_named name.now (map parameter_of params.now)) }
+{
+    match value_named(params, name) {
+        Some(value) => length(value),
+        None => None,
+    }
+}
+
+// the number that the parameter of that name writes
+fn bound_named(params: &[(String, String)], name: &str) -> Option<i128>
+    ensures { result ≡ read_named bound_of (value_named name.now (map parameter_of params.now)) }
+{
+    match value_named(params, name) {
+        Some(value) => integer(value),
+        None => None,
+    }
+}
+
+// the value of the parameter of that name
+fn value_named<'a>(params: &'a [(String, String)], name: &str) -> Option<&'a str>
+    ensures { option_copied result ≡ value_named name.now (map parameter_of params.now) }
+{
+    for param in params {
+        if is_named(param, name) {
+            return Some(param.1.as_str());
+        }
+    }
+    None
+}
