@@ -97,3 +97,12 @@ fn a_type_use_has_its_parts(rt: HostRuntime) -> Result<(), Fail> {
     assert!(rt; used.lib.is_empty() && used.params.is_empty());
     Ok(())
 }
+
+// Where there is memory, it is not told to be wanting: this test alone needs it.
+#[test]
+fn memory_is_taken(rt: HostRuntime) -> Result<(), Fail> {
+    let alloc = rt.alloc();
+    assert!(rt; collapse(alloc, "\ta  b ").is_ok());
+    assert!(rt; split_blanks(alloc, "\ta  b ").is_ok());
+    Ok(())
+}

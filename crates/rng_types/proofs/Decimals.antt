@@ -1,5 +1,5 @@
 -- Numerals: what `parse` answers where they are short enough.
-use Rattle.std.proofs.Common.{codes, nat_le, ◌==◌, ◌≡◌, ℕ, zero, suc, ◌<◌, ◌≤◌, List, [], ◌∷◌, ◌++◌, length, Bool, true, false, ◌&&◌, Some, None, Result, Ok, Err, ℤ, pos, neg_ℤ, cond, refl, ap, ◌∙◌, rules, arith}
+use Rattle.std.proofs.Common.{◌^◌, codes, nat_le, ◌==◌, ◌≡◌, ℕ, zero, suc, ◌<◌, ◌≤◌, List, [], ◌∷◌, ◌++◌, length, Bool, true, false, ◌&&◌, Some, None, Result, Ok, Err, ℤ, pos, neg_ℤ, cond, refl, ap, ◌∙◌, rules, arith}
 use Rattle.std.specs.Char.{is_ascii_digit}
 use Rattle.std.specs.List.{list_all}
 use Rattle.std.specs.Result.{result_ok}
@@ -11,7 +11,7 @@ use Rattle.std.proofs.lemmas.Str.Parse.{parse_gives}
 use Rattle.std.proofs.lemmas.Str.Parse.{IsNumeralModel, IsDigitsTest, numerals_by_value, digits_value_short}
 use Rattle.std.proofs.lemmas.Bool.{and_parts, leb-true, and_left, and_right}
 use Rattle.rng_model.specs.Blanks.{has_bytes, is_run_byte}
-use Rattle.rng_types.specs.Numerals.{is_decimal, most_digits, integer_of, length_of, truth_of}
+use Rattle.rng_types.specs.Numerals.{is_decimal, most_digits, most_length_digits, integer_of, length_of, truth_of}
 use Rattle.rng_types.proofs.OnePiece.{all_fails, differs}
 
 digits_test : IsDigitsTest (λ ds. list_all is_ascii_digit ds ≡ true)
@@ -37,11 +37,11 @@ IsShort-from most ds e =
     record { some = some_digits ds parts.0; digits = more.0; short = leb-true (length ds) most more.1 }
 
 -- what `parse` answers at a length
-pub length-parsed : {E : Type 0} (bs : List ℕ) (r : Result ℕ E) → ParsesUnsigned 64 10 bs r → is_decimal 9 bs ≡ true → result_ok r ≡ length_of bs
+pub length-parsed : {E : Type 0} (bs : List ℕ) (r : Result ℕ E) → ParsesUnsigned 64 10 bs r → is_decimal most_length_digits bs ≡ true → result_ok r ≡ length_of bs
 unfolding length_of
 length-parsed bs r h e =
-    let is = IsShort-from 9 bs e in
-    let small : digits_value 10 bs < 1000000000 = digits_value_short own bs 9 is.digits is.short in
+    let is = IsShort-from most_length_digits bs e in
+    let small : digits_value 10 bs < 10 ^ most_length_digits = digits_value_short own bs most_length_digits is.digits is.short in
     let answer = parse_gives own 64 bs r h is.digits is.some (omega (arith, small)) in
     rw (answer, e) refl
 
@@ -54,7 +54,7 @@ mag_signed : (minus : Bool) (n : ℕ) → mag (cond minus (neg_ℤ (pos n)) (pos
 mag_signed true n = mag_neg n
 mag_signed false n = omega arith
 
-signed_fits : (bs : List ℕ) → digits_value 10 (without_leading_sign bs) < 1000000000000000000 → FitsSigned w128 (signed_digits_value 10 bs)
+signed_fits : (bs : List ℕ) → digits_value 10 (without_leading_sign bs) < 10 ^ most_digits → FitsSigned w128 (signed_digits_value 10 bs)
 signed_fits bs small = record { sfits = omega (arith, small, mag_signed (starts_with_minus bs) (digits_value 10 (without_leading_sign bs))) }
 
 parsed_by : {E : Type 0} (bs : List ℕ) (r : Result ℤ E) → ParsesSigned w128 10 bs r → IsNumeral 10 (without_leading_sign bs) × FitsSigned w128 (signed_digits_value 10 bs) → result_ok r ≡ Some (signed_digits_value 10 bs)
@@ -62,11 +62,11 @@ parsed_by bs (Ok x) h is = ap Some h.1
 parsed_by bs (Err e) h is = absurd (h is)
 
 -- what `parse` answers at an integer
-pub integer-parsed : {E : Type 0} (bs : List ℕ) (r : Result ℤ E) → ParsesSigned w128 10 bs r → is_decimal 18 (without_leading_sign bs) ≡ true → result_ok r ≡ integer_of bs
+pub integer-parsed : {E : Type 0} (bs : List ℕ) (r : Result ℤ E) → ParsesSigned w128 10 bs r → is_decimal most_digits (without_leading_sign bs) ≡ true → result_ok r ≡ integer_of bs
 unfolding integer_of
 integer-parsed bs r h e =
-    let is = IsShort-from 18 (without_leading_sign bs) e in
-    let small : digits_value 10 (without_leading_sign bs) < 1000000000000000000 = digits_value_short own (without_leading_sign bs) 18 is.digits is.short in
+    let is = IsShort-from most_digits (without_leading_sign bs) e in
+    let small : digits_value 10 (without_leading_sign bs) < 10 ^ most_digits = digits_value_short own (without_leading_sign bs) most_digits is.digits is.short in
     parsed_by bs r h ((is.some, own.to (without_leading_sign bs) is.digits), signed_fits bs small) ∙ rw e refl
 
 -- nothing, or a space inside, is no truth value

@@ -39,7 +39,7 @@ pub(crate) fn bounds(params: &[(String, String)]) -> Result<Bounds, TypeFault>
     }
 }
 
-// each parameter is a bound on lengths, and none stands twice
+// Each parameter is a bound on lengths, and none stands twice
 fn takes_lengths(params: &[(String, String)]) -> bool
     ensures { result ≡ takes_lengths (map parameter_of params.now) }
 {
