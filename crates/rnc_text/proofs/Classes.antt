@@ -1,18 +1,17 @@
 -- The longest front of a class of characters, and what follows it.
-use Rattle.std.proofs.Common.{◌≡◌, ℕ, ◌+◌, ◌<◌, ◌≤◌, Bool, true, false, cond, eqb, ◌⊎◌, inl, inr, List, [], ◌∷◌, ◌++◌, length, map, Option, Some, None, refl, sym, ap, subst, ◌∙◌, arith}
+use Rattle.std.proofs.Common.{◌≡◌, ℕ, Bool, true, false, List, [], ◌∷◌, ◌++◌, refl, sym, ap, subst, ◌∙◌}
 use Rattle.std.specs.Prelude.{◌&&◌, not}
 use Rattle.std.specs.List.{list_all}
-use Rattle.std.proofs.lemmas.Bool.{and_parts, eqb-true}
-use Rattle.std.proofs.lemmas.List.{length-append}
-use Rattle.rng_model.specs.Characters.{is_name_start, is_name_char, is_colon, is_ncname}
-use Rattle.rnc_text.specs.Characters.{number_of, numbers_of}
+use Rattle.std.proofs.lemmas.Bool.{and_parts}
+use Rattle.rng_model.specs.Characters.{is_name_start, is_name_char, is_colon}
+use Rattle.rnc_text.specs.Characters.{numbers_of}
 use Rattle.rnc_text.specs.Tokens.{IsNcname}
-use Rattle.rnc_text.specs.CutSteps.{starts_ncname, is_ncname_number, is_in_ncname, is_in, front, after, first_of, behind, begins_ncname}
+use Rattle.rnc_text.specs.CutSteps.{starts_ncname, is_ncname_number, is_in, front, after, begins_ncname}
 use Rattle.rnc_text.specs.declared.character.Character.{Character}
 use Rattle.rnc_text.specs.declared.character.Character.TheVariants.{LineEnd, Ordinary}
 use Rattle.rnc_text.specs.declared.scanning.Class.{Class}
 use Rattle.rnc_text.specs.declared.scanning.Class.TheVariants as classes
-use Rattle.rnc_text.proofs.Escapes.{chosen, false_true}
+use Rattle.rnc_text.proofs.Escapes.{false_true}
 
 -- all of the characters are of the class
 abbrev pub AllIn : Class → List Character → Type 0

@@ -1,5 +1,5 @@
 -- Pieces one after the other, that there is one cut, and where it stops.
-use Rattle.std.proofs.Common.{◌≡◌, ℕ, ◌+◌, ◌-◌, ◌<◌, ◌≤◌, Bool, true, false, ◌⊎◌, inl, inr, List, [], ◌∷◌, ◌++◌, length, map, Option, Some, None, Result, Ok, Err, refl, sym, ap, subst, ◌∙◌, append_assoc, arith}
+use Rattle.std.proofs.Common.{◌≡◌, ℕ, ◌+◌, ◌-◌, ◌<◌, ◌≤◌, ◌⊎◌, inl, inr, List, [], ◌∷◌, ◌++◌, length, Option, Some, None, Result, Ok, Err, refl, sym, ap, subst, ◌∙◌, arith}
 use Rattle.std.specs.Prelude.{IfOk, IfErr}
 use Rattle.std.proofs.lemmas.List.{length-append, append-nil}
 use Rattle.std.proofs.lemmas.Option.{none-some, some_pair_parts}
@@ -10,17 +10,15 @@ use Rattle.rnc_text.specs.declared.cursor.Cursor.{Cursor}
 use Rattle.rnc_text.specs.declared.fault.TextFault.{TextFault}
 use Rattle.rnc_text.specs.declared.fault.TextFault.TheVariants.{At, Memory}
 use Rattle.rnc_text.specs.declared.scanning.Part.{Part}
-use Rattle.rnc_text.specs.declared.scanning.Part.TheVariants as parts
-use Rattle.rnc_text.specs.declared.token.Token.{Token}
 use Rattle.rnc_text.specs.declared.token.TokenKind.{TokenKind}
 use Rattle.rnc_text.specs.Characters.{number_of, bytes_of, byte_length}
 use Rattle.rnc_text.specs.Tokens.{Piece, gap, token, characters_in, IsPiece}
-use Rattle.rnc_text.specs.Cut.{IsNext, NothingBegins, Cuts, here, next_is, Lexeme, lexeme_of, lexemes_of, lexemes_at, HasTokens, BreaksTokensAt}
+use Rattle.rnc_text.specs.Cut.{IsNext, NothingBegins, Cuts, here, next_is, Lexeme, lexemes_at, AreInOrder, HasTokens, BreaksTokensAt}
 use Rattle.rnc_text.specs.Answers.{GivesOk, GivesFault, IfBroken}
 use Rattle.rnc_text.specs.CutSteps.{Found, piece_of}
-use Rattle.rnc_text.specs.Cursors.{remaining, IsPast, FindsPart, said, told}
+use Rattle.rnc_text.specs.Cursors.{remaining, FindsPart, said, told}
 use Rattle.rnc_text.proofs.Places.{bytes_append}
-use Rattle.rnc_text.proofs.Pieces.{InFront, piece_front}
+use Rattle.rnc_text.proofs.Pieces.{piece_front}
 use Rattle.rnc_text.proofs.Scans.{piece_none}
 use Rattle.rnc_text.proofs.Longest.{Covered, covers}
 
@@ -29,11 +27,12 @@ use Rattle.rnc_text.proofs.Longest.{Covered, covers}
 piece_takes : (q : Piece) → IsPiece q → 0 < length (characters_in q)
 piece_takes q is = takes (characters_in q) refl (λ e. covered_none q (subst (Covered q) (piece_none [] refl) (covers is [] [] (sym (append-nil (characters_in q) ∙ e)))))
   where
-  covered_none : (q : Piece) → Covered q None → ⊥
-  covered_none q h = h
-  takes : (cs : List Character) → characters_in q ≡ cs → (characters_in q ≡ [] → ⊥) → 0 < length (characters_in q)
-  takes [] e none = absurd (none e)
-  takes (c ∷ cs) e none = omega (arith, ap length e)
+    covered_none : (q : Piece) → Covered q None → ⊥
+    covered_none q h = h
+
+    takes : (cs : List Character) → characters_in q ≡ cs → (characters_in q ≡ [] → ⊥) → 0 < length (characters_in q)
+    takes [] e none = absurd (none e)
+    takes (c ∷ cs) e none = omega (arith, ap length e)
 
 -- ---- what is next
 
@@ -59,9 +58,9 @@ same_tail (x ∷ xs) ys zs e = same_tail xs ys zs (cc)
 next_found : (cs : List Character) (p q : Piece) (rest after : List Character) → piece_of cs ≡ Some (p, rest) → IsNext cs q after → (q ≡ p) × (after ≡ rest)
 next_found cs p q rest after e n = go (longest_at cs p rest e q after n.is n.parts)
   where
-  go : (length (characters_in q) < length (characters_in p)) ⊎ (q ≡ p) → (q ≡ p) × (after ≡ rest)
-  go (inl lt) = let f = piece_front cs p rest e in absurd (omega (arith, lt, n.longest p rest f.is f.parts))
-  go (inr same) = (same, same_tail (characters_in p) after rest (ap (λ (x : Piece). characters_in x ++ after) (sym same) ∙ sym n.parts ∙ (piece_front cs p rest e).parts))
+    go : (length (characters_in q) < length (characters_in p)) ⊎ (q ≡ p) → (q ≡ p) × (after ≡ rest)
+    go (inl lt) = let f = piece_front cs p rest e in absurd (omega (arith, lt, n.longest p rest f.is f.parts))
+    go (inr same) = (same, same_tail (characters_in p) after rest (ap (λ (x : Piece). characters_in x ++ after) (sym same) ∙ sym n.parts ∙ (piece_front cs p rest e).parts))
 
 -- there is one next piece
 one_at : (cs : List Character) (o : Found) (p q : Piece) (rest after : List Character) → piece_of cs ≡ o → IsNext cs p rest → IsNext cs q after → (p ≡ q) × (rest ≡ after)
@@ -199,16 +198,16 @@ cut_token cs ts us from to part kind text start end h is f s e new =
     let all = characters_in f.piece in
     let end-is : end ≡ (from.length - length from.rest.now) + byte_length all = omega (arith, e, h.at, f.past.whole, ap length f.past.bytes, length-append (bytes_of all) to.rest.now) in
     cut_on cs ts us from to part h f (new
-      ∙ ap (λ (n : ℕ). ts ++ record { kind = kind; text = text; starts = n; ends = end } ∷ []) s
-      ∙ ap (λ (n : ℕ). ts ++ record { kind = kind; text = text; starts = from.length - length from.rest.now; ends = n } ∷ []) end-is
-      ∙ ap (λ (x : List Lexeme). ts ++ x) (sym (token_of f.piece _ kind text (sym is ∙ f.says))))
+    ∙ ap (λ (n : ℕ). ts ++ record { kind = kind; text = text; starts = n; ends = end } ∷ []) s
+    ∙ ap (λ (n : ℕ). ts ++ record { kind = kind; text = text; starts = from.length - length from.rest.now; ends = n } ∷ []) end-is
+    ∙ ap (λ (x : List Lexeme). ts ++ x) (sym (token_of f.piece _ kind text (sym is ∙ f.says))))
 
 pub cut_done : (cs : List Character) (ts : List Lexeme) (place : Cursor) → HasCut cs ts place → length place.rest.now ≡ 0 → HasTokens cs ts
 cut_done cs ts place h e = record { pieces = h.pieces; cut = subst (λ (x : List Character). Cuts cs h.pieces x) (no_characters (remaining place) (h.left ∙ e)) h.cut; are = h.are }
   where
-  no_characters : (cs : List Character) → byte_length cs ≡ 0 → cs ≡ []
-  no_characters [] e = refl
-  no_characters (c ∷ cs) e = absurd (omega (arith, e, some_bytes (c ∷ cs) (omega arith)))
+    no_characters : (cs : List Character) → byte_length cs ≡ 0 → cs ≡ []
+    no_characters [] e = refl
+    no_characters (c ∷ cs) e = absurd (omega (arith, e, some_bytes (c ∷ cs) (omega arith)))
 
 pub cut_stops : (cs : List Character) (ts : List Lexeme) (place : Cursor) → HasCut cs ts place → 0 < length place.rest.now → piece_of (remaining place) ≡ None → BreaksTokensAt cs (place.length - length place.rest.now)
 cut_stops cs ts place h lt none = record {
@@ -220,6 +219,20 @@ cut_stops cs ts place h lt none = record {
   place_is = omega (arith, h.left, h.at, h.whole);
 }
   where
-  some_characters : (cs : List Character) → 0 < byte_length cs → 0 < length cs
-  some_characters [] lt = absurd (omega (arith, lt))
-  some_characters (c ∷ cs) lt = omega arith
+    some_characters : (cs : List Character) → 0 < byte_length cs → 0 < length cs
+    some_characters [] lt = absurd (omega (arith, lt))
+    some_characters (c ∷ cs) lt = omega arith
+
+-- ---- spans
+
+order_piece : (p : Piece) (ps : List Piece) (start n : ℕ) → start ≤ n → IsPiece p → ((start n : ℕ) → start ≤ n → AreInOrder start (lexemes_at n ps)) → AreInOrder start (lexemes_at n (p ∷ ps))
+order_piece (gap all) ps start n le is more = more start (n + byte_length all) (omega (arith, le))
+order_piece (token kind says all) ps start n le is more = (le, omega (arith, some_bytes all (piece_takes (token kind says all) is)), more (n + byte_length all) (n + byte_length all) (omega arith))
+
+order_of : {cs : List Character} {ps : List Piece} {rest : List Character} → Cuts cs ps rest → (start n : ℕ) → start ≤ n → AreInOrder start (lexemes_at n ps)
+order_of (here e) start n le = tt
+order_of (next_is {piece = p} {pieces = ps} m c e) start n le = subst (λ (x : List Piece). AreInOrder start (lexemes_at n x)) (sym e) (order_piece p ps start n le m.is (λ start n le. order_of c start n le))
+
+pub in_order : {X : Type 0} (view : X → List Lexeme) (cs : List Character) (r : Result X TextFault) → IfOk r (λ v. HasTokens cs (view v)) → IfOk r (λ v. AreInOrder 0 (view v))
+in_order view cs (Ok v) h = subst (AreInOrder 0) (sym h.are) (order_of h.cut 0 0 (omega arith))
+in_order view cs (Err e) h = tt

@@ -1,10 +1,10 @@
 -- Characters one after the other, that there is one decoding, and one place at which it stops.
-use Rattle.std.proofs.Common.{◌≡◌, ℕ, ◌+◌, ◌<◌, ◌≤◌, Bool, true, false, eqb, ◌⊎◌, inl, inr, List, [], ◌∷◌, ◌++◌, length, Result, Ok, Err, refl, sym, ap, subst, ◌∙◌, arith, append_assoc}
+use Rattle.std.proofs.Common.{◌≡◌, ℕ, ◌+◌, ◌<◌, false, eqb, inl, inr, List, [], ◌∷◌, ◌++◌, length, Result, Ok, Err, refl, sym, ap, subst, ◌∙◌, arith, append_assoc}
 use Rattle.std.specs.Prelude.{IfOk, IfErr}
-use Rattle.std.specs.Str.{chars, IsUtf8, IsValidUpTo, encode_utf8_all}
+use Rattle.std.specs.Str.{chars, IsUtf8, encode_utf8_all}
 use Rattle.std.proofs.lemmas.List.{length-append}
 use Rattle.std.proofs.lemmas.Str.{encodes-chars, scalars-chars, encodes_same, utf8_valid_len-IsValidUpTo, length-le-encodes, encodes-append}
-use Rattle.rnc_text.specs.Decoding.{Begins, carriage_return_line_feed, carriage_return, line_feed, escape, other, Decodes, here, next_is, IsSpelling, IsDecoded, BreaksUtf8At, BreaksCharactersAt, BreaksTextAt}
+use Rattle.rnc_text.specs.Decoding.{Begins, carriage_return_line_feed, carriage_return, line_feed, escape, other, Decodes, here, next_is, IsSpelling, IsDecoded, BreaksCharactersAt, BreaksTextAt}
 use Rattle.rnc_text.specs.Answers.{GivesOk, GivesFault, IfBroken}
 use Rattle.rnc_text.specs.Held.{characters_of}
 use Rattle.rnc_text.proofs.Fronts.{begins_one, begins_none}
@@ -91,16 +91,16 @@ text_broken bs rest cs place u v d some stops is =
 pub some_chars : (bs : List ℕ) → IsUtf8 bs → 0 < length bs → 0 < length (chars bs)
 some_chars bs u lt = go (chars bs) (encodes-chars bs u)
   where
-  go : (cs : List ℕ) → encode_utf8_all cs ≡ bs → 0 < length cs
-  go [] e = absurd (omega (arith, ap length e))
-  go (c ∷ cs) e = omega arith
+    go : (cs : List ℕ) → encode_utf8_all cs ≡ bs → 0 < length cs
+    go [] e = absurd (omega (arith, ap length e))
+    go (c ∷ cs) e = omega arith
 
 pub no_chars : (bs : List ℕ) → IsUtf8 bs → length bs ≡ 0 → chars bs ≡ []
 no_chars bs u e = go (chars bs) (encodes-chars bs u)
   where
-  go : (cs : List ℕ) → encode_utf8_all cs ≡ bs → cs ≡ []
-  go [] f = refl
-  go (c ∷ cs) f = absurd (omega (arith, ap length f, length-le-encodes (c ∷ cs)))
+    go : (cs : List ℕ) → encode_utf8_all cs ≡ bs → cs ≡ []
+    go [] f = refl
+    go (c ∷ cs) f = absurd (omega (arith, ap length f, length-le-encodes (c ∷ cs)))
 
 -- ---- a character takes something
 

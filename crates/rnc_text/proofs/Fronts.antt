@@ -1,13 +1,13 @@
 -- The character in front, step by step and by its cases.
-use Rattle.std.proofs.Common.{◌≡◌, ◌≢◌, ℕ, ◌+◌, ◌<◌, ◌≤◌, Bool, true, false, cond, eqb, ◌⊎◌, inl, inr, List, [], ◌∷◌, ◌++◌, length, Option, Some, None, refl, sym, ap, subst, ◌∙◌, arith}
+use Rattle.std.proofs.Common.{◌≡◌, ◌≢◌, ℕ, true, false, eqb, inl, inr, List, [], ◌∷◌, ◌++◌, Option, Some, None, refl, sym, ap, subst, ◌∙◌, arith}
 use Rattle.std.specs.Prelude.{◌&&◌}
 use Rattle.std.specs.List.{slice_get}
-use Rattle.std.proofs.lemmas.Bool.{eqb-true, eqb-false, ne_eqb, and_parts, and_left, and_right, false_from_ne_true}
+use Rattle.std.proofs.lemmas.Bool.{eqb-true, eqb-false, ne_eqb, and_parts, false_from_ne_true}
 use Rattle.std.proofs.lemmas.Option.{none-some, some_pair_parts}
 use Rattle.rng_model.specs.Characters.{is_xml_char}
 use Rattle.rnc_text.specs.Decoding.{AreDigits, hexadecimal, OpensEscape, Begins, carriage_return_line_feed, carriage_return, line_feed, escape, other}
 use Rattle.rnc_text.specs.DecodingSteps.{first_and_rest, without_line_feed, hexadecimal_end, opens_from, escape_front, ordinary_if_char, after_brace, plain_front, front_of}
-use Rattle.rnc_text.proofs.Escapes.{chosen, false_true, escape_opens, opens_escape, opens_more, hexadecimal_read, digits_found}
+use Rattle.rnc_text.proofs.Escapes.{chosen, false_true, escape_opens, opens_escape, hexadecimal_read, digits_found}
 use Rattle.rnc_text.specs.declared.character.Character.{Character}
 use Rattle.rnc_text.specs.declared.character.Character.TheVariants.{LineEnd, Ordinary}
 
@@ -21,26 +21,26 @@ unfolding without_line_feed
 return_begins [] d rest e f = subst (λ (d : Character). Begins (0xD ∷ []) d rest) e (carriage_return (ap (λ (x : List ℕ). 0xD ∷ x) f) (λ h. let g : None ≡ Some 0xA = ap (λ (x : List ℕ). slice_get x 0) f ∙ h in absurd (none-some _ g)))
 return_begins (c ∷ cs) d rest e f =
     subst (λ (d : Character). Begins (0xD ∷ c ∷ cs) d rest) e
-      (elim (chosen (eqb c 0xA) _ _ _ f) [
-        | inl h ↦ carriage_return_line_feed (let a = eqb-true c 0xA h.0 in let b = h.1 in cc)
-        | inr h ↦ carriage_return (ap (λ (x : List ℕ). 0xD ∷ x) h.1) (λ g. let a : Some c ≡ Some 0xA = ap (λ (x : List ℕ). slice_get x 0) h.1 ∙ g in eqb-false c 0xA h.0 (cc))
-      ])
+    (elim (chosen (eqb c 0xA) _ _ _ f) [
+      | inl h ↦ carriage_return_line_feed (let a = eqb-true c 0xA h.0 in let b = h.1 in cc)
+      | inr h ↦ carriage_return (ap (λ (x : List ℕ). 0xD ∷ x) h.1) (λ g. let a : Some c ≡ Some 0xA = ap (λ (x : List ℕ). slice_get x 0) h.1 ∙ g in eqb-false c 0xA h.0 (cc))
+    ])
 
 escape_begins : (cs : List ℕ) (d : Character) (rest : List ℕ) → ordinary_if_char (hexadecimal_end 7 0 cs) ≡ Some (d, rest) → Begins (0x5C ∷ 0x78 ∷ 0x7B ∷ cs) d rest
 escape_begins cs d rest e = go (hexadecimal_end 7 0 cs) refl e
   where
-  go : (o : Option (ℕ × List ℕ)) → hexadecimal_end 7 0 cs ≡ o → ordinary_if_char o ≡ Some (d, rest) → Begins (0x5C ∷ 0x78 ∷ 0x7B ∷ cs) d rest
-  go None h e = absurd (none-some _ e)
-  go (Some x) h e =
-      elim (chosen (is_xml_char x.0) _ _ _ e) [
-        | inl g ↦ let p = some_pair_parts _ _ _ _ g.1 in
-            let f = digits_found 7 0 cs x.0 x.1 h in
-            let are : AreDigits f.digits = record { some = omega (arith, f.some); most = omega (arith, f.short); are_hexadecimal = f.all } in
-            subst (λ (d : Character). Begins (0x5C ∷ 0x78 ∷ 0x7B ∷ cs) d rest) p.0
+    go : (o : Option (ℕ × List ℕ)) → hexadecimal_end 7 0 cs ≡ o → ordinary_if_char o ≡ Some (d, rest) → Begins (0x5C ∷ 0x78 ∷ 0x7B ∷ cs) d rest
+    go None h e = absurd (none-some _ e)
+    go (Some x) h e =
+        elim (chosen (is_xml_char x.0) _ _ _ e) [
+          | inl g ↦ let p = some_pair_parts _ _ _ _ g.1 in
+              let f = digits_found 7 0 cs x.0 x.1 h in
+              let are : AreDigits f.digits = record { some = omega (arith, f.some); most = omega (arith, f.short); are_hexadecimal = f.all } in
+              subst (λ (d : Character). Begins (0x5C ∷ 0x78 ∷ 0x7B ∷ cs) d rest) p.0
               (subst (λ (r : List ℕ). Begins (0x5C ∷ 0x78 ∷ 0x7B ∷ cs) (Ordinary x.0) r) p.1
-                (escape are f.value g.0 (ap (λ (x : List ℕ). 0x5C ∷ 0x78 ∷ 0x7B ∷ x) f.is)))
-        | inr g ↦ absurd (none-some _ g.1)
-      ]
+              (escape are f.value g.0 (ap (λ (x : List ℕ). 0x5C ∷ 0x78 ∷ 0x7B ∷ x) f.is)))
+          | inr g ↦ absurd (none-some _ g.1)
+        ]
 
 brace_begins : (cs : List ℕ) (d : Character) (rest : List ℕ) → after_brace (first_and_rest cs) ≡ Some (d, rest) → Begins (0x5C ∷ 0x78 ∷ cs) d rest
 brace_begins [] d rest e = absurd (none-some _ e)
@@ -64,7 +64,7 @@ plain_begins c cs d rest h1 h2 h3 e =
     elim (chosen (is_xml_char c) _ _ _ e) [
       | inl h ↦ let p = some_pair_parts _ _ _ _ h.1 in
           subst (λ (d : Character). Begins (c ∷ cs) d rest) p.0
-            (other (eqb-false c 0xD h1) (eqb-false c 0xA h2) h.0 (λ o. false_true (sym h3 ∙ escape_opens c cs o)) (ap (λ (x : List ℕ). c ∷ x) p.1))
+          (other (eqb-false c 0xD h1) (eqb-false c 0xA h2) h.0 (λ o. false_true (sym h3 ∙ escape_opens c cs o)) (ap (λ (x : List ℕ). c ∷ x) p.1))
       | inr h ↦ absurd (none-some _ h.1)
     ]
 

@@ -1,5 +1,5 @@
 -- What a text keeps, as it grows by one character.
-use Rattle.std.proofs.Common.{◌≡◌, ℕ, ◌+◌, ◌-◌, ◌<◌, ◌≤◌, Bool, true, false, cond, eqb, Result, Ok, Err, List, [], ◌∷◌, ◌++◌, length, refl, sym, ap, subst, ◌∙◌, arith}
+use Rattle.std.proofs.Common.{◌≡◌, ℕ, ◌+◌, ◌-◌, ◌≤◌, Bool, true, false, cond, eqb, Result, Ok, Err, List, [], ◌∷◌, ◌++◌, length, refl, sym, ap, subst, ◌∙◌, arith}
 use Rattle.std.specs.Prelude.{IfOk, is_ok}
 use Rattle.std.specs.Str.{chars, IsUtf8, encode_utf8_all}
 use Rattle.std.specs.Char.{encode_utf8}
@@ -9,7 +9,7 @@ use Rattle.std.proofs.lemmas.Str.{encodes-append, encodes_same, encodes-chars, l
 use Rattle.rnc_text.specs.Characters.{number_of, numbers_of, bytes_of}
 use Rattle.rnc_text.specs.Held.{unmarked, marked, unused}
 use Rattle.rnc_text.specs.declared.character.Character.{Character}
-use Rattle.rnc_text.specs.declared.character.Character.TheVariants.{LineEnd, Ordinary}
+use Rattle.rnc_text.specs.declared.character.Character.TheVariants.{Ordinary}
 
 -- ---- the decoded text is that of the characters
 
@@ -25,9 +25,9 @@ numbers_marked whole ms [] = refl
 numbers_marked whole [] (c ∷ cs) = let a = number_unmarked c in let b = numbers_marked whole [] cs in cc
 numbers_marked whole (m ∷ ms) (c ∷ cs) = numbers_step whole m c ms cs (eqb m (whole - length (encode_utf8_all (c ∷ cs)))) refl (numbers_marked whole ms cs) (numbers_marked whole (m ∷ ms) cs)
   where
-  numbers_step : (whole m c : ℕ) (ms cs : List ℕ) (b : Bool) → eqb m (whole - length (encode_utf8_all (c ∷ cs))) ≡ b → numbers_of (marked whole ms cs) ≡ cs → numbers_of (marked whole (m ∷ ms) cs) ≡ cs → numbers_of (marked whole (m ∷ ms) (c ∷ cs)) ≡ c ∷ cs
-  numbers_step whole m c ms cs true e p q = rw e (ap (λ (x : List ℕ). c ∷ x) p)
-  numbers_step whole m c ms cs false e p q = rw e (let a = number_unmarked c in cc)
+    numbers_step : (whole m c : ℕ) (ms cs : List ℕ) (b : Bool) → eqb m (whole - length (encode_utf8_all (c ∷ cs))) ≡ b → numbers_of (marked whole ms cs) ≡ cs → numbers_of (marked whole (m ∷ ms) cs) ≡ cs → numbers_of (marked whole (m ∷ ms) (c ∷ cs)) ≡ c ∷ cs
+    numbers_step whole m c ms cs true e p q = rw e (ap (λ (x : List ℕ). c ∷ x) p)
+    numbers_step whole m c ms cs false e p q = rw e (let a = number_unmarked c in cc)
 
 pub bytes_kept : (whole : ℕ) (ms bs : List ℕ) → IsUtf8 bs → bs ≡ bytes_of (marked whole ms (chars bs))
 bytes_kept whole ms bs u = rw (numbers_marked whole ms (chars bs)) (sym (encodes-chars bs u))

@@ -1,15 +1,14 @@
 -- A piece that is in front is no longer than what is found there, and the same if it is as long.
-use Rattle.std.proofs.Common.{◌≡◌, ℕ, ◌+◌, ◌-◌, ◌<◌, ◌≤◌, Bool, true, false, cond, eqb, ◌⊎◌, inl, inr, List, [], ◌∷◌, ◌++◌, length, map, Option, Some, None, refl, sym, ap, subst, ◌∙◌, append_assoc, arith}
+use Rattle.std.proofs.Common.{◌≡◌, ℕ, ◌<◌, ◌≤◌, Bool, true, false, eqb, ◌⊎◌, inl, inr, List, [], ◌∷◌, ◌++◌, length, Option, Some, None, refl, sym, ap, subst, ◌∙◌, append_assoc, arith}
 use Rattle.std.specs.Prelude.{not, ◌||◌}
 use Rattle.std.specs.List.{list_all}
 use Rattle.std.specs.Str.{bytes_eq}
-use Rattle.std.proofs.lemmas.Bool.{eqb-true, eqb-false, ne_eqb, and_parts, or_parts, or_cases, cases_Bool, not-true, MatchBool-at_true}
+use Rattle.std.proofs.lemmas.Bool.{eqb-true, eqb-false, ne_eqb, and_parts, or_parts, or_cases, cases_Bool, not-true}
 use Rattle.std.proofs.lemmas.Slice.Eq.{bytes_eq-Decides}
 use Rattle.std.proofs.lemmas.List.{length-append, append-nil}
 use Rattle.std.proofs.lemmas.Option.{none-some, same_Some, some_pair_parts}
 use Rattle.rnc_text.specs.declared.character.Character.{Character}
 use Rattle.rnc_text.specs.declared.character.Character.TheVariants.{LineEnd, Ordinary}
-use Rattle.rnc_text.specs.declared.scanning.Class.{Class}
 use Rattle.rnc_text.specs.declared.scanning.Class.TheVariants as classes
 use Rattle.rnc_text.specs.declared.token.Sign.{Sign}
 use Rattle.rnc_text.specs.declared.token.TokenKind.{TokenKind}
@@ -17,11 +16,11 @@ use Rattle.rnc_text.specs.declared.token.TokenKind.TheVariants as kinds
 use Rattle.rnc_text.specs.Characters.{number_of, numbers_of}
 use Rattle.rnc_text.specs.Tokens as spec
 use Rattle.rnc_text.specs.Tokens.{Piece, gap, token, characters_in, IsPiece, IsNcname, IsUpToThree, is_blank, is_in_line, is_in_segment, is_quote, word_kind, sign_of, sign_table, look_up, three}
-use Rattle.rnc_text.specs.CutSteps.{Found, is_in, front, after, first_of, behind, behind_two, until_three, begins_ncname, starts_ncname, local_at, star_at, colon_at, name_at, quoted_at, segment_with, segment_at, triple_with, triple_in, triple_at, or_else, signed, long_sign, sign_at, piece_by, piece_of}
+use Rattle.rnc_text.specs.CutSteps.{Found, is_in, front, after, first_of, behind, behind_two, until_three, begins_ncname, starts_ncname, local_at, star_at, colon_at, name_at, segment_at, triple_with, triple_in, triple_at, or_else, signed, long_sign, piece_of}
 use Rattle.rnc_text.proofs.Escapes.{chosen, false_true}
-use Rattle.rnc_text.proofs.Classes.{AllIn, cut_whole, front_all, front_in, front_out, after_in, after_out, front_append, after_append, Name, name_of, is_name, first_in, name_all, front_name, name_begins}
-use Rattle.rnc_text.proofs.Quotes.{eqb_same, behind_is, behind_parts, two_parts, two_is, UpTo, until_found, until_is}
-use Rattle.rnc_text.proofs.Scans.{IsOther, piece_none, piece_line, piece_name, piece_blank, piece_hash, piece_backslash, piece_quote, piece_sign, name_colon, name_word, quoted_name, segment_some, triple_some}
+use Rattle.rnc_text.proofs.Classes.{AllIn, front_out, after_out, front_append, after_append, name_of, name_all, name_begins}
+use Rattle.rnc_text.proofs.Quotes.{eqb_same, behind_is, two_parts, until_is}
+use Rattle.rnc_text.proofs.Scans.{IsOther, piece_line, piece_name, piece_blank, piece_hash, piece_backslash, piece_quote, piece_sign, name_colon, quoted_name, segment_some, triple_some}
 
 -- the piece is shorter than what was found, or it is what was found
 abbrev pub Covered : Piece → Found → Type 0
@@ -71,7 +70,7 @@ named name rest h = let n = name_of name h in piece_name n.first (name ++ rest) 
 word_covers : (name rest : List Character) → IsNcname name → Covered (token (word_kind name) name name) (piece_of (name ++ rest))
 word_covers name rest h =
     colon_covers name (front classes.Ncname rest) (after classes.Ncname (name ++ rest)) (behind 0x3A (after classes.Ncname (name ++ rest))) (piece_of (name ++ rest))
-      (named name rest h ∙ name_is (name ++ rest) ∙ ap (λ (x : List Character). colon_at x (after classes.Ncname (name ++ rest)) (behind 0x3A (after classes.Ncname (name ++ rest)))) (front_append classes.Ncname name rest (name_all name h)))
+    (named name rest h ∙ name_is (name ++ rest) ∙ ap (λ (x : List Character). colon_at x (after classes.Ncname (name ++ rest)) (behind 0x3A (after classes.Ncname (name ++ rest)))) (front_append classes.Ncname name rest (name_all name h)))
 
 -- a name that a colon follows
 prefixed : (name local : List Character) → IsNcname name → piece_of (name ++ Ordinary 0x3A ∷ local) ≡ star_at name (Ordinary 0x3A ∷ local) local (behind 0x2A local)
@@ -95,11 +94,11 @@ cname_covers : (name local rest : List Character) → IsNcname name → IsNcname
 cname_covers name local rest h g =
     let all = local ++ rest in
     cname_more name local (front classes.Ncname rest) (after classes.Ncname all) _
-      (prefixed name all h ∙ ap (star_at name (Ordinary 0x3A ∷ all) all) (no_star local rest g) ∙ begun (begins_ncname all) refl (name_begins local rest g)
-        ∙ ap (λ (x : List Character). Some (token kinds.CName (name ++ Ordinary 0x3A ∷ x) (name ++ Ordinary 0x3A ∷ x), after classes.Ncname all)) (front_append classes.Ncname local rest (name_all local g)))
+    (prefixed name all h ∙ ap (star_at name (Ordinary 0x3A ∷ all) all) (no_star local rest g) ∙ begun (begins_ncname all) refl (name_begins local rest g)
+    ∙ ap (λ (x : List Character). Some (token kinds.CName (name ++ Ordinary 0x3A ∷ x) (name ++ Ordinary 0x3A ∷ x), after classes.Ncname all)) (front_append classes.Ncname local rest (name_all local g)))
   where
-  begun : (b : Bool) → begins_ncname (local ++ rest) ≡ b → b ≡ true → local_at name (Ordinary 0x3A ∷ (local ++ rest)) (local ++ rest) ≡ Some (token kinds.CName (name ++ Ordinary 0x3A ∷ front classes.Ncname (local ++ rest)) (name ++ Ordinary 0x3A ∷ front classes.Ncname (local ++ rest)), after classes.Ncname (local ++ rest))
-  begun b e f = rw (e ∙ f) refl
+    begun : (b : Bool) → begins_ncname (local ++ rest) ≡ b → b ≡ true → local_at name (Ordinary 0x3A ∷ (local ++ rest)) (local ++ rest) ≡ Some (token kinds.CName (name ++ Ordinary 0x3A ∷ front classes.Ncname (local ++ rest)) (name ++ Ordinary 0x3A ∷ front classes.Ncname (local ++ rest)), after classes.Ncname (local ++ rest))
+    begun b e f = rw (e ∙ f) refl
 
 nsname_covers : (name rest : List Character) → IsNcname name → Covered (token kinds.NsName (name ++ Ordinary 0x3A ∷ Ordinary 0x2A ∷ []) (name ++ Ordinary 0x3A ∷ Ordinary 0x2A ∷ [])) (piece_of (name ++ Ordinary 0x3A ∷ Ordinary 0x2A ∷ rest))
 nsname_covers name rest h = exact _ rest _ (prefixed name (Ordinary 0x2A ∷ rest) h)
@@ -111,8 +110,8 @@ quoted_more name (c ∷ more) rest found e = let all = name ++ c ∷ more in sho
 quoted_covers : (name rest : List Character) → IsNcname name → Covered (token kinds.QuotedIdentifier name (Ordinary 0x5C ∷ name)) (piece_of (Ordinary 0x5C ∷ (name ++ rest)))
 quoted_covers name rest h =
     quoted_more name (front classes.Ncname rest) (after classes.Ncname (name ++ rest)) _
-      (piece_backslash 0x5C _ (name ++ rest) refl refl ∙ quoted_name (name ++ rest) _ (name_begins name rest h) refl
-        ∙ ap (λ (x : List Character). Some (token kinds.QuotedIdentifier x (Ordinary 0x5C ∷ x), after classes.Ncname (name ++ rest))) (front_append classes.Ncname name rest (name_all name h)))
+    (piece_backslash 0x5C _ (name ++ rest) refl refl ∙ quoted_name (name ++ rest) _ (name_begins name rest h) refl
+    ∙ ap (λ (x : List Character). Some (token kinds.QuotedIdentifier x (Ordinary 0x5C ∷ x), after classes.Ncname (name ++ rest))) (front_append classes.Ncname name rest (name_all name h)))
 
 -- ---- gaps
 
@@ -120,9 +119,9 @@ blank_covers : (c : Character) (rest : List Character) → is_blank c ≡ true �
 blank_covers LineEnd rest h = exact _ rest _ (piece_line _ rest refl)
 blank_covers (Ordinary c) rest h = exact _ rest _ (piece_blank c _ rest refl (either (or_cases (eqb c 0x20) (eqb c 0x9) h)))
   where
-  either : (eqb c 0x20 ≡ true) ⊎ (eqb c 0x9 ≡ true) → (c ≡ 0x9) ⊎ (c ≡ 0x20)
-  either (inl e) = inr (eqb-true c 0x20 e)
-  either (inr e) = inl (eqb-true c 0x9 e)
+    either : (eqb c 0x20 ≡ true) ⊎ (eqb c 0x9 ≡ true) → (c ≡ 0x9) ⊎ (c ≡ 0x20)
+    either (inl e) = inr (eqb-true c 0x20 e)
+    either (inr e) = inl (eqb-true c 0x9 e)
 
 comment_more : (cs more rest : List Character) (found : Found) → found ≡ Some (gap (Ordinary 0x23 ∷ (cs ++ more)), rest) → Covered (gap (Ordinary 0x23 ∷ cs)) found
 comment_more cs [] rest found e = exact _ rest found (e ∙ ap (λ (x : List Character). Some (gap (Ordinary 0x23 ∷ x), rest)) (append-nil cs))
@@ -131,7 +130,7 @@ comment_more cs (c ∷ more) rest found e = shorter (gap (Ordinary 0x23 ∷ cs))
 comment_covers : (cs rest : List Character) → AllIn classes.Line cs → Covered (gap (Ordinary 0x23 ∷ cs)) (piece_of (Ordinary 0x23 ∷ (cs ++ rest)))
 comment_covers cs rest h =
     comment_more cs (front classes.Line rest) (after classes.Line (cs ++ rest)) _
-      (piece_hash 0x23 _ (cs ++ rest) refl refl ∙ ap (λ (x : List Character). Some (gap (Ordinary 0x23 ∷ x), after classes.Line (cs ++ rest))) (front_append classes.Line cs rest h))
+    (piece_hash 0x23 _ (cs ++ rest) refl refl ∙ ap (λ (x : List Character). Some (gap (Ordinary 0x23 ∷ x), after classes.Line (cs ++ rest))) (front_append classes.Line cs rest h))
 
 -- ---- segments
 
@@ -187,7 +186,7 @@ segment_covers c content rest q h = covered_by (token kinds.Segment content (Ord
 triple_covers : (c : ℕ) (content rest : List Character) → is_quote c ≡ true → IsUpToThree c content → Covered (token kinds.TripleSegment content (three c (content ++ three c []))) (piece_of (three c (content ++ three c rest)))
 triple_covers c content rest q h =
     exact _ rest _ (piece_quote c _ (Ordinary c ∷ Ordinary c ∷ (content ++ three c rest)) refl (quote_cases c q)
-      ∙ ap (λ (a : Found). or_else a (segment_at c (Ordinary c ∷ Ordinary c ∷ (content ++ three c rest)))) (triple_some c _ (Ordinary c ∷ (content ++ three c rest)) (content ++ three c rest) content rest (behind_is c _) (behind_is c _) (until_is c content rest h)))
+    ∙ ap (λ (a : Found). or_else a (segment_at c (Ordinary c ∷ Ordinary c ∷ (content ++ three c rest)))) (triple_some c _ (Ordinary c ∷ (content ++ three c rest)) (content ++ three c rest) content rest (behind_is c _) (behind_is c _) (until_is c content rest h)))
 
 -- ---- signs
 
@@ -248,9 +247,9 @@ long_length : (c : Character) (cs : List Character) (p : Piece) (r : List Charac
 long_length c [] p r e = absurd (none-some _ e)
 long_length c (d ∷ cs) p r e = go (sign_of (numbers_of (c ∷ d ∷ []))) e
   where
-  go : (o : Option Sign) → signed o (c ∷ d ∷ []) cs ≡ Some (p, r) → 1 < length (characters_in p)
-  go None e = absurd (none-some _ e)
-  go (Some s) e = let s = some_pair_parts _ _ _ _ e in subst (λ (p : Piece). 1 < length (characters_in p)) s.0 (omega arith)
+    go : (o : Option Sign) → signed o (c ∷ d ∷ []) cs ≡ Some (p, r) → 1 < length (characters_in p)
+    go None e = absurd (none-some _ e)
+    go (Some s) e = let s = some_pair_parts _ _ _ _ e in subst (λ (p : Piece). 1 < length (characters_in p)) s.0 (omega arith)
 
 single_covers : (n : ℕ) (s : Sign) (rest : List Character) → OtherNumber n → sign_of (n ∷ []) ≡ Some s → Covered (token (kinds.Sign s) (Ordinary n ∷ []) (Ordinary n ∷ [])) (piece_of (Ordinary n ∷ rest))
 single_covers n s rest o h = covered_by (token (kinds.Sign s) (Ordinary n ∷ []) (Ordinary n ∷ [])) _ _ (piece_sign n _ rest refl o.other) (long_or n s rest (long_sign (Ordinary n) (first_of rest)) h (λ p r e. long_length (Ordinary n) rest p r e))
@@ -279,26 +278,26 @@ pub covers : {q : Piece} → IsPiece q → (cs rest : List Character) → cs ≡
 covers (spec.blank {c} h) cs rest e = at_piece (gap (c ∷ [])) (c ∷ rest) cs rest e refl (blank_covers c rest h)
 covers (spec.comment {all} {cs = w} h is) cs rest e =
     subst (λ (x : List Character). cs ≡ x ++ rest → Covered (gap x) (piece_of cs)) (sym is)
-      (λ e. at_piece (gap (Ordinary 0x23 ∷ w)) (Ordinary 0x23 ∷ (w ++ rest)) cs rest e refl (comment_covers w rest h)) e
+    (λ e. at_piece (gap (Ordinary 0x23 ∷ w)) (Ordinary 0x23 ∷ (w ++ rest)) cs rest e refl (comment_covers w rest h)) e
 covers (spec.word {kind} {all} h k) cs rest e =
     subst (λ (k : TokenKind). Covered (token k all all) (piece_of cs)) (sym k) (at_piece (token (word_kind all) all all) (all ++ rest) cs rest e refl (word_covers all rest h))
 covers (spec.quoted_identifier {name} {all} h is) cs rest e =
     subst (λ (x : List Character). cs ≡ x ++ rest → Covered (token kinds.QuotedIdentifier name x) (piece_of cs)) (sym is)
-      (λ e. at_piece (token kinds.QuotedIdentifier name (Ordinary 0x5C ∷ name)) (Ordinary 0x5C ∷ (name ++ rest)) cs rest e refl (quoted_covers name rest h)) e
+    (λ e. at_piece (token kinds.QuotedIdentifier name (Ordinary 0x5C ∷ name)) (Ordinary 0x5C ∷ (name ++ rest)) cs rest e refl (quoted_covers name rest h)) e
 covers (spec.cname {all} prefix local h g is) cs rest e =
     let x = prefix ++ Ordinary 0x3A ∷ local in
     subst (λ (x : List Character). cs ≡ x ++ rest → Covered (token kinds.CName x x) (piece_of cs)) (sym is)
-      (λ e. at_piece (token kinds.CName x x) (prefix ++ Ordinary 0x3A ∷ (local ++ rest)) cs rest e (append_assoc prefix (Ordinary 0x3A ∷ local) rest) (cname_covers prefix local rest h g)) e
+    (λ e. at_piece (token kinds.CName x x) (prefix ++ Ordinary 0x3A ∷ (local ++ rest)) cs rest e (append_assoc prefix (Ordinary 0x3A ∷ local) rest) (cname_covers prefix local rest h g)) e
 covers (spec.nsname {all} prefix h is) cs rest e =
     let x = prefix ++ Ordinary 0x3A ∷ Ordinary 0x2A ∷ [] in
     subst (λ (x : List Character). cs ≡ x ++ rest → Covered (token kinds.NsName x x) (piece_of cs)) (sym is)
-      (λ e. at_piece (token kinds.NsName x x) (prefix ++ Ordinary 0x3A ∷ Ordinary 0x2A ∷ rest) cs rest e (append_assoc prefix (Ordinary 0x3A ∷ Ordinary 0x2A ∷ []) rest) (nsname_covers prefix rest h)) e
+    (λ e. at_piece (token kinds.NsName x x) (prefix ++ Ordinary 0x3A ∷ Ordinary 0x2A ∷ rest) cs rest e (append_assoc prefix (Ordinary 0x3A ∷ Ordinary 0x2A ∷ []) rest) (nsname_covers prefix rest h)) e
 covers (spec.segment {content} {all} quote q h is) cs rest e =
     let x = Ordinary quote ∷ (content ++ Ordinary quote ∷ []) in
     subst (λ (x : List Character). cs ≡ x ++ rest → Covered (token kinds.Segment content x) (piece_of cs)) (sym is)
-      (λ e. at_piece (token kinds.Segment content x) (Ordinary quote ∷ (content ++ Ordinary quote ∷ rest)) cs rest e (ap (λ (x : List Character). Ordinary quote ∷ x) (append_assoc content (Ordinary quote ∷ []) rest)) (segment_covers quote content rest q h)) e
+    (λ e. at_piece (token kinds.Segment content x) (Ordinary quote ∷ (content ++ Ordinary quote ∷ rest)) cs rest e (ap (λ (x : List Character). Ordinary quote ∷ x) (append_assoc content (Ordinary quote ∷ []) rest)) (segment_covers quote content rest q h)) e
 covers (spec.triple_segment {content} {all} quote q h is) cs rest e =
     let x = three quote (content ++ three quote []) in
     subst (λ (x : List Character). cs ≡ x ++ rest → Covered (token kinds.TripleSegment content x) (piece_of cs)) (sym is)
-      (λ e. at_piece (token kinds.TripleSegment content x) (three quote (content ++ three quote rest)) cs rest e (ap (three quote) (append_assoc content (three quote []) rest)) (triple_covers quote content rest q h)) e
+    (λ e. at_piece (token kinds.TripleSegment content x) (three quote (content ++ three quote rest)) cs rest e (ap (three quote) (append_assoc content (three quote []) rest)) (triple_covers quote content rest q h)) e
 covers (spec.sign {all} {s} h) cs rest e = at_piece (token (kinds.Sign s) all all) (all ++ rest) cs rest e refl (sign_covers all rest s h)

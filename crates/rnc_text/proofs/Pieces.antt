@@ -1,26 +1,18 @@
 -- What is found in front is a piece, and no longer front is one.
-use Rattle.std.proofs.Common.{◌≡◌, ℕ, ◌+◌, ◌-◌, ◌<◌, ◌≤◌, Bool, true, false, cond, eqb, ◌⊎◌, inl, inr, List, [], ◌∷◌, ◌++◌, length, map, Option, Some, None, refl, sym, ap, subst, ◌∙◌, append_assoc, arith}
-use Rattle.std.specs.Prelude.{not, ◌||◌}
-use Rattle.std.specs.List.{list_all}
-use Rattle.std.specs.Str.{bytes_eq}
-use Rattle.std.proofs.lemmas.Bool.{eqb-true, eq-eqb, ne_eqb, and_parts, or_parts, or_cases, cases_Bool, not-true}
-use Rattle.std.proofs.lemmas.List.{length-append, append-nil}
+use Rattle.std.proofs.Common.{◌≡◌, ℕ, true, eqb, inl, inr, List, [], ◌∷◌, ◌++◌, Option, Some, None, refl, sym, ap, subst, ◌∙◌, append_assoc}
+use Rattle.std.proofs.lemmas.Bool.{eqb-true}
 use Rattle.std.proofs.lemmas.Option.{none-some, some_pair_parts}
 use Rattle.rnc_text.specs.declared.character.Character.{Character}
 use Rattle.rnc_text.specs.declared.character.Character.TheVariants.{LineEnd, Ordinary}
-use Rattle.rnc_text.specs.declared.scanning.Class.{Class}
 use Rattle.rnc_text.specs.declared.scanning.Class.TheVariants as classes
 use Rattle.rnc_text.specs.declared.token.Sign.{Sign}
-use Rattle.rnc_text.specs.declared.token.TokenKind.{TokenKind}
-use Rattle.rnc_text.specs.declared.token.TokenKind.TheVariants as kinds
-use Rattle.rnc_text.specs.Characters.{number_of, numbers_of}
+use Rattle.rnc_text.specs.Characters.{numbers_of}
 use Rattle.rnc_text.specs.Tokens as spec
 use Rattle.rnc_text.specs.Tokens.{Piece, gap, token, characters_in, IsPiece, IsNcname, IsUpToThree, is_blank, is_in_line, is_in_segment, is_quote, word_kind, sign_of, sign_table, look_up, three}
-use Rattle.rnc_text.specs.CutSteps.{Found, is_in, front, after, first_of, behind, behind_two, until_three, begins_ncname, starts_ncname, local_at, star_at, colon_at, name_at, quoted_at, segment_with, segment_at, triple_with, triple_in, triple_at, or_else, signed, long_sign, sign_at, piece_by, piece_of}
-use Rattle.rnc_text.proofs.Escapes.{chosen, false_true}
-use Rattle.rnc_text.proofs.Classes.{AllIn, cut_whole, front_all, front_in, front_out, after_in, after_out, front_append, after_append, Name, name_of, is_name, first_in, name_all, front_name, name_begins}
-use Rattle.rnc_text.proofs.Quotes.{eqb_same, behind_is, behind_parts, two_parts, two_is, UpTo, until_found, until_is}
-use Rattle.rnc_text.proofs.Scans.{IsOther, piece_none, piece_line, piece_name, piece_blank, piece_hash, piece_backslash, piece_quote, piece_sign, name_colon, name_word, quoted_name, segment_some, triple_some}
+use Rattle.rnc_text.specs.CutSteps.{Found, front, after, first_of, behind, behind_two, until_three, begins_ncname, starts_ncname, local_at, star_at, colon_at, name_at, quoted_at, segment_with, segment_at, triple_with, triple_in, triple_at, or_else, signed, long_sign, sign_at, piece_by, piece_of}
+use Rattle.rnc_text.proofs.Escapes.{chosen}
+use Rattle.rnc_text.proofs.Classes.{AllIn, cut_whole, front_all, front_name}
+use Rattle.rnc_text.proofs.Quotes.{behind_parts, two_parts, until_found}
 
 -- ---- what is found is a piece
 
@@ -42,9 +34,9 @@ local_front : (cs name rest local : List Character) (q : Piece) (end : List Char
 local_front cs name rest local q end h e r f =
     elim (chosen (begins_ncname local) _ _ _ f) [
       | inl b ↦ as_found cs _ q _ end (record {
-          is = spec.cname name (front classes.Ncname local) h (front_name local b.0) refl;
-          parts = sym e ∙ ap (λ (x : List Character). name ++ x) (r ∙ ap (λ (x : List Character). Ordinary 0x3A ∷ x) (sym (cut_whole classes.Ncname local))) ∙ sym (append_assoc name (Ordinary 0x3A ∷ front classes.Ncname local) (after classes.Ncname local));
-        }) b.1
+        is = spec.cname name (front classes.Ncname local) h (front_name local b.0) refl;
+        parts = sym e ∙ ap (λ (x : List Character). name ++ x) (r ∙ ap (λ (x : List Character). Ordinary 0x3A ∷ x) (sym (cut_whole classes.Ncname local))) ∙ sym (append_assoc name (Ordinary 0x3A ∷ front classes.Ncname local) (after classes.Ncname local));
+      }) b.1
       | inr b ↦ as_found cs _ q _ end (word_front cs name rest h e) b.1
     ]
 

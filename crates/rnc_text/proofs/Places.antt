@@ -1,5 +1,5 @@
 -- Places in a text, and what stands between them.
-use Rattle.std.proofs.Common.{◌≡◌, ℕ, ◌+◌, ◌-◌, ◌<◌, ◌≤◌, Bool, true, false, eqb, inl, inr, List, [], ◌∷◌, ◌++◌, length, take, map, Option, Some, None, refl, sym, ap, subst, ◌∙◌, append_assoc, arith}
+use Rattle.std.proofs.Common.{◌≡◌, ℕ, ◌-◌, ◌<◌, Bool, true, false, eqb, inl, inr, List, [], ◌∷◌, ◌++◌, length, take, Option, Some, None, refl, sym, ap, subst, ◌∙◌, append_assoc, arith}
 use Rattle.std.specs.Str.{chars, IsUtf8, IsCharBoundary, encode_utf8_all}
 use Rattle.std.specs.Char.{encode_utf8}
 use Rattle.std.proofs.lemmas.Bool.{eqb-true}
@@ -9,12 +9,12 @@ use Rattle.std.proofs.lemmas.Str.{encodes-append, encodes-chars, length-le-encod
 use Rattle.std.proofs.lemmas.Option.{none-some, same_Some, some_pair_parts}
 use Rattle.rnc_text.proofs.Escapes.{chosen}
 use Rattle.rnc_text.specs.declared.character.Character.{Character}
-use Rattle.rnc_text.specs.declared.character.Character.TheVariants.{LineEnd, Ordinary}
+use Rattle.rnc_text.specs.declared.character.Character.TheVariants.{Ordinary}
 use Rattle.rnc_text.specs.declared.cursor.Cursor.{Cursor}
-use Rattle.rnc_text.specs.Characters.{number_of, numbers_of, bytes_of, byte_length}
+use Rattle.rnc_text.specs.Characters.{number_of, numbers_of, bytes_of}
 use Rattle.rnc_text.specs.Held.{unmarked, marked, next_marks}
 use Rattle.rnc_text.specs.DecodingSteps.{first_and_rest}
-use Rattle.rnc_text.specs.Cursors.{remaining, IsPast, IsBefore}
+use Rattle.rnc_text.specs.Cursors.{remaining, IsPast}
 
 pub bytes_append : (xs ys : List Character) → bytes_of (xs ++ ys) ≡ bytes_of xs ++ bytes_of ys
 bytes_append xs ys = ap encode_utf8_all (map-append number_of xs ys) ∙ encodes-append (numbers_of xs) (numbers_of ys)

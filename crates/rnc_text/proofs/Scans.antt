@@ -1,8 +1,7 @@
 -- What the scanning functions find, put together.
-use Rattle.std.proofs.Common.{◌≡◌, ℕ, ◌+◌, ◌-◌, ◌<◌, ◌≤◌, Bool, true, false, eqb, ◌⊎◌, inl, inr, List, [], ◌∷◌, ◌++◌, length, Option, Some, None, refl, sym, ap, subst, ◌∙◌, append_assoc, arith}
+use Rattle.std.proofs.Common.{◌≡◌, ℕ, true, false, ◌⊎◌, inl, inr, List, [], ◌∷◌, ◌++◌, Option, Some, None, refl, sym, ap, subst, ◌∙◌, append_assoc}
 use Rattle.std.proofs.lemmas.Bool.{ne_eqb}
 use Rattle.std.proofs.lemmas.List.{append-nil}
-use Rattle.std.proofs.lemmas.Option.{none-some}
 use Rattle.rnc_text.specs.declared.character.Character.{Character}
 use Rattle.rnc_text.specs.declared.character.Character.TheVariants.{LineEnd, Ordinary}
 use Rattle.rnc_text.specs.declared.cursor.Cursor.{Cursor}
@@ -13,9 +12,9 @@ use Rattle.rnc_text.specs.declared.token.Sign.{Sign}
 use Rattle.rnc_text.specs.declared.token.TokenKind.{TokenKind}
 use Rattle.rnc_text.specs.declared.token.TokenKind.TheVariants as kinds
 use Rattle.rnc_text.specs.Characters.{number_of, bytes_of}
-use Rattle.rnc_text.specs.Tokens.{sign_of, Piece, gap, token, characters_in, three, word_kind}
-use Rattle.rnc_text.specs.CutSteps.{Found, is_in, front, after, first_of, behind, behind_two, behind_three, here_or, with_first, until_three, begins_ncname, local_at, star_at, colon_at, name_at, quoted_at, segment_at, triple_at, signed, long_sign, sign_at, starts_ncname, piece_by, piece_of, or_else}
-use Rattle.rnc_text.specs.Cursors.{remaining, IsPast, IsBefore, told, FindsPart, Finds, FindsThree, FindsContent}
+use Rattle.rnc_text.specs.Tokens.{sign_of, Piece, gap, token, three, word_kind}
+use Rattle.rnc_text.specs.CutSteps.{Found, is_in, front, after, first_of, behind, behind_three, here_or, with_first, until_three, begins_ncname, star_at, colon_at, name_at, quoted_at, segment_at, triple_at, signed, long_sign, sign_at, starts_ncname, piece_by, piece_of, or_else}
+use Rattle.rnc_text.specs.Cursors.{remaining, IsPast, told, FindsPart, Finds, FindsThree}
 use Rattle.rnc_text.proofs.Places.{past_none, past_then}
 use Rattle.rnc_text.proofs.Classes.{front_in, front_out, after_in, after_out}
 
@@ -216,8 +215,8 @@ piece_ordinary c cs rest e = rw e refl
 pub piece_name : (c : ℕ) (cs rest : List Character) → cs ≡ Ordinary c ∷ rest → starts_ncname c ≡ true → piece_of cs ≡ name_at cs
 piece_name c cs rest e h = piece_ordinary c cs rest e ∙ by_name c rest h ∙ ap name_at (sym e)
   where
-  by_name : (c : ℕ) (rest : List Character) → starts_ncname c ≡ true → piece_by c rest ≡ name_at (Ordinary c ∷ rest)
-  by_name c rest h = rw h refl
+    by_name : (c : ℕ) (rest : List Character) → starts_ncname c ≡ true → piece_by c rest ≡ name_at (Ordinary c ∷ rest)
+    by_name c rest h = rw h refl
 
 pub piece_blank : (c : ℕ) (cs rest : List Character) → cs ≡ Ordinary c ∷ rest → (c ≡ 0x9) ⊎ (c ≡ 0x20) → piece_of cs ≡ Some (gap (Ordinary c ∷ []), rest)
 piece_blank c cs rest e (inl h) = piece_ordinary c cs rest e ∙ subst (λ (c : ℕ). piece_by c rest ≡ Some (gap (Ordinary c ∷ []), rest)) (sym h) refl

@@ -55,3 +55,8 @@ pub record BreaksTokensAt (cs : List Character) (place : ℕ) : Type 0 where
   pub some : 0 < length rest
   pub nothing : NothingBegins rest
   pub place_is : place + byte_length rest ≡ byte_length cs
+
+-- each token starts no earlier than the one before it ends, and has some bytes
+abbrev pub AreInOrder : ℕ → List Lexeme → Type 0
+AreInOrder start [] = Unit {0}
+AreInOrder start (t ∷ ts) = (start ≤ t.starts) × (t.starts < t.ends) × AreInOrder t.ends ts

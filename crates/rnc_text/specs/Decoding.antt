@@ -1,7 +1,7 @@
 -- From the bytes of a file to characters (RELAX NG Compact Syntax, "Lexical structure"): the bytes are UTF-8, a CR LF, a CR
 -- and an LF are one line end each, and an escape `\x{H}` stands for the character whose number is H. Here a CR or LF that
 -- came of an escape ends no line.
-use Rattle.std.specs.Prelude.{◌≡◌, ◌⊎◌, ◌==◌, ◌≢◌, ℕ, ◌+◌, ◌*◌, ◌<◌, ◌≤◌, Bool, true, List, [], ◌∷◌, ◌++◌, length, Option, Some}
+use Rattle.std.specs.Prelude.{◌≡◌, ◌⊎◌, ◌==◌, ◌≢◌, ℕ, ◌+◌, ◌*◌, ◌<◌, ◌≤◌, true, List, [], ◌∷◌, ◌++◌, length, Some}
 use Rattle.std.specs.List.{fold, list_all, slice_get}
 use Rattle.std.specs.Char.{is_digit, digit_value}
 use Rattle.std.specs.Str.{IsUtf8, IsValidUpTo, encode_utf8_all, all_scalars}

@@ -79,7 +79,11 @@ impl<'a> Cursor<'a> {
         let length = self.length;
         match self.marks_behind() {
             Some(escaped) => {
-                let after = Cursor { length, rest, escaped };
+                let after = Cursor {
+                    length,
+                    rest,
+                    escaped,
+                };
                 Some((Character::Ordinary(first), after))
             }
             None => {

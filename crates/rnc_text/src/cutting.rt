@@ -2,7 +2,7 @@
 ghost use Rattle.std.specs.Prelude.{◌≡◌, ℕ, List, [], IfOk, IfErr};
 ghost use Rattle.rnc_text.specs.Held.{characters_of};
 ghost use Rattle.rnc_text.specs.Tokens.{Piece};
-ghost use Rattle.rnc_text.specs.Cut.{Cuts, Lexeme, HasTokens, BreaksTokensAt, lexemes_of};
+ghost use Rattle.rnc_text.specs.Cut.{AreInOrder, Cuts, Lexeme, HasTokens, BreaksTokensAt, lexemes_of};
 ghost use Rattle.rnc_text.specs.Answers.{IfBroken, GivesOk, GivesFault};
 
 use crate::cursor::Cursor;
@@ -47,6 +47,8 @@ fn cut(alloc: Global, text: &Text) -> Result<Vec<Token<'_>>, TextFault>
 pub fn tokens(alloc: Global, text: &Text) -> Result<Vec<Token<'_>>, TextFault>
     // What is answered are the tokens of a cut of the whole text.
     ensures found { IfOk result (λ v. HasTokens (characters_of text.now) (lexemes_of v.items)) }
+    // The spans are in order and share no byte.
+    ensures order { IfOk result (λ v. AreInOrder 0 (lexemes_of v.items)) }
     // The tokens of a cut are answered, so there are no others.
     ensures only { (ts : List Lexeme) → HasTokens (characters_of text.now) ts → GivesOk (λ v. lexemes_of v.items) result ts }
     // There is no other cut.

@@ -167,7 +167,10 @@ fn quoted_identifier(name: Cursor<'_>) -> Option<(Part<'_>, Cursor<'_>)>
         return None;
     }
     let end = past(name, Class::Ncname);
-    Some((Part::Token(TokenKind::QuotedIdentifier, name.text_to(end)), end))
+    Some((
+        Part::Token(TokenKind::QuotedIdentifier, name.text_to(end)),
+        end,
+    ))
 }
 
 /// The segment whose content begins here, behind its first quote.
@@ -186,7 +189,10 @@ fn triple_segment(second: Cursor<'_>, quote: char) -> Option<(Part<'_>, Cursor<'
     let third = behind(second, quote)?;
     let content = behind(third, quote)?;
     let (end, after) = until_three(content, quote)?;
-    Some((Part::Token(TokenKind::TripleSegment, content.text_to(end)), after))
+    Some((
+        Part::Token(TokenKind::TripleSegment, content.text_to(end)),
+        after,
+    ))
 }
 
 /// The sign of two characters that begins with this one, behind which is `after`.
@@ -208,7 +214,10 @@ fn sign<'a>(from: Cursor<'a>, first: char, after: Cursor<'a>) -> Option<(Part<'a
         Some(found) => Some(found),
         None => {
             let sign = single_sign(first)?;
-            Some((Part::Token(TokenKind::Sign(sign), from.text_to(after)), after))
+            Some((
+                Part::Token(TokenKind::Sign(sign), from.text_to(after)),
+                after,
+            ))
         }
     }
 }

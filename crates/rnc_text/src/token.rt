@@ -2,7 +2,7 @@
 
 /// A word that the grammar gives a meaning of its own.
 ///
-/// RELAX NG Compact Syntax, section 2.1.
+/// RELAX NG Compact Syntax, "Lexical structure".
 #[derive(Clone, Copy, Debug, PartialEq, Eq)]
 pub enum Keyword {
     Attribute,
@@ -63,7 +63,7 @@ pub enum Sign {
 
 /// What a token is.
 ///
-/// RELAX NG Compact Syntax, section 2.1.
+/// RELAX NG Compact Syntax, "Lexical structure".
 #[derive(Clone, Copy, Debug, PartialEq, Eq)]
 pub enum TokenKind {
     /// An NCName that is no keyword.

@@ -11,7 +11,7 @@ pub struct Name {
 
 /// A set of names.
 ///
-/// RELAX NG Specification, section 6.1; Compact Syntax, section 3. A choice has its members as they are written; one
+/// RELAX NG Specification, section 6.1; Compact Syntax, "Syntax". A choice has its members as they are written; one
 /// of no members holds no name. Any class may stand in an except.
 #[derive(Debug, Drop)]
 pub enum NameClass {

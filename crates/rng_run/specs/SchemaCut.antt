@@ -1,5 +1,5 @@
 -- The cut of a schema's bytes into blanks and tokens, each the longest that begins at its place
--- (RELAX NG Compact Syntax, section 2).
+-- (RELAX NG Compact Syntax, "Lexical structure").
 use Rattle.std.specs.Prelude.{◌≡◌, ℕ, ◌≤◌, List, [], ◌++◌, length, take, drop}
 use Rattle.rng_run.specs.SchemaTokens.{Lexeme, IsLexeme}
 

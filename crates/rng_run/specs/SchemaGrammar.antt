@@ -1,4 +1,4 @@
--- The grammar of the fragment, a constructor for each production (RELAX NG Compact Syntax, section 3): which tokens are
+-- The grammar of the fragment, a constructor for each production (RELAX NG Compact Syntax, "Syntax"): which tokens are
 -- which pattern. Parentheses leave no node.
 use Rattle.std.specs.Prelude.{◌≡◌, ℕ, List, [], ◌∷◌, ◌++◌, codes}
 use Rattle.rng_model.specs.Names.{NameClass, name_is}

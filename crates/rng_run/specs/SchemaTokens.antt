@@ -1,4 +1,4 @@
--- The tokens of a schema, and which bytes are one (RELAX NG Compact Syntax, section 2). This is the first fragment:
+-- The tokens of a schema, and which bytes are one (RELAX NG Compact Syntax, "Lexical structure"). This is the first fragment:
 -- words that are ASCII NCNames (Namespaces in XML 1.0, section 3), six signs, and blanks between them.
 use Rattle.std.specs.Prelude.{◌≡◌, ℕ, Bool, true, List, [], ◌∷◌, map, Option, Some, None, if◌then◌else◌, ◌==◌, ◌||◌}
 use Rattle.rng_model.specs.Lines.{IsAsciiNcname}

@@ -1,5 +1,5 @@
-use Rattle.rnc_text.proofs.Cuts.{gives_tokens, gives_five, whole_cut}
 use Rattle.rnc_text.specs.Cut.{lexemes_of}
+use Rattle.rnc_text.proofs.Cuts.{in_order, gives_tokens, gives_five, whole_cut}
 use Rattle.rnc_text.proofs.cutting.tokens.Goals as goal
 
 pub returns-clause-only : goal.returns-clause-only
@@ -10,3 +10,6 @@ returns-clause-one c = λ pieces others p q. whole_cut _ pieces others p q
 
 pub returns-clause-broken : goal.returns-clause-broken
 returns-clause-broken c = gives_five _ _ _ c.cut.ensures.found c.cut.ensures.fault
+
+pub returns-clause-order : goal.returns-clause-order
+returns-clause-order c = in_order (λ v. lexemes_of v.items) _ _ c.cut.ensures.found

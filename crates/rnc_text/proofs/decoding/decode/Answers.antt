@@ -1,4 +1,4 @@
-use Rattle.std.proofs.Common.{◌≡◌, ◌<◌, length, rules, arith, sym, ap, ◌∙◌, refl}
+use Rattle.std.proofs.Common.{rules, arith, sym, ◌∙◌, refl}
 use Rattle.std.specs.Str.{chars, IsUtf8}
 use Rattle.std.proofs.lemmas.Bool.{eqb-true}
 use Rattle.rnc_text.specs.Decoding.{Begins, here}

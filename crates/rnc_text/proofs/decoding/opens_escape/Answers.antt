@@ -1,4 +1,4 @@
-use Rattle.std.proofs.Common.{rules, ◌≡◌, sym, ◌∙◌}
+use Rattle.std.proofs.Common.{rules}
 use Rattle.rnc_text.proofs.Opening.{opens_brace, opens_x, opens_other, opens_end}
 use Rattle.rnc_text.proofs.decoding.opens_escape.Goals as goal
 

@@ -1,5 +1,5 @@
-use Rattle.std.proofs.Common.{rules, arith, inl, inr, ◌∙◌, option_map, ap, refl, ◌+◌, ◌<◌}
-use Rattle.rnc_text.proofs.HexadecimalSteps.{closes, no_digit, goes_on, most_next, most, IsNoEnd}
+use Rattle.std.proofs.Common.{rules, arith, inl, inr}
+use Rattle.rnc_text.proofs.HexadecimalSteps.{closes, no_digit, goes_on, most_next, IsNoEnd}
 use Rattle.rnc_text.proofs.hexadecimal.hexadecimal.Goals as goal
 use Rattle.rnc_text.proofs.hexadecimal.hexadecimal.Goals.{else-character-eq125-via-then-character-eq125+else-count-gt0, else-character-eq125-via-else-character-eq125}
 

@@ -1,13 +1,7 @@
-use Rattle.std.proofs.Common.{◌≡◌, List, [], ◌∷◌, ◌++◌, Option, Some, None, true, false, refl, sym, ap, subst, ◌∙◌, inl, inr, rules, arith}
-use Rattle.rnc_text.specs.Characters.{bytes_of}
-use Rattle.rnc_text.specs.Tokens.{three, word_kind}
-use Rattle.rnc_text.specs.CutSteps.{Found, front, behind, star_at}
-use Rattle.rnc_text.specs.Cursors.{remaining, IsPast, IsBefore, FindsPart}
-use Rattle.rnc_text.specs.declared.character.Character.TheVariants.{LineEnd, Ordinary}
-use Rattle.rnc_text.specs.declared.cursor.Cursor.{Cursor}
-use Rattle.rnc_text.specs.declared.scanning.Class.TheVariants as classes
+use Rattle.std.proofs.Common.{[], ◌∷◌}
+use Rattle.rnc_text.specs.declared.character.Character.TheVariants.{Ordinary}
 use Rattle.rnc_text.specs.declared.token.TokenKind.TheVariants as kinds
-use Rattle.rnc_text.proofs.Places.{past_none, past_then, past_shorter}
+use Rattle.rnc_text.proofs.Places.{past_then}
 use Rattle.rnc_text.proofs.Scans.{long_found, finds_token, token_told}
 use Rattle.rnc_text.proofs.scanning.long_sign.Goals as goal
 
@@ -19,4 +13,4 @@ returns c =
     let all = Ordinary c.args.first ∷ c.in_ok-second.second ∷ [] in
     let past = past_then c.args.from c.args.after c.in_ok-second.end (Ordinary c.args.first ∷ []) (c.in_ok-second.second ∷ []) c.requires c.in_ok-second.ensures in
     finds_token c.args.from c.in_ok-second.end _ _ (kinds.Sign c.in_ok-sign.sign) all all
-      (long_found c.args.first c.in_ok-second.second c.in_ok-sign.sign _ _ c.in_ok-second.ensures.rest (rw c.plain.ensures at c.in_ok-sign.ensures)) past (token_told (kinds.Sign c.in_ok-sign.sign) _ all (c.text_to.ensures all past))
+    (long_found c.args.first c.in_ok-second.second c.in_ok-sign.sign _ _ c.in_ok-second.ensures.rest (rw c.plain.ensures at c.in_ok-sign.ensures)) past (token_told (kinds.Sign c.in_ok-sign.sign) _ all (c.text_to.ensures all past))

@@ -1,13 +1,7 @@
-use Rattle.std.proofs.Common.{◌≡◌, List, [], ◌∷◌, ◌++◌, Option, Some, None, true, false, refl, sym, ap, subst, ◌∙◌, inl, inr, rules, arith}
-use Rattle.rnc_text.specs.Characters.{bytes_of}
-use Rattle.rnc_text.specs.Tokens.{three, word_kind}
-use Rattle.rnc_text.specs.CutSteps.{Found, front, behind, star_at}
-use Rattle.rnc_text.specs.Cursors.{remaining, IsPast, IsBefore, FindsPart}
-use Rattle.rnc_text.specs.declared.character.Character.TheVariants.{LineEnd, Ordinary}
-use Rattle.rnc_text.specs.declared.cursor.Cursor.{Cursor}
+use Rattle.rnc_text.specs.Tokens.{word_kind}
+use Rattle.rnc_text.specs.CutSteps.{front}
+use Rattle.rnc_text.specs.Cursors.{remaining}
 use Rattle.rnc_text.specs.declared.scanning.Class.TheVariants as classes
-use Rattle.rnc_text.specs.declared.token.TokenKind.TheVariants as kinds
-use Rattle.rnc_text.proofs.Places.{past_none, past_then, past_shorter}
 use Rattle.rnc_text.proofs.Scans.{name_colon, name_word, finds_token, finds_at, finds_same}
 use Rattle.rnc_text.proofs.scanning.name.Goals as goal
 
@@ -18,4 +12,4 @@ pub returns-in-None : goal.returns-in-None
 returns-in-None c =
     let name = front classes.Ncname (remaining c.args.from) in
     finds_at _ _ _ _ _ c.word.ensures.end
-      (finds_token c.args.from c.past-end.result _ _ (word_kind name) name name (name_word _ _ c.past-end.ensures.rest c.in-None.ensures) c.past-end.ensures.past (c.word.ensures.part name c.past-end.ensures.past))
+    (finds_token c.args.from c.past-end.result _ _ (word_kind name) name name (name_word _ _ c.past-end.ensures.rest c.in-None.ensures) c.past-end.ensures.past (c.word.ensures.part name c.past-end.ensures.past))

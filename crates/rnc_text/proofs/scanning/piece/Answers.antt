@@ -1,14 +1,11 @@
-use Rattle.std.proofs.Common.{◌≡◌, ℕ, List, [], ◌∷◌, ◌++◌, Option, Some, None, true, false, refl, sym, ap, subst, ◌∙◌, inl, inr, rules, arith}
-use Rattle.rnc_text.specs.Characters.{bytes_of}
+use Rattle.std.proofs.Common.{◌≡◌, ℕ, List, [], ◌∷◌, Some, false, refl, sym, ap, subst, ◌∙◌, inl, inr}
 use Rattle.rnc_text.specs.Tokens.{gap}
-use Rattle.rnc_text.specs.CutSteps.{front, starts_ncname}
-use Rattle.rnc_text.specs.Cursors.{remaining, IsPast, IsBefore, FindsPart}
+use Rattle.rnc_text.specs.CutSteps.{front, starts_ncname, triple_at}
+use Rattle.rnc_text.specs.Cursors.{remaining, IsPast}
 use Rattle.rnc_text.specs.declared.character.Character.TheVariants.{LineEnd, Ordinary}
 use Rattle.rnc_text.specs.declared.character.Character.{Character}
-use Rattle.rnc_text.specs.declared.cursor.Cursor.{Cursor}
 use Rattle.rnc_text.specs.declared.scanning.Class.TheVariants as classes
-use Rattle.rnc_text.specs.declared.token.TokenKind.TheVariants as kinds
-use Rattle.rnc_text.proofs.Places.{past_none, past_then, past_shorter}
+use Rattle.rnc_text.proofs.Places.{past_then}
 use Rattle.rnc_text.proofs.Scans.{piece_none, piece_line, piece_name, piece_blank, piece_hash, piece_backslash, piece_quote, piece_sign, IsOther, or_left, or_right, finds_gap, finds_same, finds_all}
 use Rattle.rnc_text.proofs.scanning.piece.Goals as goal
 
@@ -36,7 +33,7 @@ returns-in-Ordinary-eq35 c =
     let p : IsPast c.args.from (Ordinary n ∷ []) c.in_ok-first.after = rw c.in-Ordinary-eq35.is at c.in_ok-first.ensures in
     let all = Ordinary n ∷ front classes.Line (remaining c.in_ok-first.after) in
     finds_gap c.args.from c.past.result _ _ all (piece_hash _ _ _ p.rest (rw c.in-Ordinary-eq35.is at c.in-Ordinary-eq35.field-0-test) ∙ ap (λ (x : List Character). Some (gap all, x)) (sym c.past.ensures.rest))
-      (past_then c.args.from c.in_ok-first.after c.past.result (Ordinary n ∷ []) (front classes.Line (remaining c.in_ok-first.after)) p c.past.ensures.past) refl
+    (past_then c.args.from c.in_ok-first.after c.past.result (Ordinary n ∷ []) (front classes.Line (remaining c.in_ok-first.after)) p c.past.ensures.past) refl
 
 pub returns-in-Ordinary-eq92 : goal.returns-in-Ordinary-eq92
 returns-in-Ordinary-eq92 c =
@@ -50,7 +47,7 @@ returns-in-Some c =
     let n = c.in-Ordinary-eq34.c in
     let p : IsPast c.args.from (Ordinary n ∷ []) c.in_ok-first.after = rw c.in-Ordinary-eq34.is at c.in_ok-first.ensures in
     let f = c.in-Some.ensures c.args.from p in
-    finds_same _ _ _ _ _ (piece_quote _ _ _ p.rest (rw c.in-Ordinary-eq34.is at c.in-Ordinary-eq34.c-test) ∙ or_left _ _ _ f.is ∙ sym f.is) f
+    finds_same c.args.from c.in-Some.found.1 c.in-Some.found.0 (triple_at n (remaining c.in_ok-first.after)) _ (piece_quote _ _ _ p.rest (rw c.in-Ordinary-eq34.is at c.in-Ordinary-eq34.c-test) ∙ or_left _ _ _ f.is ∙ sym f.is) f
 
 pub returns-in-None : goal.returns-in-None
 returns-in-None c =

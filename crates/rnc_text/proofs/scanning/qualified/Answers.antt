@@ -1,13 +1,10 @@
-use Rattle.std.proofs.Common.{◌≡◌, List, [], ◌∷◌, ◌++◌, Option, Some, None, true, false, refl, sym, ap, subst, ◌∙◌, inl, inr, rules, arith}
-use Rattle.rnc_text.specs.Characters.{bytes_of}
-use Rattle.rnc_text.specs.Tokens.{three, word_kind}
-use Rattle.rnc_text.specs.CutSteps.{Found, front, behind, star_at}
-use Rattle.rnc_text.specs.Cursors.{remaining, IsPast, IsBefore, FindsPart}
-use Rattle.rnc_text.specs.declared.character.Character.TheVariants.{LineEnd, Ordinary}
-use Rattle.rnc_text.specs.declared.cursor.Cursor.{Cursor}
+use Rattle.std.proofs.Common.{[], ◌∷◌, ◌++◌, sym, ap, ◌∙◌}
+use Rattle.rnc_text.specs.Tokens.{word_kind}
+use Rattle.rnc_text.specs.CutSteps.{front, star_at}
+use Rattle.rnc_text.specs.Cursors.{remaining}
+use Rattle.rnc_text.specs.declared.character.Character.TheVariants.{Ordinary}
 use Rattle.rnc_text.specs.declared.scanning.Class.TheVariants as classes
 use Rattle.rnc_text.specs.declared.token.TokenKind.TheVariants as kinds
-use Rattle.rnc_text.proofs.Places.{past_none, past_then, past_shorter}
 use Rattle.rnc_text.proofs.Scans.{colon_past, local_found, local_none, finds_token, finds_at, token_told}
 use Rattle.rnc_text.proofs.scanning.qualified.Goals as goal
 
@@ -28,9 +25,9 @@ returns-then-begins_ncname c = λ name p.
     let all = name ++ Ordinary 0x3A ∷ front classes.Ncname (remaining c.args.local) in
     let past = colon_past c.args.from c.args.end c.args.local name p c.requires.colon c.past-after.result (front classes.Ncname (remaining c.args.local)) c.past-after.ensures.past in
     finds_token c.args.from c.past-after.result _ _ kinds.CName all all
-      (local_found name _ _ _ c.in_default.ensures (sym c.begins_ncname.ensures ∙ c.if-begins_ncname.true) c.past-after.ensures.rest) past (token_told kinds.CName _ all (c.text_to-then-begins_ncname.ensures all past))
+    (local_found name _ _ _ c.in_default.ensures (sym c.begins_ncname.ensures ∙ c.if-begins_ncname.true) c.past-after.ensures.rest) past (token_told kinds.CName _ all (c.text_to-then-begins_ncname.ensures all past))
 
 pub returns : goal.returns
 returns c = λ name p.
     finds_at _ _ _ _ _ c.word.ensures.end
-      (finds_token c.args.from c.args.end _ _ (word_kind name) name name (local_none name (remaining c.args.end) (remaining c.args.local) c.in_default.ensures (sym c.begins_ncname.ensures ∙ c.if-begins_ncname.false)) p (c.word.ensures.part name p))
+    (finds_token c.args.from c.args.end _ _ (word_kind name) name name (local_none name (remaining c.args.end) (remaining c.args.local) c.in_default.ensures (sym c.begins_ncname.ensures ∙ c.if-begins_ncname.false)) p (c.word.ensures.part name p))

@@ -1,13 +1,10 @@
-use Rattle.std.proofs.Common.{◌≡◌, List, [], ◌∷◌, ◌++◌, Option, Some, None, true, false, refl, sym, ap, subst, ◌∙◌, inl, inr, rules, arith}
-use Rattle.rnc_text.specs.Characters.{bytes_of}
-use Rattle.rnc_text.specs.Tokens.{three, word_kind}
-use Rattle.rnc_text.specs.CutSteps.{Found, front, behind, star_at}
-use Rattle.rnc_text.specs.Cursors.{remaining, IsPast, IsBefore, FindsPart}
-use Rattle.rnc_text.specs.declared.character.Character.TheVariants.{LineEnd, Ordinary}
-use Rattle.rnc_text.specs.declared.cursor.Cursor.{Cursor}
+use Rattle.std.proofs.Common.{[], ◌∷◌, sym, ◌∙◌}
+use Rattle.rnc_text.specs.CutSteps.{front}
+use Rattle.rnc_text.specs.Cursors.{remaining}
+use Rattle.rnc_text.specs.declared.character.Character.TheVariants.{Ordinary}
 use Rattle.rnc_text.specs.declared.scanning.Class.TheVariants as classes
 use Rattle.rnc_text.specs.declared.token.TokenKind.TheVariants as kinds
-use Rattle.rnc_text.proofs.Places.{past_none, past_then, past_shorter}
+use Rattle.rnc_text.proofs.Places.{past_then}
 use Rattle.rnc_text.proofs.Scans.{quoted_none, quoted_name, finds_token, token_told}
 use Rattle.rnc_text.proofs.scanning.quoted_identifier.Goals as goal
 
@@ -18,6 +15,6 @@ pub returns : goal.returns
 returns c = λ from p.
     let name = front classes.Ncname (remaining c.args.name) in
     finds_token from c.past-end.result _ _ kinds.QuotedIdentifier name (Ordinary 0x5C ∷ name)
-      (quoted_name _ _ (sym c.begins_ncname.ensures ∙ c.if-not-begins_ncname.false) c.past-end.ensures.rest)
-      (past_then from c.args.name c.past-end.result (Ordinary 0x5C ∷ []) name p c.past-end.ensures.past)
-      (token_told _ _ _ (c.text_to.ensures name c.past-end.ensures.past))
+    (quoted_name _ _ (sym c.begins_ncname.ensures ∙ c.if-not-begins_ncname.false) c.past-end.ensures.rest)
+    (past_then from c.args.name c.past-end.result (Ordinary 0x5C ∷ []) name p c.past-end.ensures.past)
+    (token_told _ _ _ (c.text_to.ensures name c.past-end.ensures.past))

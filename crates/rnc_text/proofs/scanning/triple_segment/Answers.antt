@@ -1,13 +1,8 @@
-use Rattle.std.proofs.Common.{◌≡◌, List, [], ◌∷◌, ◌++◌, Option, Some, None, true, false, refl, sym, ap, subst, ◌∙◌, inl, inr, rules, arith}
-use Rattle.rnc_text.specs.Characters.{bytes_of}
-use Rattle.rnc_text.specs.Tokens.{three, word_kind}
-use Rattle.rnc_text.specs.CutSteps.{Found, front, behind, star_at}
-use Rattle.rnc_text.specs.Cursors.{remaining, IsPast, IsBefore, FindsPart}
-use Rattle.rnc_text.specs.declared.character.Character.TheVariants.{LineEnd, Ordinary}
-use Rattle.rnc_text.specs.declared.cursor.Cursor.{Cursor}
-use Rattle.rnc_text.specs.declared.scanning.Class.TheVariants as classes
+use Rattle.std.proofs.Common.{[], ◌∷◌, ◌++◌}
+use Rattle.rnc_text.specs.Tokens.{three}
+use Rattle.rnc_text.specs.declared.character.Character.TheVariants.{Ordinary}
 use Rattle.rnc_text.specs.declared.token.TokenKind.TheVariants as kinds
-use Rattle.rnc_text.proofs.Places.{past_none, past_then, past_shorter}
+use Rattle.rnc_text.proofs.Places.{past_then}
 use Rattle.rnc_text.proofs.Scans.{triple_no_second, triple_no_third, triple_no_end, triple_some, finds_token, token_told}
 use Rattle.rnc_text.proofs.scanning.triple_segment.Goals as goal
 
@@ -29,6 +24,6 @@ returns c = λ from p.
     let q = Ordinary c.args.quote in
     let end = past_then c.in_ok-content.content _ _ f.content (three c.args.quote []) f.past f.quotes in
     finds_token from c.in_ok-end.after _ _ kinds.TripleSegment f.content (three c.args.quote (f.content ++ three c.args.quote []))
-      (triple_some _ _ _ _ f.content _ c.in_ok-third.ensures.0 c.in_ok-content.ensures.0 f.is)
-      (past_then from c.args.second _ (q ∷ []) _ p (past_then c.args.second c.in_ok-third.third _ (q ∷ []) _ c.in_ok-third.ensures.1 (past_then c.in_ok-third.third c.in_ok-content.content _ (q ∷ []) _ c.in_ok-content.ensures.1 end)))
-      (token_told _ _ _ (c.text_to.ensures f.content f.past))
+    (triple_some _ _ _ _ f.content _ c.in_ok-third.ensures.0 c.in_ok-content.ensures.0 f.is)
+    (past_then from c.args.second _ (q ∷ []) _ p (past_then c.args.second c.in_ok-third.third _ (q ∷ []) _ c.in_ok-third.ensures.1 (past_then c.in_ok-third.third c.in_ok-content.content _ (q ∷ []) _ c.in_ok-content.ensures.1 end)))
+    (token_told _ _ _ (c.text_to.ensures f.content f.past))

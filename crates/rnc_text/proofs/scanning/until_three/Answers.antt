@@ -1,13 +1,4 @@
-use Rattle.std.proofs.Common.{◌≡◌, List, [], ◌∷◌, ◌++◌, Option, Some, None, true, false, refl, sym, ap, subst, ◌∙◌, inl, inr, rules, arith}
-use Rattle.rnc_text.specs.Characters.{bytes_of}
-use Rattle.rnc_text.specs.Tokens.{three, word_kind}
-use Rattle.rnc_text.specs.CutSteps.{Found, front, behind, star_at}
-use Rattle.rnc_text.specs.Cursors.{remaining, IsPast, IsBefore, FindsPart}
-use Rattle.rnc_text.specs.declared.character.Character.TheVariants.{LineEnd, Ordinary}
-use Rattle.rnc_text.specs.declared.cursor.Cursor.{Cursor}
-use Rattle.rnc_text.specs.declared.scanning.Class.TheVariants as classes
-use Rattle.rnc_text.specs.declared.token.TokenKind.TheVariants as kinds
-use Rattle.rnc_text.proofs.Places.{past_none, past_then, past_shorter}
+use Rattle.rnc_text.proofs.Places.{past_shorter}
 use Rattle.rnc_text.proofs.Scans.{looks_none, looks_on, looks_found, looks_end}
 use Rattle.rnc_text.proofs.scanning.until_three.Goals as goal
 

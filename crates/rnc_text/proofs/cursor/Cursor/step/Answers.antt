@@ -1,4 +1,4 @@
-use Rattle.std.proofs.Common.{rules, refl, sym, ap, ◌∙◌, ◌∷◌, List}
+use Rattle.std.proofs.Common.{rules, refl, sym, ap, ◌∙◌, ◌∷◌}
 use Rattle.std.specs.Str.{IsUtf8, chars}
 use Rattle.rnc_text.specs.Held.{marked}
 use Rattle.rnc_text.specs.declared.character.Character.{Character}

@@ -1,4 +1,4 @@
-use Rattle.std.proofs.Common.{◌∙◌, sym}
+use Rattle.std.proofs.Common.{◌∙◌}
 use Rattle.std.proofs.lemmas.Str.{IsUtf8-string_bytes}
 use Rattle.rnc_text.proofs.HeldMarks.{bytes_kept}
 use Rattle.rnc_text.proofs.text.Text.as_str.Goals as goal

@@ -1,4 +1,4 @@
-use Rattle.std.proofs.Common.{◌≡◌, ◌∙◌, ◌++◌, ◌∷◌, [], sym, ap, refl, IfOk, rules}
+use Rattle.std.proofs.Common.{◌∙◌, sym, ap, rules}
 use Rattle.std.proofs.lemmas.Str.{IsUtf8-string_bytes}
 use Rattle.rnc_text.specs.declared.character.Character.TheVariants.{Ordinary}
 use Rattle.rnc_text.proofs.HeldMarks.{if_ok, pushed_plain, pushed_marked, unmarked_other}
