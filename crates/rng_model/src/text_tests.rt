@@ -18,7 +18,7 @@ fn characters_by_the_ranges_of_xml(rt: HostRuntime) -> Result<(), Fail> {
     assert!(rt;
         !is_name_start('-')
             && !is_name_start('7')
-            && !is_name_start('\u{D7}')
+            && !is_name_start('\u{00D7}')
             && !is_name_start('\u{37E}')
     );
     assert!(rt; !is_name_start('\u{2FF0}') && !is_name_start('\u{F0000}'));
