@@ -26,9 +26,9 @@ fn judged(
 fn empty_element(rt: HostRuntime) -> Result<(), Fail> {
     let alloc = rt.alloc();
     let mut draft = Draft::new(alloc, 1);
-    let body = draft.add(Simple::Empty)?;
-    let start = draft.add(Simple::Element(ElementId(0)))?;
-    draft.list(alloc, "a", body)?;
+    let body = draft.add(Simple::Empty);
+    let start = draft.add(Simple::Element(ElementId(0)));
+    draft.list("a", body);
     let grammar = draft.finish(start)?;
     let cases = [
         ("(a/)a", true),
@@ -46,16 +46,16 @@ fn empty_element(rt: HostRuntime) -> Result<(), Fail> {
 fn group_in_order(rt: HostRuntime) -> Result<(), Fail> {
     let alloc = rt.alloc();
     let mut draft = Draft::new(alloc, 3);
-    let empty = draft.add(Simple::Empty)?;
-    let text = draft.add(Simple::Text)?;
-    let b = draft.add(Simple::Element(ElementId(1)))?;
-    let c = draft.add(Simple::Element(ElementId(2)))?;
-    let some_c = draft.add(Simple::Choice(c, empty))?;
-    let body = draft.add(Simple::Group(b, some_c))?;
-    let start = draft.add(Simple::Element(ElementId(0)))?;
-    draft.list(alloc, "a", body)?;
-    draft.list(alloc, "b", empty)?;
-    draft.list(alloc, "c", text)?;
+    let empty = draft.add(Simple::Empty);
+    let text = draft.add(Simple::Text);
+    let b = draft.add(Simple::Element(ElementId(1)));
+    let c = draft.add(Simple::Element(ElementId(2)));
+    let some_c = draft.add(Simple::Choice(c, empty));
+    let body = draft.add(Simple::Group(b, some_c));
+    let start = draft.add(Simple::Element(ElementId(0)));
+    draft.list("a", body);
+    draft.list("b", empty);
+    draft.list("c", text);
     let grammar = draft.finish(start)?;
     let cases = [
         ("(a/- /(b/)b/- /(c/-hi/)c/- /)a", true),
@@ -74,14 +74,14 @@ fn group_in_order(rt: HostRuntime) -> Result<(), Fail> {
 fn attributes_in_any_order(rt: HostRuntime) -> Result<(), Fail> {
     let alloc = rt.alloc();
     let mut draft = Draft::new(alloc, 1);
-    let empty = draft.add(Simple::Empty)?;
-    let text = draft.add(Simple::Text)?;
-    let x = draft.add(Simple::Attribute(NameClass::Name(name(alloc, "x")?), text))?;
-    let y = draft.add(Simple::Attribute(NameClass::Name(name(alloc, "y")?), empty))?;
-    let either = draft.add(Simple::Choice(y, text))?;
-    let body = draft.add(Simple::Group(x, either))?;
-    let start = draft.add(Simple::Element(ElementId(0)))?;
-    draft.list(alloc, "a", body)?;
+    let empty = draft.add(Simple::Empty);
+    let text = draft.add(Simple::Text);
+    let x = draft.attribute("x", text);
+    let y = draft.attribute("y", empty);
+    let either = draft.add(Simple::Choice(y, text));
+    let body = draft.add(Simple::Group(x, either));
+    let start = draft.add(Simple::Element(ElementId(0)));
+    draft.list("a", body);
     let grammar = draft.finish(start)?;
     let cases = [
         ("(a/Ax 1/-hi/)a", true),
@@ -101,39 +101,37 @@ fn attributes_in_any_order(rt: HostRuntime) -> Result<(), Fail> {
 fn two_ways_at_each_level(rt: HostRuntime) -> Result<(), Fail> {
     let alloc = rt.alloc();
     let mut draft = Draft::new(alloc, 2);
-    let empty = draft.add(Simple::Empty)?;
-    let text = draft.add(Simple::Text)?;
-    let first = draft.add(Simple::Element(ElementId(0)))?;
-    let second = draft.add(Simple::Element(ElementId(1)))?;
-    let either = draft.add(Simple::Choice(first, second))?;
-    let more = draft.add(Simple::Choice(either, empty))?;
-    let texts = draft.add(Simple::Group(more, text))?;
-    draft.list(alloc, "a", more)?;
-    draft.list(alloc, "a", texts)?;
+    let empty = draft.add(Simple::Empty);
+    let text = draft.add(Simple::Text);
+    let first = draft.add(Simple::Element(ElementId(0)));
+    let second = draft.add(Simple::Element(ElementId(1)));
+    let either = draft.add(Simple::Choice(first, second));
+    let more = draft.add(Simple::Choice(either, empty));
+    let texts = draft.add(Simple::Group(more, text));
+    draft.list("a", more);
+    draft.list("a", texts);
     let grammar = draft.finish(either)?;
     for (inside, answer) in [("/-x", true), ("", true), ("/(b/)b", false)] {
-        let mut lines = String::new(alloc);
-        for _level in 0..60 {
-            lines.push_str("(a/")?;
-        }
-        lines.push_str("(a")?;
-        lines.push_str(inside)?;
-        for _level in 0..61 {
-            lines.push_str("/)a")?;
-        }
-        let root = document(alloc, lines.as_str())?;
-        assert_eq!(rt; is_valid(alloc, &grammar, &root)?, answer, "{inside}");
+        let lines = levels_about(alloc, inside)?;
+        judged(&rt, alloc, &grammar, &[(lines.as_str(), answer)])?;
     }
     Ok(())
 }
 
+/// Lines inside 61 elements, of which the last has begun.
+fn levels_about(alloc: Global, inside: &str) -> Result<String, AllocError> {
+    let opened = "(a/".repeat(alloc, 60)?;
+    let closed = "/)a".repeat(alloc, 61)?;
+    format!(in alloc; "{opened}(a{inside}{closed}")
+}
+
 /// The last of `levels` groups, each of the one before it twice.
-fn doubled(draft: &mut Draft, first: PatternId, levels: u32) -> Result<PatternId, Fail> {
+fn doubled(draft: &mut Draft, first: PatternId, levels: u32) -> PatternId {
     let mut last = first;
     for _level in 0..levels {
-        last = draft.add(Simple::Group(last, last))?;
+        last = draft.add(Simple::Group(last, last));
     }
-    Ok(last)
+    last
 }
 
 // A body whose tree has 2^600 leaves.
@@ -141,15 +139,15 @@ fn doubled(draft: &mut Draft, first: PatternId, levels: u32) -> Result<PatternId
 fn shared_groups(rt: HostRuntime) -> Result<(), Fail> {
     let alloc = rt.alloc();
     let mut draft = Draft::new(alloc, 2);
-    let empty = draft.add(Simple::Empty)?;
-    let text = draft.add(Simple::Text)?;
-    let b = draft.add(Simple::Element(ElementId(1)))?;
-    let optional = draft.add(Simple::Choice(empty, text))?;
-    let either = draft.add(Simple::Choice(optional, b))?;
-    let body = doubled(&mut draft, either, 600)?;
-    let start = draft.add(Simple::Element(ElementId(0)))?;
-    draft.list(alloc, "a", body)?;
-    draft.list(alloc, "b", empty)?;
+    let empty = draft.add(Simple::Empty);
+    let text = draft.add(Simple::Text);
+    let b = draft.add(Simple::Element(ElementId(1)));
+    let optional = draft.add(Simple::Choice(empty, text));
+    let either = draft.add(Simple::Choice(optional, b));
+    let body = doubled(&mut draft, either, 600);
+    let start = draft.add(Simple::Element(ElementId(0)));
+    draft.list("a", body);
+    draft.list("b", empty);
     let grammar = draft.finish(start)?;
     let cases = [
         ("(a/)a", true),
@@ -162,29 +160,29 @@ fn shared_groups(rt: HostRuntime) -> Result<(), Fail> {
 }
 
 /// A spine of members, with another pattern between any two.
-fn long_spine(draft: &mut Draft, group: bool, member: PatternId) -> Result<PatternId, Fail> {
+fn long_spine(draft: &mut Draft, group: bool, member: PatternId) -> PatternId {
     let mut last = member;
     for _member in 0..100_000 {
-        let other = draft.add(Simple::Choice(last, member))?;
+        let other = draft.add(Simple::Choice(last, member));
         last = if group {
-            draft.add(Simple::Group(last, member))?
+            draft.add(Simple::Group(last, member))
         } else {
             other
         };
     }
-    Ok(last)
+    last
 }
 
 #[test]
 fn long_choice(rt: HostRuntime) -> Result<(), Fail> {
     let alloc = rt.alloc();
     let mut draft = Draft::new(alloc, 2);
-    let empty = draft.add(Simple::Empty)?;
-    let b = draft.add(Simple::Element(ElementId(1)))?;
-    let body = long_spine(&mut draft, false, b)?;
-    let start = draft.add(Simple::Element(ElementId(0)))?;
-    draft.list(alloc, "a", body)?;
-    draft.list(alloc, "b", empty)?;
+    let empty = draft.add(Simple::Empty);
+    let b = draft.add(Simple::Element(ElementId(1)));
+    let body = long_spine(&mut draft, false, b);
+    let start = draft.add(Simple::Element(ElementId(0)));
+    draft.list("a", body);
+    draft.list("b", empty);
     let grammar = draft.finish(start)?;
     let cases = [
         ("(a/)a", false),
@@ -198,13 +196,13 @@ fn long_choice(rt: HostRuntime) -> Result<(), Fail> {
 fn long_group(rt: HostRuntime) -> Result<(), Fail> {
     let alloc = rt.alloc();
     let mut draft = Draft::new(alloc, 2);
-    let empty = draft.add(Simple::Empty)?;
-    let b = draft.add(Simple::Element(ElementId(1)))?;
-    let optional = draft.add(Simple::Choice(b, empty))?;
-    let body = long_spine(&mut draft, true, optional)?;
-    let start = draft.add(Simple::Element(ElementId(0)))?;
-    draft.list(alloc, "a", body)?;
-    draft.list(alloc, "b", empty)?;
+    let empty = draft.add(Simple::Empty);
+    let b = draft.add(Simple::Element(ElementId(1)));
+    let optional = draft.add(Simple::Choice(b, empty));
+    let body = long_spine(&mut draft, true, optional);
+    let start = draft.add(Simple::Element(ElementId(0)));
+    draft.list("a", body);
+    draft.list("b", empty);
     let grammar = draft.finish(start)?;
     let cases = [
         ("(a/)a", true),
@@ -227,15 +225,15 @@ fn all_but_x_and_y(alloc: Global) -> Result<NameClass, AllocError> {
 fn names_by_classes(rt: HostRuntime) -> Result<(), Fail> {
     let alloc = rt.alloc();
     let mut draft = Draft::new(alloc, 2);
-    let empty = draft.add(Simple::Empty)?;
-    let text = draft.add(Simple::Text)?;
-    let attribute = draft.add(Simple::Attribute(all_but_x_and_y(alloc)?, text))?;
-    let inner = draft.add(Simple::Element(ElementId(1)))?;
-    let some = draft.add(Simple::Choice(inner, empty))?;
-    let body = draft.add(Simple::Group(attribute, some))?;
-    let start = draft.add(Simple::Element(ElementId(0)))?;
-    draft.list_class(NameClass::Any, body)?;
-    draft.list_class(all_but_x_and_y(alloc)?, text)?;
+    let empty = draft.add(Simple::Empty);
+    let text = draft.add(Simple::Text);
+    let attribute = draft.add(Simple::Attribute(all_but_x_and_y(alloc)?, text));
+    let inner = draft.add(Simple::Element(ElementId(1)));
+    let some = draft.add(Simple::Choice(inner, empty));
+    let body = draft.add(Simple::Group(attribute, some));
+    let start = draft.add(Simple::Element(ElementId(0)));
+    draft.list_class(NameClass::Any, body);
+    draft.list_class(all_but_x_and_y(alloc)?, text);
     let grammar = draft.finish(start)?;
     let cases = [
         ("(a/Az 1/)a", true),
@@ -254,9 +252,9 @@ fn names_of_one_namespace(rt: HostRuntime) -> Result<(), Fail> {
     let alloc = rt.alloc();
     for (ns, answer) in [("", true), ("u", false)] {
         let mut draft = Draft::new(alloc, 1);
-        let empty = draft.add(Simple::Empty)?;
-        let start = draft.add(Simple::Element(ElementId(0)))?;
-        draft.list_class(NameClass::Ns(String::from_str(alloc, ns)?), empty)?;
+        let empty = draft.add(Simple::Empty);
+        let start = draft.add(Simple::Element(ElementId(0)));
+        draft.list_class(NameClass::Ns(String::from_str(alloc, ns)?), empty);
         let grammar = draft.finish(start)?;
         judged(&rt, alloc, &grammar, &[("(a/)a", answer)])?;
     }

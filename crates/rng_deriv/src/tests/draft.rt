@@ -11,12 +11,14 @@ use std::alloc::{AllocError, Global};
 use std::marker::Model;
 use std::test::Fail;
 
-/// A grammar that is being made, with refs to this many elements.
+/// A grammar that is being made, with refs to this many elements; it notes what it could not take.
 #[derive(Drop)]
 pub struct Draft {
+    alloc: Global,
     patterns: Vec<Simple>,
     elements: Vec<(NameClass, PatternId)>,
     count: usize,
+    is_whole: bool,
 }
 
 impl Model for Draft {
@@ -40,42 +42,68 @@ impl Model for Draft {
 impl Draft {
     pub fn new(alloc: Global, count: usize) -> Self {
         Draft {
+            alloc,
             patterns: Vec::new(alloc),
             elements: Vec::new(alloc),
             count,
+            is_whole: true,
         }
     }
 
     /// Adds a pattern whose sides are there.
-    pub fn add(&mut self, pattern: Simple) -> Result<PatternId, Fail> {
+    pub fn add(&mut self, pattern: Simple) -> PatternId {
         let next = self.patterns.len();
-        let fits = fits(&pattern, next, self.count);
-        if !fits {
-            return Err(Fail::from("a side is not there"));
+        if !fits(&pattern, next, self.count) {
+            return self.nothing();
         }
-        self.patterns.push(pattern)?;
-        Ok(PatternId(next))
+        match self.patterns.push(pattern) {
+            Ok(()) => PatternId(next),
+            Err(_) => self.nothing(),
+        }
     }
 
-    /// Adds the next element.
-    pub fn list(&mut self, alloc: Global, local: &str, body: PatternId) -> Result<(), Fail> {
-        self.list_class(NameClass::Name(name(alloc, local)?), body)
+    /// A pattern was not taken.
+    fn nothing(&mut self) -> PatternId {
+        self.is_whole = false;
+        PatternId(0)
+    }
+
+    /// Adds an attribute.
+    pub fn attribute(&mut self, local: &str, body: PatternId) -> PatternId {
+        match name(self.alloc, local) {
+            Ok(name) => self.add(Simple::Attribute(NameClass::Name(name), body)),
+            Err(_) => self.nothing(),
+        }
     }
 
     /// Adds the next element, with any name class whose choices have two members each.
-    pub fn list_class(&mut self, class: NameClass, body: PatternId) -> Result<(), Fail> {
+    pub fn list_class(&mut self, class: NameClass, body: PatternId) {
         if body.0 >= self.patterns.len() {
-            return Err(Fail::from("the body is not there"));
+            self.is_whole = false;
+            return;
         }
         if !is_paired(&class) {
-            return Err(Fail::from("a choice has not two members"));
+            self.is_whole = false;
+            return;
         }
-        self.elements.push((class, body))?;
-        Ok(())
+        if self.elements.push((class, body)).is_err() {
+            self.is_whole = false;
+        }
     }
 
-    /// The grammar, where all its elements are listed.
+    /// Adds the next element.
+    pub fn list(&mut self, local: &str, body: PatternId) {
+        match name(self.alloc, local) {
+            Ok(name) => self.list_class(NameClass::Name(name), body),
+            Err(_) => self.is_whole = false,
+        }
+    }
+
+    /// The grammar, where all was taken and all its elements are listed.
     pub fn finish(self, start: PatternId) -> Result<SimpleGrammar, Fail> {
+        if !self.is_whole {
+            return Err(Fail::from("a part was not taken"));
+        }
         if self.elements.len() != self.count || start.0 >= self.patterns.len() {
             return Err(Fail::from("an element is not listed"));
         }
