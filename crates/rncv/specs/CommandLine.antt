@@ -6,7 +6,7 @@ use Rattle.clap.specs.Words.{App, Row, Rule, Text, all_of, fault_of, first_of, m
 use Rattle.clap.specs.Simple.{on_top}
 use Rattle.clap.specs.declared.builder.action.ArgAction.TheVariants.{Set}
 use Rattle.rng_run.specs.declared.running.Command.{Command}
-use Rattle.rng_run.specs.declared.running.Command.TheVariants.{Valid}
+use Rattle.rng_run.specs.declared.running.Command.TheVariants.{Valid, Check}
 
 -- the first word
 abbrev pub command_rule : Rule
@@ -26,7 +26,7 @@ form = with_rule (with_rule bare_form command_rule) files_rule
 
 -- the command of this name
 abbrev pub command_named : Text → Option Command
-command_named name = if bytes_eq name (codes "valid") then Some Valid else None
+command_named name = if bytes_eq name (codes "valid") then Some Valid else (if bytes_eq name (codes "check") then Some Check else None)
 
 -- the command that was found
 abbrev pub command_in : List Row → Option Command

@@ -31,7 +31,7 @@ pub fn words_of<R: Env + AllocGlobal>(rt: &R) -> Result<Words, Fault>
     words(rt.alloc(), all.as_slice())
 }
 
-/// Reads the words after the program's name: a command, and one file or more.
+/// Reads the words after the program's name: a command, `valid` or `check`, and one file or more.
 ///
 /// The first `--`, wherever it stands, is dropped. Before it, or anywhere where there is none, a longer word than `-`
 /// that begins with `-` is refused. `Usage` is answered for words that are not of this form, and `Memory` where there
@@ -69,6 +69,7 @@ fn command_of(matches: &ArgMatches<'_>) -> Option<Command>
 {
     match matches.get_str("command")? {
         "valid" => Some(Command::Valid),
+        "check" => Some(Command::Check),
         _ => None,
     }
 }

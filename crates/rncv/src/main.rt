@@ -1,4 +1,5 @@
-//! `rncv valid FILES..` says whether the document on standard input is valid against a RELAX NG schema.
+//! `rncv valid FILES..` says whether the document on standard input is valid against a RELAX NG schema, and
+//! `rncv check FILES..` names the first clause of the compact syntax that the schema breaks.
 //!
 //! The words are judged first, then the files are read in order, then the document is judged. The first fault ends
 //! the program: it prints one line on standard error, and gives the exit status.

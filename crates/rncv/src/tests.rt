@@ -39,7 +39,7 @@ fn files_named(alloc: Global, texts: &[&str]) -> Result<String, AllocError> {
 
 #[test]
 fn command_lines(rt: HostRuntime) -> Result<(), Fail> {
-    let cases: [(&[&str], &str); 20] = [
+    let cases: [(&[&str], &str); 23] = [
         (&["valid", "a"], "a;"),
         (&["valid", "a", "b", "a"], "a;b;a;"),
         // The first `--` is dropped, wherever it stands, and what follows it may begin with `-`.
@@ -52,6 +52,10 @@ fn command_lines(rt: HostRuntime) -> Result<(), Fail> {
         (&["valid", ""], ";"),
         // A name may be a command too.
         (&["valid", "valid"], "valid;"),
+        // So it is where the schema alone is judged.
+        (&["check", "a"], "a;"),
+        (&["--", "check", "a", "b"], "a;b;"),
+        (&["check"], USAGE),
         // There is no command, or no file.
         (&[], USAGE),
         (&["--"], USAGE),
@@ -63,7 +67,7 @@ fn command_lines(rt: HostRuntime) -> Result<(), Fail> {
         (&["valid", "a", "-1"], USAGE),
         // The first word is no command.
         (&["help", "a"], USAGE),
-        (&["check", "a"], USAGE),
+        (&["checks", "a"], USAGE),
         (&["simple", "a"], USAGE),
         (&["--", "--help"], USAGE),
     ];
@@ -207,6 +211,44 @@ fn a_small_document_is_valid(rt: HostRuntime) -> Result<(), Fail> {
     );
     assert!(rt; matches!(answer, Ok(Status::Good)));
     assert_eq!(rt; written.as_slice(), b"valid\n".as_slice());
+    Ok(())
+}
+
+#[test]
+fn a_schema_alone_is_judged_without_a_document(rt: HostRuntime) -> Result<(), Fail> {
+    let alloc = rt.alloc();
+    let files = small_schema(alloc)?;
+    assert!(rt; !files.is_empty());
+    let mut written = Vec::new(alloc);
+    let answer = judge(
+        alloc,
+        Command::Check,
+        files.as_slice(),
+        FailingReader,
+        &mut written,
+    );
+    assert!(rt; matches!(answer, Ok(Status::Refused)));
+    assert_eq!(rt; written.as_slice(), b"refused S0\n".as_slice());
+    Ok(())
+}
+
+#[test]
+fn a_broken_schema_is_told_with_its_name(rt: HostRuntime) -> Result<(), Fail> {
+    let alloc = rt.alloc();
+    let mut files = Vec::new(alloc);
+    let text = Vec::from_slice(alloc, b"element p:a { empty }")?;
+    files.push((String::from_str(alloc, "a\nb")?, text))?;
+    assert!(rt; !files.is_empty());
+    let mut written = Vec::new(alloc);
+    let answer = judge(
+        alloc,
+        Command::Check,
+        files.as_slice(),
+        FailingReader,
+        &mut written,
+    );
+    assert!(rt; matches!(answer, Ok(Status::Refused)));
+    assert_eq!(rt; written.as_slice(), b"refused S8 file a\nb\n".as_slice());
     Ok(())
 }
 

@@ -1,11 +1,7 @@
 mod LineCount
-pub mod SchemaSteps
-pub mod SchemaNesting
-pub mod SchemaSound
-pub mod SchemaComplete
-pub mod SchemaLexemes
-pub mod SchemaCuts
-pub mod SchemaExact
+mod Contents
+pub mod Members
+pub mod FileViews
 mod DocumentCut
 mod DocumentLines
 mod DocumentOpened

@@ -1,17 +1,31 @@
--- What a file is compiled to.
-use Rattle.std.specs.Prelude.{ℕ, List, [], ◌∷◌, Option, Some, None}
+-- What a file is compiled to, and why it is not.
+use Rattle.std.specs.Prelude.{◌≡◌, ℕ, List, Some, None}
 use Rattle.rng_model.specs.SimpleForm.{AreSameDocuments}
 use Rattle.rng_model.specs.Table.{Table, grammar_of}
 use Rattle.rng_model.specs.Written.{Pattern}
-use Rattle.rng_run.specs.SchemaFragment.{IsSchema}
-use Rattle.std.proofs.Common.{String, Vec, Global}
+use Rattle.rnc_grammar.specs.FileTree.{FileTree}
+use Rattle.rng_run.specs.SchemaFile.{Reading, too_long, breaks, has_tree, IsTheReading}
+use Rattle.rng_run.specs.Run.{pattern_by}
+use Rattle.rng_run.specs.declared.running.Command.{Command}
+use Rattle.rng_run.specs.declared.fault.FileFault.{FileFault}
+use Rattle.rng_run.specs.declared.fault.FileFault.TheVariants.{Clause, Unserved, Memory}
 
--- the bytes of the first file
-abbrev pub main_bytes : List (String Global × Vec ℕ Global) → List ℕ
-main_bytes [] = []
-main_bytes (file ∷ files) = file.1.items
+-- a grammar of the same documents as the pattern by which the command judges them
+pub record IsCompiled (command : Command) (bytes : List ℕ) (g : Table) : Type 0 where
+  pub tree : FileTree
+  pub pattern : Pattern
+  pub reads : IsTheReading bytes (has_tree tree)
+  pub judges : pattern_by command tree ≡ Some pattern
+  pub same : AreSameDocuments pattern (grammar_of g)
 
--- nothing exactly if the file is no schema, else a grammar of the same documents as the pattern that the file spells
-abbrev pub IsCompiled : List ℕ → Option Table → Type 0
-IsCompiled file None = (p : Pattern) → IsSchema file p → ⊥
-IsCompiled file (Some g) = (p : Pattern) × IsSchema file p × AreSameDocuments p (grammar_of g)
+-- the command judges by no pattern, and no clause is broken
+abbrev pub IsUnserved : Command → Reading → Type 0
+IsUnserved command too_long = Unit {0}
+IsUnserved command (breaks clause) = ⊥
+IsUnserved command (has_tree t) = pattern_by command t ≡ None
+
+-- why there is no grammar
+abbrev pub IsRefusal : Command → List ℕ → FileFault → Type 0
+IsRefusal command bytes (Clause clause) = IsTheReading bytes (breaks clause)
+IsRefusal command bytes Unserved = (r : Reading) × IsTheReading bytes r × IsUnserved command r
+IsRefusal command bytes Memory = Unit {0}

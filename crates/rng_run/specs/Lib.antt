@@ -1,14 +1,11 @@
 pub mod Answer
 pub mod AnswerView
 pub mod Verdict
+pub mod SchemaFile
+pub mod Fragment
+pub mod FileFaults
 pub mod Compiled
 pub mod Run
-pub mod SchemaTokens
-pub mod SchemaCut
-pub mod SchemaGrammar
-pub mod SchemaFragment
-pub mod SchemaReading
-pub mod SchemaAnswers
 pub mod DocumentShape
 pub mod DocumentMachine
 pub mod DocumentView

@@ -27,19 +27,21 @@ pub enum Status {
 
 /// What a run answers with one line.
 #[derive(Clone, Copy, Debug, PartialEq, Eq)]
-pub enum Answer {
+pub enum Answer<'a> {
     /// The schema breaks this clause, or is outside what is served: clause 0.
     Refused(u8),
+    /// The file of this name breaks this clause.
+    RefusedFile { clause: u8, name: &'a str },
     Judged(Verdict),
 }
 
-impl Answer {
+impl Answer<'_> {
     /// The status that goes with the line. Takes no memory.
     pub fn status(self) -> Status
-        ensures { result ≡ status_of (answer_of self) }
+        ensures { result ≡ status_of (answer_of self.entry) }
     {
         match self {
-            Answer::Refused(_) => Status::Refused,
+            Answer::Refused(_) | Answer::RefusedFile { .. } => Status::Refused,
             Answer::Judged(Verdict::Valid) => Status::Good,
             Answer::Judged(Verdict::Invalid(_)) => Status::Invalid,
             Answer::Judged(Verdict::Malformed { .. }) => Status::Malformed,
@@ -48,10 +50,11 @@ impl Answer {
 
     /// The line, ended by a line feed.
     pub fn line(self, alloc: Global) -> Result<String, AllocError>
-        ensures { IfOk result (λ line. string_bytes line ≡ line_of (answer_of self)) }
+        ensures { IfOk result (λ line. string_bytes line ≡ line_of (answer_of self.entry)) }
     {
         match self {
             Answer::Refused(clause) => format!(in alloc; "refused S{clause}\n"),
+            Answer::RefusedFile { clause, name } => refused_file_line(alloc, clause, name),
             Answer::Judged(Verdict::Valid) => String::from_str(alloc, "valid\n"),
             Answer::Judged(Verdict::Invalid(line)) => format!(in alloc; "invalid line {line}\n"),
             Answer::Judged(Verdict::Malformed { clause, line }) => {
@@ -65,4 +68,10 @@ fn malformed_line(alloc: Global, clause: u8, line: u64) -> Result<String, AllocE
     ensures { IfOk result (λ text. string_bytes text ≡ line_of (answer.judged (Verdict.Malformed clause line))) }
 {
     format!(in alloc; "malformed P{clause} line {line}\n")
+}
+
+fn refused_file_line(alloc: Global, clause: u8, name: &str) -> Result<String, AllocError>
+    ensures { IfOk result (λ text. string_bytes text ≡ line_of (answer.refused_file clause name.now)) }
+{
+    format!(in alloc; "refused S{clause} file {name}\n")
 }

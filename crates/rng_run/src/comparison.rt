@@ -2,8 +2,10 @@
 // section 6.2), over patterns as they are written; and a comparison of `judge` with it over many small documents.
 use crate::answer::Verdict;
 use crate::document::read_document;
+use crate::fault::FileFault;
+use crate::fragment::pattern_of_file;
 use crate::judging::judge;
-use crate::schema::read_schema;
+use crate::schema_file::read_file;
 use rng_model::{Attr, Item, Name, NameClass, Pattern, SimpleGrammar};
 use rng_simple::{Schema, simplify};
 use std::alloc::{AllocError, Global};
@@ -19,7 +21,6 @@ struct Chosen<'a> {
     bits: u32,
 }
 
-/// Schemas of the fragment have plain names alone.
 fn holds(class: &NameClass, name: &Name) -> bool {
     matches!(class, NameClass::Name(only) if only == name)
 }
@@ -229,12 +230,18 @@ fn document(alloc: Global, number: u32, count: u32) -> Result<Vec<u8>, AllocErro
     Ok(bytes)
 }
 
+/// The pattern that a schema is.
+fn read_pattern(alloc: Global, schema: &str) -> Result<Pattern, FileFault> {
+    let tree = read_file(alloc, schema.as_bytes())?;
+    pattern_of_file(alloc, &tree)
+}
+
 /// The patterns of the schemas, each with its grammar.
 fn compiled(alloc: Global) -> Result<Vec<(Pattern, SimpleGrammar)>, Fail> {
     let mut all = Vec::new(alloc);
     for schema in &SCHEMAS {
-        let kept = read_schema(alloc, schema.as_bytes())?;
-        let read = read_schema(alloc, schema.as_bytes())?;
+        let kept = read_pattern(alloc, schema)?;
+        let read = read_pattern(alloc, schema)?;
         let grammar = simplify(alloc, &Schema::single(read))?;
         all.push((kept, grammar))?;
     }

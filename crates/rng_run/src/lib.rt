@@ -1,8 +1,9 @@
-//! From schema files and a document to one line: `valid`, `invalid line N`, `malformed Pk line N` or `refused Sk`.
+//! From schema files and a document to one line: `valid`, `invalid line N`, `malformed Pk line N`, `refused Sk file NAME`
+//! or `refused S0`.
 //!
-//! `run` reads the files and the document, judges the document by the pattern that the first file spells, and writes
-//! the line, whatever the files and the bytes are and however the reader cuts them. It answers only where no device
-//! failed, and after a fault no more than a beginning of a line was written.
+//! `run` reads the first file and the document, names the least clause of the compact syntax that the file breaks or
+//! judges the document by the file's pattern, and writes the line, whatever the bytes are and however the reader cuts
+//! them. It answers only where no device failed, and after a fault no more than a beginning of a line was written.
 #![tactic(auto)]
 
 mod answer;
@@ -10,9 +11,11 @@ mod ascii;
 #[cfg(test)]
 mod comparison;
 mod document;
+mod fault;
+mod fragment;
 mod judging;
 mod running;
-mod schema;
+mod schema_file;
 mod streams;
 #[cfg(test)]
 mod tests;

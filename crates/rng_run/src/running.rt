@@ -3,14 +3,17 @@ ghost use Rattle.std.specs.Prelude.{◌≡◌, ◌-◌, ◌^◌, ◌<◌, length
 ghost use Rattle.rng_model.specs.Device.{device_inner, device_failures};
 ghost use Rattle.rng_run.specs.Answer.{status_of};
 ghost use Rattle.rng_run.specs.AnswerView.{answer_of};
-ghost use Rattle.rng_run.specs.Run.{IsAnswer, WritesLine, WrittenAfter};
-ghost use Rattle.rng_run.specs.Compiled.{IsCompiled, main_bytes};
+ghost use Rattle.rng_run.specs.Run.{IsAnswer, JudgesNone, WritesLine, WrittenAfter, main_file};
+ghost use Rattle.rng_run.specs.SchemaFile.{IsTheReading, Reading};
+ghost use Rattle.rng_run.specs.Compiled.{IsCompiled, IsRefusal};
 
 use crate::answer::{Answer, Status};
+use crate::fault::FileFault;
+use crate::fragment::pattern_of_file;
 use crate::judging::judge;
-use crate::schema::{ReadFault, read_schema};
+use crate::schema_file::read_file;
 use crate::streams::{StreamFault, read_whole, write_whole};
-use rng_model::{Device, OutOfMemory, SchemaFault, SimpleGrammar};
+use rng_model::{Device, OutOfMemory, SimpleGrammar};
 use rng_simple::{Schema, simplify};
 use std::alloc::Global;
 use std::io::{Read, Write};
@@ -20,6 +23,8 @@ use std::io::{Read, Write};
 pub enum Command {
     /// Judge a document by the schema.
     Valid,
+    /// Judge the schema alone. The document is not read.
+    Check,
 }
 
 /// Why a run gave no answer.
@@ -33,13 +38,16 @@ pub enum RunFault {
     Memory,
 }
 
-/// Judges the document that `input` has left by the schema in the first of the files, and writes one line.
+/// Does what the command asks for with the schema in the first of the files, and writes one line.
 ///
-/// The line is `refused S0` where the file is outside the fragment of schemas that is served (then nothing of the input
-/// is read), and else `valid`, `invalid line N` or `malformed Pk line N`, as the definition says for the document and
-/// the pattern that the file spells; a line feed ends it. The other files are ignored. `RunFault::Read` and
-/// `RunFault::Write` come only where that device counted a failed call; after `Read` and `Memory` nothing was written,
-/// after `Write` a beginning of the line was. The file and the document are read in one pass each, and kept whole.
+/// The line is `refused S0` where the file has more than 1,048,576 bytes, whatever they are; else `refused Sk file NAME`
+/// where it breaks a clause of the compact syntax, with the least k of 3 to 8 and the file's name as it is; else for
+/// `Check`, and for `Valid` where the schema is outside what is served, `refused S0`; and else `valid`, `invalid line N`
+/// or `malformed Pk line N`, as the definition says for the document that `input` has left and the pattern of the file's
+/// tree. A line feed ends it. A refused schema leaves the input unread, and the other files are ignored.
+/// `RunFault::Read` and `RunFault::Write` come only where that device counted a failed call; after `Read` and `Memory`
+/// nothing was written, after `Write` a beginning of the line was. The file and the document are kept whole; time is in
+/// proportion to the file, and then what `simplify` and `is_valid` take.
 pub fn run<R: Read, W: Write>(
     alloc: Global,
     command: Command,
@@ -55,21 +63,21 @@ pub fn run<R: Read, W: Write>(
     ensures calm_input { OnOk result (device_failures input.new ≡ device_failures input.old) }
     ensures calm_output { OnOk result (device_failures output.new ≡ device_failures output.old) }
     ensures line { IfOk result (λ status. WritesLine
-        (IsAnswer (main_bytes files.now) (R.remaining (device_inner input.old)) (R.remaining (device_inner input.new)))
+        (IsAnswer command (main_file files.now) (R.remaining (device_inner input.old)) (R.remaining (device_inner input.new)))
         status (W.contents (device_inner output.old)) (W.contents (device_inner output.new))) }
 
-    // A refused schema leaves the document unread.
-    ensures unread { IfOk result (λ status. status ≡ Status.Refused → input.new ≡ input.old) }
+    // Where no document is judged by the file, none is read.
+    ensures unread { (reading : Reading) → IsTheReading (main_file files.now).bytes reading → JudgesNone command reading → input.new ≡ input.old }
 
     // A fault of a device is answered only where that device counted one.
     ensures read { IsErrOf result RunFault.Read → device_failures input.old < device_failures input.new }
     ensures write { IsErrOf result RunFault.Write → device_failures output.old < device_failures output.new }
     ensures written { IfErr result (λ fault. WrittenAfter
-        (IsAnswer (main_bytes files.now) (R.remaining (device_inner input.old)) (R.remaining (device_inner input.new)))
+        (IsAnswer command (main_file files.now) (R.remaining (device_inner input.old)) (R.remaining (device_inner input.new)))
         fault (W.contents (device_inner output.old)) (W.contents (device_inner output.new))) }
 {
-    let Command::Valid = command;
-    let answer = answer_for(alloc, main_file(files), input)?;
+    let (name, bytes) = first_file(files);
+    let answer = answer_for(alloc, command, name, bytes, input)?;
     let Ok(line) = answer.line(alloc) else {
         return Err(RunFault::Memory);
     };
@@ -79,56 +87,58 @@ pub fn run<R: Read, W: Write>(
     Ok(answer.status())
 }
 
-/// The bytes of the first file.
-fn main_file(files: &[(String, Vec<u8>)]) -> &[u8]
+/// The name and the bytes of the first file.
+fn first_file(files: &[(String, Vec<u8>)]) -> (&str, &[u8])
     requires { 0 < length files.now }
-    ensures { result.now ≡ main_bytes files.now }
+    ensures { record { name = result.0.now; bytes = result.1.now } ≡ main_file files.now }
 {
     match files {
-        [(_, bytes), ..] => bytes.as_slice(),
+        [(name, bytes), ..] => (name.as_str(), bytes.as_slice()),
         [] => unreachable!(),
     }
 }
 
-/// What is to be said of the document by the schema in this file.
-fn answer_for<R: Read>(
+/// What is to be said of the document by the schema in the file of this name.
+fn answer_for<'n, R: Read>(
     alloc: Global,
-    file: &[u8],
+    command: Command,
+    name: &'n str,
+    bytes: &[u8],
     input: &mut Device<R>,
-) -> Result<Answer, RunFault>
+) -> Result<Answer<'n>, RunFault>
     requires { device_failures input.old < 2 ^ 64 - 1 }
     ensures calm { OnOk result (device_failures input.new ≡ device_failures input.old) }
-    ensures unread { IfOk result (λ answer. status_of (answer_of answer) ≡ Status.Refused → input.new ≡ input.old) }
+    ensures unread { (reading : Reading) → IsTheReading bytes.now reading → JudgesNone command reading → input.new ≡ input.old }
     ensures read { IsErrOf result RunFault.Read → device_failures input.old < device_failures input.new }
     ensures no_write { IsErrOf result RunFault.Write → ⊥ }
-    ensures answer { IfOk result (λ answer. IsAnswer file.now (R.remaining (device_inner input.old)) (R.remaining (device_inner input.new)) (answer_of answer)) }
+    ensures answer { IfOk result (λ answer. IsAnswer command (record { name = name.now; bytes = bytes.now }) (R.remaining (device_inner input.old)) (R.remaining (device_inner input.new)) (answer_of answer)) }
 {
-    let Some(grammar) = compiled(alloc, file)? else {
-        return Ok(Answer::Refused(0));
+    let grammar = match compiled(alloc, command, bytes) {
+        Ok(grammar) => grammar,
+        Err(FileFault::Clause(clause)) => return Ok(Answer::RefusedFile { clause, name }),
+        Err(FileFault::Unserved) => return Ok(Answer::Refused(0)),
+        Err(FileFault::Memory) => return Err(RunFault::Memory),
     };
-    let bytes = match read_whole(alloc, input) {
-        Ok(bytes) => bytes,
+    let document = match read_whole(alloc, input) {
+        Ok(document) => document,
         Err(StreamFault::Read) => return Err(RunFault::Read),
         Err(StreamFault::Memory) => return Err(RunFault::Memory),
     };
-    match judge(alloc, &grammar, bytes.as_slice()) {
+    match judge(alloc, &grammar, document.as_slice()) {
         Ok(verdict) => Ok(Answer::Judged(verdict)),
         Err(OutOfMemory) => Err(RunFault::Memory),
     }
 }
 
-/// The grammar of the schema in this file, or `None` where the file is outside the fragment.
-fn compiled(alloc: Global, file: &[u8]) -> Result<Option<SimpleGrammar>, RunFault>
-    ensures fault { IfErr result (λ fault. fault ≡ RunFault.Memory) }
-    ensures grammar { IfOk result (IsCompiled file.now) }
+/// The grammar by which the command judges a document, where it does.
+fn compiled(alloc: Global, command: Command, bytes: &[u8]) -> Result<SimpleGrammar, FileFault>
+    ensures grammar { IfOk result (IsCompiled command bytes.now) }
+    ensures fault { IfErr result (IsRefusal command bytes.now) }
 {
-    let pattern = match read_schema(alloc, file) {
-        Ok(pattern) => pattern,
-        Err(ReadFault::Outside) => return Ok(None),
-        Err(ReadFault::Memory) => return Err(RunFault::Memory),
+    let tree = read_file(alloc, bytes)?;
+    let pattern = match command {
+        Command::Valid => pattern_of_file(alloc, &tree)?,
+        Command::Check => return Err(FileFault::Unserved),
     };
-    match simplify(alloc, &Schema::single(pattern)) {
-        Ok(grammar) => Ok(Some(grammar)),
-        Err(SchemaFault::Memory) => Err(RunFault::Memory),
-    }
+    Ok(simplify(alloc, &Schema::single(pattern))?)
 }

@@ -62,6 +62,7 @@ struct Outcome {
     unread: usize,
 }
 
+/// One file, `s.rnc`.
 fn schema_files(alloc: Global, schema: &[u8]) -> Result<Vec<(String, Vec<u8>)>, AllocError> {
     let mut files = Vec::new(alloc);
     files.push((
@@ -74,6 +75,7 @@ fn schema_files(alloc: Global, schema: &[u8]) -> Result<Vec<(String, Vec<u8>)>, 
 /// One run over devices that give and take as the arguments say.
 fn run_over(
     alloc: Global,
+    command: Command,
     files: &[(String, Vec<u8>)],
     mut source: Source<'_>,
     writes: u64,
@@ -93,7 +95,7 @@ fn run_over(
     }
     let mut input = Device::new(&mut source);
     let mut output = Device::new(&mut sink);
-    let answer = run(alloc, Command::Valid, files, &mut input, &mut output);
+    let answer = run(alloc, command, files, &mut input, &mut output);
     let (read_failures, write_failures) = (input.failures(), output.failures());
     Outcome {
         answer,
@@ -105,17 +107,25 @@ fn run_over(
 }
 
 /// A run in which no device fails.
-fn calm(alloc: Global, schema: &[u8], document: &[u8], most: usize) -> Result<Outcome, AllocError> {
+fn calm(
+    alloc: Global,
+    command: Command,
+    schema: &[u8],
+    document: &[u8],
+    most: usize,
+) -> Result<Outcome, AllocError> {
     let files = schema_files(alloc, schema)?;
     let source = Source {
         bytes: document,
         most,
         calls_left: u64::MAX,
     };
-    Ok(run_over(alloc, files.as_slice(), source, u64::MAX))
+    Ok(run_over(alloc, command, files.as_slice(), source, u64::MAX))
 }
 
 const SMALL: &str = "element a { empty }";
+
+const ESCAPED: &str = "element \\x{61} { empty }";
 
 const MIXED: &str = "element a { attribute x { text }, text }";
 
@@ -124,7 +134,7 @@ const ORDERED: &str = "element a { element b {empty}, (element c {text} | empty)
 const NEVER_B: &str = "element a { (element b { empty }, notAllowed) | text }";
 
 /// A schema, a document, and the line that is to be written.
-const CASES: [(&str, &str, &str); 28] = [
+const CASES: [(&str, &str, &str); 60] = [
     (SMALL, "(a\n)a\n", "valid\n"),
     (SMALL, "(a\n-   \n)a\n", "valid\n"),
     (SMALL, "(a\n)b\n", "malformed P8 line 2\n"),
@@ -169,13 +179,99 @@ const CASES: [(&str, &str, &str); 28] = [
         "(a\n(b\n)b\n)a\n",
         "invalid line 4\n",
     ),
+    (ESCAPED, "(a\n)a\n", "valid\n"),
+    (
+        "# c\nelement a { notAllowed }",
+        "(a\n)a\n",
+        "invalid line 2\n",
+    ),
+    (
+        "default namespace = \"u\" element a { empty }",
+        "(a\n)a\n",
+        "invalid line 2\n",
+    ),
+    (
+        "default namespace = \"\" element a { empty }",
+        "(a\n)a\n",
+        "valid\n",
+    ),
+    (
+        "namespace p = \"u\" element a { attribute p:x { text } }",
+        "(a\nAx 1\n)a\n",
+        "invalid line 3\n",
+    ),
+    (
+        "default namespace = inherit element a { empty }",
+        "(a\n)a\n",
+        "valid\n",
+    ),
+    ("element a { empty }\r\n# c", "(a\n)a\n", "valid\n"),
+    ("\n\telement  a\n{\n\tempty\t} # c", "(a\n)a\n", "valid\n"),
+    ("element a{(empty)}", "(a\n)a\n", "valid\n"),
+    (
+        "(text|empty)|text|element a.b{text}",
+        "(a.b\n)a.b\n",
+        "valid\n",
+    ),
+    (
+        "element _a-1.b { (text), (empty) , text }",
+        "(_a-1.b\n-x\n)_a-1.b\n",
+        "valid\n",
+    ),
+    (
+        "element notAllowed { attribute attribute { empty } }",
+        "(notAllowed\nAattribute \n)notAllowed\n",
+        "valid\n",
+    ),
+    (
+        "element \\element { empty }",
+        "(element\n)element\n",
+        "valid\n",
+    ),
+    (
+        "element (elementa) { empty }",
+        "(elementa\n)elementa\n",
+        "valid\n",
+    ),
+    // What is not served: a pattern or a class of each other kind.
+    ("element a { empty }?", "zz", "refused S0\n"),
+    ("element a { empty }*", "zz", "refused S0\n"),
+    ("element a { empty }+", "zz", "refused S0\n"),
+    ("start = element a { empty }", "zz", "refused S0\n"),
+    (
+        "grammar { start = element a { empty } }",
+        "zz",
+        "refused S0\n",
+    ),
+    ("element a { string }", "zz", "refused S0\n"),
+    ("element a { string - \"x\" }", "zz", "refused S0\n"),
     ("element a { \"x\" }", "(a\n)a\n", "refused S0\n"),
+    ("element a { list { empty } }", "zz", "refused S0\n"),
+    ("element a { mixed { empty } }", "zz", "refused S0\n"),
+    ("element a { b }", "zz", "refused S0\n"),
+    ("element a { parent b }", "zz", "refused S0\n"),
+    ("element a { external \"t.rnc\" }", "zz", "refused S0\n"),
+    ("element a { text & text }", "zz", "refused S0\n"),
+    ("element * { empty }", "zz", "refused S0\n"),
+    (
+        "element a { attribute * - x { text } }",
+        "zz",
+        "refused S0\n",
+    ),
+    ("element xml:* { empty }", "zz", "refused S0\n"),
+    ("element xml:* - xml:a { empty }", "zz", "refused S0\n"),
+    ("element (a | b) { empty }", "zz", "refused S0\n"),
+    // What breaks a clause.
     (
         "element a { text | text, text }",
         "(a\n)a\n",
-        "refused S0\n",
+        "refused S6 file s.rnc\n",
     ),
-    ("element a { empty }}", "(a\n)a\n", "refused S0\n"),
+    (
+        "element a { empty }}",
+        "(a\n)a\n",
+        "refused S6 file s.rnc\n",
+    ),
     ("", "(a\n)a\n", "refused S0\n"),
 ];
 
@@ -188,27 +284,202 @@ fn status_of_line(line: &str) -> Status {
     }
 }
 
+/// Whether a run in which no device fails writes this line, with its status, and reads no document that it does not judge.
+fn writes(
+    alloc: Global,
+    command: Command,
+    schema: &[u8],
+    document: &[u8],
+    most: usize,
+    line: &str,
+) -> Result<bool, AllocError> {
+    let got = calm(alloc, command, schema, document, most)?;
+    let status = status_of_line(line);
+    let unread = match status {
+        Status::Refused => document.len(),
+        _ => 0,
+    };
+    Ok(
+        got.answer == Ok(status)
+            && got.written.as_slice() == line.as_bytes()
+            && got.read_failures == 0
+            && got.write_failures == 0
+            && got.unread == unread,
+    )
+}
+
+/// Whether `check` writes this line.
+fn checks(alloc: Global, schema: &[u8], line: &str) -> Result<bool, AllocError> {
+    writes(alloc, Command::Check, schema, b"zz", 4096, line)
+}
+
 #[test]
 fn cases_by_pieces_of_any_length(rt: HostRuntime) -> Result<(), Fail> {
-    let alloc = rt.alloc();
     for (schema, document, line) in &CASES {
         for most in [1, 2, 3, 4096] {
-            let got = calm(alloc, schema.as_bytes(), document.as_bytes(), most)?;
-            let status = status_of_line(line);
-            assert!(rt; got.answer == Ok(status), "{schema} {document}");
-            assert_eq!(rt;
-                got.written.as_slice(),
-                line.as_bytes(),
-                "{schema} {document}"
-            );
-            assert_eq!(rt; (got.read_failures, got.write_failures), (0, 0));
-            let unread = if status == Status::Refused {
-                document.len()
-            } else {
-                0
-            };
-            assert_eq!(rt; got.unread, unread);
+            let holds = writes(
+                rt.alloc(),
+                Command::Valid,
+                schema.as_bytes(),
+                document.as_bytes(),
+                most,
+                line,
+            )?;
+            assert!(rt; holds, "{schema} {document} {most}");
         }
+    }
+    Ok(())
+}
+
+/// A schema, and the line that `check` writes.
+const CHECKS: [(&str, &str); 47] = [
+    ("element a { empty }", "refused S0\n"),
+    ("", "refused S0\n"),
+    (" \n", "refused S0\n"),
+    ("foo", "refused S0\n"),
+    ("notallowed", "refused S0\n"),
+    ("element \u{e9} { empty }", "refused S0\n"),
+    (ESCAPED, "refused S0\n"),
+    ("element a { \"x\" }", "refused S0\n"),
+    ("element \\x{0} { empty }", "refused S4 file s.rnc\n"),
+    ("element a { empty \u{1}", "refused S4 file s.rnc\n"),
+    ("\\xx{61}", "refused S4 file s.rnc\n"),
+    ("element a { \"\\x{}\" }", "refused S4 file s.rnc\n"),
+    ("element a { \"x }", "refused S5 file s.rnc\n"),
+    ("element 1a { empty }", "refused S5 file s.rnc\n"),
+    ("element a { ?", "refused S6 file s.rnc\n"),
+    ("element a { [", "refused S5 file s.rnc\n"),
+    ("a\\x{A}b", "refused S5 file s.rnc\n"),
+    ("# x\\x{A}y\nempty", "refused S0\n"),
+    ("element a { foo | bar, baz }", "refused S6 file s.rnc\n"),
+    ("foo | bar, baz", "refused S6 file s.rnc\n"),
+    ("element a { empty", "refused S6 file s.rnc\n"),
+    ("element a { (empty }", "refused S6 file s.rnc\n"),
+    ("element a { (empty }}", "refused S6 file s.rnc\n"),
+    ("elementa { empty }", "refused S6 file s.rnc\n"),
+    ("element { empty }", "refused S6 file s.rnc\n"),
+    ("element a b { empty }", "refused S6 file s.rnc\n"),
+    ("element a { }", "refused S6 file s.rnc\n"),
+    ("element a { empty, }", "refused S6 file s.rnc\n"),
+    ("element a { empty empty }", "refused S6 file s.rnc\n"),
+    ("empty | text, text", "refused S6 file s.rnc\n"),
+    ("empty, text | text", "refused S6 file s.rnc\n"),
+    ("notAllowed, text | empty", "refused S6 file s.rnc\n"),
+    ("notAllowed { empty }", "refused S6 file s.rnc\n"),
+    ("notAllowed notAllowed", "refused S6 file s.rnc\n"),
+    ("element -a { empty }", "refused S6 file s.rnc\n"),
+    ("(empty", "refused S6 file s.rnc\n"),
+    ("empty)", "refused S6 file s.rnc\n"),
+    ("()", "refused S6 file s.rnc\n"),
+    ("element p:a { empty }", "refused S8 file s.rnc\n"),
+    ("element a:b { empty }", "refused S8 file s.rnc\n"),
+    ("element a { xsi:x }", "refused S8 file s.rnc\n"),
+    (
+        "namespace p = \"u\" namespace p = \"u\" empty",
+        "refused S8 file s.rnc\n",
+    ),
+    ("namespace xmlns = \"u\" empty", "refused S8 file s.rnc\n"),
+    ("namespace p = \"u\" element p:a { empty }", "refused S0\n"),
+    // The least clause that is broken is told.
+    ("element p:a { empty \\x{0}", "refused S4 file s.rnc\n"),
+    ("element p:a { empty \"", "refused S5 file s.rnc\n"),
+    ("element p:a { empty", "refused S6 file s.rnc\n"),
+];
+
+#[test]
+fn schemas_alone(rt: HostRuntime) -> Result<(), Fail> {
+    for (schema, line) in &CHECKS {
+        assert!(rt; checks(rt.alloc(), schema.as_bytes(), line)?, "{schema}");
+    }
+    assert!(rt; checks(rt.alloc(), b"\xFF", "refused S3 file s.rnc\n")?);
+    assert!(rt; checks(rt.alloc(), b"a\xC3", "refused S3 file s.rnc\n")?);
+    Ok(())
+}
+
+/// A schema with spaces behind it until there are so many bytes, the last of which is this.
+fn padded(alloc: Global, length: usize, last: u8) -> Result<Vec<u8>, AllocError> {
+    let mut bytes = Vec::from_slice(alloc, ESCAPED.as_bytes())?;
+    for _ in ESCAPED.len() + 1..length {
+        bytes.push(b' ')?;
+    }
+    bytes.push(last)?;
+    Ok(bytes)
+}
+
+#[test]
+fn a_file_of_the_most_bytes(rt: HostRuntime) -> Result<(), Fail> {
+    let alloc = rt.alloc();
+    let most = padded(alloc, 1_048_576, b' ')?;
+    assert!(rt; checks(alloc, most.as_slice(), "refused S0\n")?);
+    assert!(rt;
+        writes(
+            alloc,
+            Command::Valid,
+            most.as_slice(),
+            b"(a\n)a\n",
+            1,
+            "valid\n"
+        )?
+    );
+    let most = padded(alloc, 1_048_576, 0xFF)?;
+    assert!(rt; checks(alloc, most.as_slice(), "refused S3 file s.rnc\n")?);
+    Ok(())
+}
+
+#[test]
+fn no_byte_of_a_longer_file_is_judged(rt: HostRuntime) -> Result<(), Fail> {
+    let alloc = rt.alloc();
+    for last in [b' ', 0xFF] {
+        let more = padded(alloc, 1_048_577, last)?;
+        for command in [Command::Valid, Command::Check] {
+            let holds = writes(alloc, command, more.as_slice(), b"zz", 1, "refused S0\n")?;
+            assert!(rt; holds, "{command:?} {last}");
+        }
+    }
+    Ok(())
+}
+
+/// A choice of `text` with itself, so many times.
+fn choice_of_texts(alloc: Global, members: u32) -> Result<Vec<u8>, AllocError> {
+    let mut schema = Vec::from_slice(alloc, b"text")?;
+    for _ in 1..members {
+        schema.extend_from_slice(b"|text")?;
+    }
+    Ok(schema)
+}
+
+#[test]
+fn many_members(rt: HostRuntime) -> Result<(), Fail> {
+    let alloc = rt.alloc();
+    let most = choice_of_texts(alloc, 200_000)?;
+    assert!(rt; checks(alloc, most.as_slice(), "refused S0\n")?);
+    let many = choice_of_texts(alloc, 20_000)?;
+    let line = "invalid line 2\n";
+    assert!(rt; writes(alloc, Command::Valid, many.as_slice(), b"(a\n)a\n", 9, line)?);
+    Ok(())
+}
+
+#[test]
+fn a_name_is_told_as_it_is(rt: HostRuntime) -> Result<(), Fail> {
+    let alloc = rt.alloc();
+    let mut files = Vec::new(alloc);
+    for name in ["a\n{b}\u{e9}", "t.rnc"] {
+        files.push((
+            String::from_str(alloc, name)?,
+            Vec::from_slice(alloc, b"empty)")?,
+        ))?;
+    }
+    for command in [Command::Valid, Command::Check] {
+        let source = Source {
+            bytes: b"",
+            most: 1,
+            calls_left: 0,
+        };
+        let got = run_over(alloc, command, files.as_slice(), source, u64::MAX);
+        assert_eq!(rt;
+            got.written.as_slice(),
+            "refused S6 file a\n{b}\u{e9}\n".as_bytes()
+        );
     }
     Ok(())
 }
@@ -230,10 +501,25 @@ fn in_parentheses(alloc: Global, pairs: usize) -> Result<Vec<u8>, AllocError> {
 #[test]
 fn nests_128_deep(rt: HostRuntime) -> Result<(), Fail> {
     let alloc = rt.alloc();
-    for (pairs, line) in [(127, "valid\n"), (128, "refused S0\n")] {
+    let deepest = in_parentheses(alloc, 127)?;
+    assert!(rt; checks(alloc, deepest.as_slice(), "refused S0\n")?);
+    assert!(rt;
+        writes(
+            alloc,
+            Command::Valid,
+            deepest.as_slice(),
+            b"(a\n)a\n",
+            1,
+            "valid\n"
+        )?
+    );
+    for pairs in [128, 100_000] {
         let schema = in_parentheses(alloc, pairs)?;
-        let got = calm(alloc, schema.as_slice(), b"(a\n)a\n", 4096)?;
-        assert_eq!(rt; got.written.as_slice(), line.as_bytes());
+        for command in [Command::Valid, Command::Check] {
+            let line = "refused S7 file s.rnc\n";
+            let holds = writes(alloc, command, schema.as_slice(), b"zz", 1, line)?;
+            assert!(rt; holds, "{command:?} {pairs}");
+        }
     }
     Ok(())
 }
@@ -251,7 +537,7 @@ fn the_first_file_alone_is_judged(rt: HostRuntime) -> Result<(), Fail> {
         most: 9,
         calls_left: u64::MAX,
     };
-    let got = run_over(alloc, files.as_slice(), source, u64::MAX);
+    let got = run_over(alloc, Command::Valid, files.as_slice(), source, u64::MAX);
     assert!(rt; got.answer == Ok(Status::Good));
     Ok(())
 }
@@ -267,7 +553,7 @@ fn devices_fail_at_each_call(rt: HostRuntime) -> Result<(), Fail> {
                 most: 1,
                 calls_left: reads,
             };
-            let got = run_over(alloc, files.as_slice(), source, writes);
+            let got = run_over(alloc, Command::Valid, files.as_slice(), source, writes);
             let (want, written) = if reads < 7 {
                 (Err(RunFault::Read), 0)
             } else if writes < 6 {
@@ -289,7 +575,7 @@ fn devices_fail_at_each_call(rt: HostRuntime) -> Result<(), Fail> {
 #[test]
 fn a_refused_growth_is_told(rt: HostRuntime) -> Result<(), Fail> {
     let alloc = rt.alloc();
-    let Ok(got) = calm(alloc, SMALL.as_bytes(), b"(a\n)a\n", 4096) else {
+    let Ok(got) = calm(alloc, Command::Valid, SMALL.as_bytes(), b"(a\n)a\n", 4096) else {
         return Ok(());
     };
     match got.answer {

@@ -1,0 +1,29 @@
+-- File trees, a datatype's pattern as it is seen.
+use Rattle.std.proofs.Common.{◌≡◌, map, rules, Vec, Global, Some, None, string_bytes, String, Box}
+use Rattle.rnc_grammar.specs.declared.file_tree.DatatypeName.{DatatypeName}
+use Rattle.rnc_grammar.specs.declared.file_tree.Pattern.{Pattern}
+use Rattle.rnc_grammar.specs.declared.file_tree.Pattern.TheVariants as patterns
+use Rattle.rnc_grammar.specs.declared.file_tree.Component.{the_lemmas}
+use Rattle.rnc_grammar.specs.FileTree as tree
+use Rattle.rnc_grammar.specs.View as files
+use Rattle.rng_model.specs.Tree.{group, choice, interleave}
+use Rattle.rnc_grammar.specs.declared.file_tree.NameClass.{NameClass, the_lemmas as class_lemmas}
+use Rattle.rnc_grammar.specs.declared.file_tree.NameClass.TheVariants as classes
+
+pub plain_data : (d : DatatypeName) (ps : Vec (String Global × String Global) Global) → files.pattern_of (patterns.Data d ps None) ≡ tree.data_of (files.type_of d) (map (λ p. (string_bytes p.0, string_bytes p.1)) ps.items)
+plain_data d ps = search (rules, the_lemmas)
+
+pub data_except : (d : DatatypeName) (ps : Vec (String Global × String Global) Global) (b : Box Pattern Global) → files.pattern_of (patterns.Data d ps (Some b)) ≡ tree.data_except (files.type_of d) (map (λ p. (string_bytes p.0, string_bytes p.1)) ps.items) (files.pattern_of b.value)
+data_except d ps b = search (rules, the_lemmas)
+
+pub choice_class : (all : Vec NameClass Global) → files.class_of (classes.Choice all) ≡ tree.choice_of (map files.class_of all.items)
+choice_class all = search (rules, class_lemmas)
+
+pub group_of : (all : Vec Pattern Global) → files.pattern_of (patterns.Group all) ≡ tree.members group (map files.pattern_of all.items)
+group_of all = search (rules, the_lemmas)
+
+pub interleave_of : (all : Vec Pattern Global) → files.pattern_of (patterns.Interleave all) ≡ tree.members interleave (map files.pattern_of all.items)
+interleave_of all = search (rules, the_lemmas)
+
+pub choice_of : (all : Vec Pattern Global) → files.pattern_of (patterns.Choice all) ≡ tree.members choice (map files.pattern_of all.items)
+choice_of all = search (rules, the_lemmas)

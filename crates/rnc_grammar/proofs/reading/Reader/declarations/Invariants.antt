@@ -1,0 +1,15 @@
+use Rattle.std.proofs.Common.{map, length, ◌≤◌}
+use Rattle.rnc_grammar.specs.Lexeme.{lexemes_in}
+use Rattle.rnc_grammar.specs.Reading.{declaration_front, declaration_at, declarations_at}
+use Rattle.rnc_grammar.specs.SyntaxView.{declaration_of}
+use Rattle.rnc_grammar.proofs.Steps.{Goes}
+use Rattle.rnc_grammar.proofs.reading.Reader.declarations.Given as goal
+
+abbrev pub invariant-loop-self : goal.invariant-loop-self
+invariant-loop-self l = record {
+  goes : Goes declaration_front declaration_at (map declaration_of l.all.items) (lexemes_in l.self.count l.rest) (declarations_at (lexemes_in l.self.count l.tokens));
+  within : length l.rest ≤ length l.tokens;
+}
+
+abbrev pub decreases-loop-self : goal.decreases-loop-self
+decreases-loop-self l = length l.rest

@@ -1,0 +1,12 @@
+pub mod FileTree
+pub mod View
+pub mod Lexeme
+pub mod Syntax
+pub mod Grammar
+pub mod Declarations
+pub mod Sentence
+pub mod Reads
+pub mod Reading
+pub mod SyntaxView
+pub mod Resolved
+pub mod Parsed

@@ -1,0 +1,181 @@
+// The tree of a schema file, with its declarations applied.
+ghost use Rattle.std.specs.Prelude.{◌≡◌, map, option_map};
+ghost use Rattle.rnc_grammar.specs.FileTree.{components_of, grammar_of, is_grammar as is_grammar_tree};
+ghost use Rattle.rnc_grammar.specs.View.{component_of, file_of};
+
+/// The namespace of a name: a given one, empty where the name has none, or the one that the file inherits from the file
+/// that mentions it.
+///
+/// RELAX NG Compact Syntax, "Syntax" (`namespaceURILiteral`).
+#[derive(Debug, Drop, PartialEq, Eq)]
+pub enum Namespace {
+    Inherited,
+    Given(String),
+}
+
+/// A name with its namespace.
+///
+/// Namespaces in XML 1.0, section 2.1.
+#[derive(Debug, Drop, PartialEq, Eq)]
+pub struct ExpandedName {
+    pub namespace: Namespace,
+    pub local: String,
+}
+
+/// A set of names.
+///
+/// RELAX NG Specification, section 3 (`nameClass`).
+#[derive(Debug, Drop, PartialEq, Eq)]
+pub enum NameClass {
+    /// `*`
+    Any,
+    /// `* - ..`
+    AnyExcept(Box<NameClass>),
+    /// `p:*`
+    Ns(Namespace),
+    /// `p:* - ..`
+    NsExcept(Namespace, Box<NameClass>),
+    Name(ExpandedName),
+    /// Two classes or more with `|` between them.
+    Choice(Vec<NameClass>),
+}
+
+/// The name of a datatype: the uri of its library, empty for the one built in, and its name there.
+///
+/// RELAX NG Specification, section 3 (`data`, `value`).
+#[derive(Debug, Drop, PartialEq, Eq)]
+pub struct DatatypeName {
+    pub library: String,
+    pub name: String,
+}
+
+/// A mention of another file.
+///
+/// `href` is that file's name as it is written, `namespace` what the file inherits, and `token` the place, from 1, of
+/// the word `include` or `external` among the tokens of the file that mentions.
+#[derive(Debug, Drop, PartialEq, Eq)]
+pub struct Mention {
+    pub href: String,
+    pub namespace: Namespace,
+    pub token: usize,
+}
+
+/// How a component is joined with others of its name.
+///
+/// RELAX NG Compact Syntax, "Syntax" (`assignMethod`).
+#[derive(Clone, Copy, Debug, PartialEq, Eq)]
+pub enum Method {
+    /// `=`
+    Plain,
+    /// `|=`
+    Choice,
+    /// `&=`
+    Interleave,
+}
+
+/// A pattern.
+///
+/// RELAX NG Specification, section 3 (`pattern`).
+#[cycle(file_tree)]
+#[derive(Debug, Drop, PartialEq, Eq)]
+pub enum Pattern {
+    Element(NameClass, Box<Pattern>),
+    Attribute(NameClass, Box<Pattern>),
+    List(Box<Pattern>),
+    Mixed(Box<Pattern>),
+    /// `p?`
+    Optional(Box<Pattern>),
+    /// `p*`
+    ZeroOrMore(Box<Pattern>),
+    /// `p+`
+    OneOrMore(Box<Pattern>),
+    Ref(String),
+    ParentRef(String),
+    Empty,
+    Text,
+    NotAllowed,
+    /// A text of a datatype; one without a type is a `token` of the library built in.
+    Value {
+        type_name: DatatypeName,
+        text: String,
+    },
+    /// A datatype, its parameters as name and text in the order in which they are written, and what it excepts.
+    Data {
+        type_name: DatatypeName,
+        parameters: Vec<(String, String)>,
+        except: Option<Box<Pattern>>,
+    },
+    External(Mention),
+    Grammar(Vec<Component>),
+    /// Two patterns or more with `,` between them.
+    Group(Vec<Pattern>),
+    /// Two patterns or more with `&` between them.
+    Interleave(Vec<Pattern>),
+    /// Two patterns or more with `|` between them.
+    Choice(Vec<Pattern>),
+}
+
+/// A component of a grammar.
+///
+/// RELAX NG Specification, section 3 (`grammarContent`, `includeContent`).
+#[cycle(file_tree)]
+#[derive(Debug, Drop, PartialEq, Eq)]
+pub enum Component {
+    Start(Method, Pattern),
+    Define(String, Method, Pattern),
+    Div(Vec<Component>),
+    /// A grammar of another file, and the components that stand in its braces.
+    Include(Mention, Vec<Component>),
+}
+
+/// What a schema file holds: a pattern, or the components of a grammar.
+///
+/// RELAX NG Compact Syntax, "Syntax" (`topLevel`).
+#[derive(Debug, Drop, PartialEq, Eq)]
+pub enum FileTree {
+    Pattern(Pattern),
+    Grammar(Vec<Component>),
+}
+
+impl FileTree {
+    /// The components of the grammar that the file is, also where its whole pattern is `grammar { .. }`, with parentheses
+    /// about it or without; `None` of another file. Takes no memory.
+    ///
+    /// RELAX NG Specification, section 4.7.
+    #[tactic(auto, using(crate::proofs::NoGrammar::joined_is_none, crate::proofs::NoGrammar::data_is_none))]
+    pub fn grammar(&self) -> Option<&[Component]>
+        ensures { option_map (λ cs. components_of (map component_of cs.now)) result ≡ grammar_of (file_of self.now) }
+    {
+        match self {
+            FileTree::Grammar(components) => Some(components),
+            FileTree::Pattern(pattern) => match pattern {
+                Pattern::Grammar(components) => Some(components),
+                Pattern::Element(_, _)
+                | Pattern::Attribute(_, _)
+                | Pattern::List(_)
+                | Pattern::Mixed(_)
+                | Pattern::Optional(_)
+                | Pattern::ZeroOrMore(_)
+                | Pattern::OneOrMore(_)
+                | Pattern::Ref(_)
+                | Pattern::ParentRef(_)
+                | Pattern::Empty
+                | Pattern::Text
+                | Pattern::NotAllowed
+                | Pattern::Value { .. }
+                | Pattern::Data { .. }
+                | Pattern::External(_)
+                | Pattern::Group(_)
+                | Pattern::Interleave(_)
+                | Pattern::Choice(_) => None,
+            },
+        }
+    }
+
+    /// Whether the file is a grammar. Takes no memory.
+    pub fn is_grammar(&self) -> bool
+        ensures { result ≡ is_grammar_tree (file_of self.now) }
+    {
+        self.grammar().is_some()
+    }
+}

@@ -1,0 +1,96 @@
+// From the tokens of a schema file to its tree.
+ghost use Rattle.std.specs.Prelude.{◌≡◌, ℕ, Err, IfErr, IfOk, Ok, length};
+ghost use Rattle.rnc_grammar.specs.FileTree as tree;
+ghost use Rattle.rnc_grammar.specs.Lexeme.{lexemes};
+ghost use Rattle.rnc_grammar.specs.Parsed.{answer_of, fault_at};
+ghost use Rattle.rnc_grammar.specs.Reading.{file_with, inside_at};
+ghost use Rattle.rnc_grammar.specs.Sentence.{
+  BreaksDeclarations,
+  BreaksGrammar,
+  BreaksNesting,
+  Gives,
+  IsFaultOf,
+  IsFileTree,
+  nesting_limit,
+};
+ghost use Rattle.rnc_grammar.specs.View.{file_of};
+ghost use Rattle.rnc_grammar.specs.declared.fault.ParseFault.TheVariants as faults;
+
+use crate::fault::{ParseFault, ReadFault, Stop};
+use crate::file_tree::FileTree;
+use crate::nesting::{NESTING_LIMIT, nests_within_limit};
+use crate::reading::Reader;
+use crate::resolving::file_tree;
+use crate::scope::ScopeFault;
+use rnc_text::Token;
+use std::alloc::Global;
+
+/// The fault of the file that has these tokens, where its reading stopped so.
+#[tactic(auto, using(crate::proofs::Lengths::length_of_lexemes))]
+fn fault_of(tokens: &[Token<'_>], stop: Stop) -> ParseFault
+    ensures { result ≡ fault_at (length (lexemes tokens.now)) stop }
+{
+    match stop {
+        Stop::TooDeep => ParseFault::Clause(7),
+        Stop::Unexpected(left) => ParseFault::At {
+            clause: 6,
+            place: tokens.len().saturating_sub(left) as u64 + 1,
+        },
+    }
+}
+
+/// The tree of the file that has these tokens, or the fault where its reading stops or its declarations break a rule.
+fn read(alloc: Global, tokens: &[Token<'_>]) -> Result<FileTree, ParseFault>
+    ensures { Gives result (answer_of (length (lexemes tokens.now)) (file_with (inside_at nesting_limit) (lexemes tokens.now))) }
+{
+    let reader = Reader {
+        alloc,
+        count: tokens.len(),
+    };
+    match reader.file(NESTING_LIMIT, tokens) {
+        Err(ReadFault::Memory) => Err(ParseFault::Memory),
+        Err(ReadFault::Stop(stop)) => Err(fault_of(tokens, stop)),
+        Ok(file) => match file_tree(alloc, &file) {
+            Ok(tree) => Ok(tree),
+            Err(ScopeFault::Memory) => Err(ParseFault::Memory),
+            Err(ScopeFault::Broken) => Err(ParseFault::Clause(8)),
+        },
+    }
+}
+
+/// The tree of the schema file that has these tokens, with its declarations applied.
+///
+/// The tokens are all of the file's, in order. Of each its kind and its text count, and of the word `include` or
+/// `external` its place too, which the tree tells; where a token lies in the text does not matter. Tokens that break no
+/// clause have one tree, and it is answered; of those that break one, the clause is told:
+///
+/// - 7, with no place, where at some token the `{` and `(` up to it exceed the `}` and `)` up to it by more than 128;
+/// - 6, where the tokens break not 7 and are no sentence of the grammar, with a place from 1: no sentence begins with the
+///   tokens up to and with the one at that place, or the place is the number of tokens plus one. That it is the first
+///   such place is tested, and not promised;
+/// - 8, with no place, where they break neither and a prefix or the default namespace is declared twice, `xml`, `xmlns`
+///   or `xsd` is declared as what it may not stand for, or a prefix is not declared.
+///
+/// `Memory` answers that there was no memory for the tree, and says nothing about the tokens.
+///
+/// Takes time and memory in proportion to the tokens and their texts, but that each name, mention and datatype holds a
+/// copy of its uri. Prefixes are looked up by a hash whose seed is fixed: of n that are chosen to share one, each look-up
+/// takes n steps. Recurses as deep as the brackets nest.
+///
+/// RELAX NG Compact Syntax, "Syntax".
+#[tactic(auto, using(crate::proofs::Parsed::one_tree))]
+pub fn parse(alloc: Global, tokens: &[Token<'_>]) -> Result<FileTree, ParseFault>
+    ensures tree { IfOk result (λ t. IsFileTree (lexemes tokens.now) (file_of t)) }
+    ensures fault { IfErr result (IsFaultOf (lexemes tokens.now)) }
+    ensures only { (t : tree.FileTree) → IsFileTree (lexemes tokens.now) t → Gives result (Ok t) }
+    ensures nesting { BreaksNesting (lexemes tokens.now) → Gives result (Err (faults.Clause 7)) }
+    ensures grammar { BreaksGrammar (lexemes tokens.now) → (place : ℕ) × Gives result (Err (faults.At 6 place)) }
+    ensures declarations { BreaksDeclarations (lexemes tokens.now) → Gives result (Err (faults.Clause 8)) }
+    ensures one { (t u : tree.FileTree) → IsFileTree (lexemes tokens.now) t → IsFileTree (lexemes tokens.now) u → t ≡ u }
+{
+    if nests_within_limit(tokens) {
+        read(alloc, tokens)
+    } else {
+        Err(ParseFault::Clause(7))
+    }
+}

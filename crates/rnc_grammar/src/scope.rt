@@ -1,0 +1,217 @@
+// What the declarations of a file declare.
+ghost use Rattle.std.specs.Prelude.{◌≡◌, Some, string_bytes};
+ghost use Rattle.rnc_grammar.specs.Declarations as declarations;
+ghost use Rattle.rnc_grammar.specs.Resolved.{Gives, scope_view};
+ghost use Rattle.rnc_grammar.specs.SyntaxView as syntax;
+ghost use Rattle.rnc_grammar.specs.View.{namespace_of};
+ghost use Rattle.rnc_grammar.specs.declared.scope.ScopeFault.TheVariants as faults;
+
+use crate::ast::{Declaration, Literal, Uri};
+use crate::file_tree::Namespace;
+use std::alloc::{AllocError, AllocFailed, Global};
+use std::collections::HashMap;
+
+/// The uri of the prefix `xml`.
+const XML_URI: &str = "http://www.w3.org/XML/1998/namespace";
+
+/// The uri of the datatype prefix `xsd`.
+const XSD_URI: &str = "http://www.w3.org/2001/XMLSchema-datatypes";
+
+/// Why declarations were not applied.
+#[derive(Clone, Copy)]
+pub enum ScopeFault {
+    /// A declaration or a prefix breaks a rule.
+    Broken,
+    Memory,
+}
+
+impl From<AllocError> for ScopeFault {
+    ghost from_gives = { λ _ e. e ≡ faults.Memory };
+
+    fn from(_e: AllocError) -> ScopeFault {
+        ScopeFault::Memory
+    }
+}
+
+impl<T: Drop> From<AllocFailed<T>> for ScopeFault {
+    ghost from_gives = { λ _ e. e ≡ faults.Memory };
+
+    fn from(_e: AllocFailed<T>) -> ScopeFault {
+        ScopeFault::Memory
+    }
+}
+
+/// What the declarations so far declare.
+#[derive(Drop)]
+pub struct Scope<'a> {
+    default: Option<Namespace>,
+    namespaces: HashMap<&'a str, Namespace>,
+    datatypes: HashMap<&'a str, String>,
+}
+
+/// The text of a literal.
+pub fn literal_text(alloc: Global, literal: &Literal<'_>) -> Result<String, ScopeFault>
+    ensures { Gives string_bytes result (Some (syntax.text_of literal.now)) }
+{
+    let mut text = String::new(alloc);
+    for segment in literal.segments.iter() {
+        text.push_str(segment)?;
+    }
+    Ok(text)
+}
+
+/// The namespace of a declaration.
+fn uri_of(alloc: Global, uri: &Uri<'_>) -> Result<Namespace, ScopeFault>
+    ensures { Gives namespace_of result (Some (declarations.uri_of (syntax.uri_of uri.now))) }
+{
+    match uri {
+        Uri::Inherit => Ok(Namespace::Inherited),
+        Uri::Literal(literal) => Ok(Namespace::Given(literal_text(alloc, literal)?)),
+    }
+}
+
+/// Whether a namespace prefix may stand for this: `xml` only for its own uri, and `xmlns` for none.
+fn may_stand_for(prefix: &str, namespace: &Namespace) -> bool
+    ensures { result ≡ declarations.may_stand_for prefix.now (namespace_of namespace.now) }
+{
+    match prefix {
+        "xml" => match namespace {
+            Namespace::Inherited => false,
+            Namespace::Given(uri) => uri.as_str() == XML_URI,
+        },
+        "xmlns" => false,
+        _ => true,
+    }
+}
+
+/// Whether a datatype prefix may stand for this: `xsd` only for its own uri.
+fn may_stand_for_types(prefix: &str, uri: &str) -> bool
+    ensures { result ≡ declarations.may_stand_for_types prefix.now uri.now }
+{
+    match prefix {
+        "xsd" => uri == XSD_URI,
+        _ => true,
+    }
+}
+
+/// A copy of a namespace.
+fn copied(alloc: Global, namespace: &Namespace) -> Result<Namespace, ScopeFault>
+    ensures { Gives namespace_of result (Some (namespace_of namespace.now)) }
+{
+    match namespace {
+        Namespace::Inherited => Ok(Namespace::Inherited),
+        Namespace::Given(uri) => Ok(Namespace::Given(String::from_str(alloc, uri.as_str())?)),
+    }
+}
+
+impl<'a> Scope<'a> {
+    /// Nothing is declared.
+    pub fn new(alloc: Global) -> Self
+        ensures { scope_view result ≡ declarations.nothing_declared }
+    {
+        Scope {
+            default: None,
+            namespaces: HashMap::new(alloc),
+            datatypes: HashMap::new(alloc),
+        }
+    }
+
+    /// One namespace prefix more.
+    fn declare_prefix(&mut self, prefix: &'a str, namespace: Namespace) -> Result<(), ScopeFault>
+        ensures { Gives (λ _. scope_view self.new) result (declarations.with_prefix prefix.now (namespace_of namespace) (scope_view self.old)) }
+    {
+        if !may_stand_for(prefix, &namespace) {
+            return Err(ScopeFault::Broken);
+        }
+        if self.namespaces.insert(prefix, namespace)?.is_some() {
+            return Err(ScopeFault::Broken);
+        }
+        Ok(())
+    }
+
+    /// The default namespace.
+    fn declare_default(&mut self, namespace: Namespace) -> Result<(), ScopeFault>
+        ensures { Gives (λ _. scope_view self.new) result (declarations.with_default (namespace_of namespace) (scope_view self.old)) }
+    {
+        if self.default.is_some() {
+            return Err(ScopeFault::Broken);
+        }
+        self.default = Some(namespace);
+        Ok(())
+    }
+
+    /// One datatype prefix more.
+    fn declare_datatypes(&mut self, prefix: &'a str, uri: String) -> Result<(), ScopeFault>
+        ensures { Gives (λ _. scope_view self.new) result (declarations.with_datatypes prefix.now (string_bytes uri) (scope_view self.old)) }
+    {
+        if !may_stand_for_types(prefix, uri.as_str()) {
+            return Err(ScopeFault::Broken);
+        }
+        if self.datatypes.insert(prefix, uri)?.is_some() {
+            return Err(ScopeFault::Broken);
+        }
+        Ok(())
+    }
+
+    /// One declaration more.
+    pub fn declare(
+        &mut self,
+        alloc: Global,
+        declaration: &Declaration<'a>,
+    ) -> Result<(), ScopeFault>
+        ensures { Gives (λ _. scope_view self.new) result (declarations.declare (scope_view self.old) (syntax.declaration_of declaration.now)) }
+    {
+        match declaration {
+            Declaration::Namespace { prefix, uri } => {
+                self.declare_prefix(prefix, uri_of(alloc, uri)?)
+            }
+            Declaration::Default { prefix: None, uri } => self.declare_default(uri_of(alloc, uri)?),
+            Declaration::Default {
+                prefix: Some(prefix),
+                uri,
+            } => {
+                self.declare_default(uri_of(alloc, uri)?)?;
+                self.declare_prefix(prefix, uri_of(alloc, uri)?)
+            }
+            Declaration::Datatypes(declared) => {
+                self.declare_datatypes(declared.name, literal_text(alloc, &declared.value)?)
+            }
+        }
+    }
+
+    /// The namespace of names without a prefix in elements, and of mentions that name none.
+    pub fn default_namespace(&self, alloc: Global) -> Result<Namespace, ScopeFault>
+        ensures { Gives namespace_of result (Some (declarations.default_of (scope_view self.now))) }
+    {
+        match &self.default {
+            Some(namespace) => copied(alloc, namespace),
+            None => Ok(Namespace::Inherited),
+        }
+    }
+
+    /// The namespace of a prefix; `xml` is declared beforehand.
+    pub fn namespace(&self, alloc: Global, prefix: &str) -> Result<Namespace, ScopeFault>
+        ensures { Gives namespace_of result (declarations.namespace_in (scope_view self.now) prefix.now) }
+    {
+        if prefix == "xml" {
+            return Ok(Namespace::Given(String::from_str(alloc, XML_URI)?));
+        }
+        match self.namespaces.get(prefix) {
+            Some(namespace) => copied(alloc, namespace),
+            None => Err(ScopeFault::Broken),
+        }
+    }
+
+    /// The uri of a datatype prefix; `xsd` is declared beforehand.
+    pub fn library(&self, alloc: Global, prefix: &str) -> Result<String, ScopeFault>
+        ensures { Gives string_bytes result (declarations.library_in (scope_view self.now) prefix.now) }
+    {
+        if prefix == "xsd" {
+            return Ok(String::from_str(alloc, XSD_URI)?);
+        }
+        match self.datatypes.get(prefix) {
+            Some(uri) => Ok(String::from_str(alloc, uri.as_str())?),
+            None => Err(ScopeFault::Broken),
+        }
+    }
+}

@@ -1,0 +1,9 @@
+(letter
+Ato Ada
+(title
+-On engines
+)title
+(body
+-They count.
+)body
+)letter
