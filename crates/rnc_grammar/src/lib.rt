@@ -6,8 +6,6 @@ mod atoms;
 mod fault;
 mod file_tree;
 mod files;
-#[cfg(test)]
-mod generated;
 mod literals;
 mod names;
 mod nesting;
@@ -16,8 +14,6 @@ mod patterns;
 mod reading;
 mod resolving;
 mod scope;
-#[cfg(test)]
-mod tests;
 
 pub use fault::ParseFault;
 pub use file_tree::{

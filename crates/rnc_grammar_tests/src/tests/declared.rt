@@ -2,7 +2,7 @@
 
 use super::answers::{answer, is_accepted, is_grammar, is_pattern};
 use super::building::{Builder, Built};
-use crate::{Component, Method, Pattern};
+use rnc_grammar::{Component, Method, Pattern};
 use std::alloc::Global;
 use std::test::Fail;
 

@@ -2,7 +2,7 @@
 
 use super::answers::{is_grammar, is_pattern};
 use super::building::{Builder, Built};
-use crate::{Method, NameClass, Pattern};
+use rnc_grammar::{Method, NameClass, Pattern};
 use std::test::Fail;
 
 /// The library of the datatype prefix `xsd`.

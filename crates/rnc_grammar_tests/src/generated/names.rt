@@ -1,7 +1,7 @@
 // Random literals, names, name classes, datatypes and mentions.
 
 use super::random::Sentence;
-use crate::file_tree::{DatatypeName, Mention, NameClass};
+use rnc_grammar::{DatatypeName, Mention, NameClass};
 use crate::tests::building::Builder;
 use rnc_text::{Keyword, Sign, TokenKind};
 use std::alloc::AllocError;

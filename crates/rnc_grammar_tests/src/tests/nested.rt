@@ -1,7 +1,7 @@
 // Brackets in brackets.
 
 use super::answers::answer;
-use crate::{FileTree, ParseFault, Pattern};
+use rnc_grammar::{FileTree, ParseFault, Pattern};
 use std::alloc::{AllocError, Global};
 use std::test::Fail;
 

@@ -2,9 +2,9 @@
 
 use super::following::{Verdict, judged};
 use super::random::Sentence;
-use crate::fault::ParseFault;
-use crate::file_tree::FileTree;
-use crate::parsing::parse;
+use rnc_grammar::ParseFault;
+use rnc_grammar::FileTree;
+use rnc_grammar::parse;
 use rnc_text::{Keyword, Sign, Token, TokenKind};
 use std::alloc::{AllocError, Global};
 use std::test::Fail;

@@ -1,7 +1,7 @@
 // Files with the fault that each must have.
 
 use super::answers::has_fault;
-use crate::ParseFault;
+use rnc_grammar::ParseFault;
 use std::test::Fail;
 
 /// Tokens that are no sentence, whatever they declare, each with the place of the fault.

@@ -1,7 +1,7 @@
 // Files with many declarations.
 
 use super::answers::{has_fault, is_accepted};
-use crate::ParseFault;
+use rnc_grammar::ParseFault;
 use std::alloc::{AllocError, Global};
 use std::test::Fail;
 

@@ -2,7 +2,7 @@
 
 use super::names::Unprefixed;
 use super::random::{Prefix, Sentence, XML, XSD};
-use crate::file_tree::{Component, FileTree, Method, Pattern};
+use rnc_grammar::{Component, FileTree, Method, Pattern};
 use rnc_text::{Keyword, Sign, TokenKind};
 use std::alloc::AllocError;
 

@@ -1,5 +1,5 @@
 use Rattle.std.proofs.Common.{◌+◌, ◌*◌}
-use Rattle.rnc_grammar.proofs.generated.random.Sentence.+generated_classes.Given as goal
+use Rattle.rnc_grammar_tests.proofs.generated.random.Sentence.+generated_classes.Given as goal
 
 abbrev pub decreases-basic : goal.decreases-basic
 decreases-basic l = 4 * l.depth

@@ -1,5 +1,5 @@
 use Rattle.std.proofs.Common.{◌+◌, ◌*◌}
-use Rattle.rnc_grammar.proofs.generated.following.Follower.+following.Given as goal
+use Rattle.rnc_grammar_tests.proofs.generated.following.Follower.+following.Given as goal
 
 abbrev pub decreases-rule : goal.decreases-rule
 decreases-rule l = 8 * l.fuel

@@ -1,7 +1,7 @@
 // Growths of memory that are refused.
 
 use super::words::tokens_of;
-use crate::{FileTree, ParseFault, parse};
+use rnc_grammar::{FileTree, ParseFault, parse};
 use std::test::Fail;
 
 /// A schema with each kind of part.

@@ -1,5 +1,5 @@
 use Rattle.std.proofs.Common.{◌+◌, ◌*◌}
-use Rattle.rnc_grammar.proofs.generated.random.Sentence.+generated_patterns.Given as goal
+use Rattle.rnc_grammar_tests.proofs.generated.random.Sentence.+generated_patterns.Given as goal
 
 abbrev pub decreases-enclosed : goal.decreases-enclosed
 decreases-enclosed l = 16 * l.depth

@@ -1,6 +1,6 @@
 // Parts of file trees.
 
-use crate::{
+use rnc_grammar::{
     Component, DatatypeName, ExpandedName, Mention, Method, NameClass, Namespace, Pattern,
 };
 use std::alloc::{AllocError, Global};

@@ -2,7 +2,7 @@
 
 use super::building::Built;
 use super::words::tokens_of;
-use crate::{Component, FileTree, ParseFault, Pattern, parse};
+use rnc_grammar::{Component, FileTree, ParseFault, Pattern, parse};
 use std::alloc::Global;
 
 /// The answer for the file of this text.
