@@ -30,6 +30,13 @@ pub mod LocalComponents
 pub mod LocalFiles
 pub mod Stuck
 pub mod Place
+pub mod Viable
+pub mod ViableLiterals
+pub mod ViableClasses
+pub mod ViablePrimaries
+pub mod ViablePatterns
+pub mod ViableComponents
+pub mod ViableFiles
 pub mod Each
 pub mod Found
 pub mod NestingSteps

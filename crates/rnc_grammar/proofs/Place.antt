@@ -1,4 +1,4 @@
--- Where the reading of a file stops at a token, no sentence begins with the tokens up to and with that one.
+-- Where the reading of a file stops at a token, some sentence begins with the tokens before it, and none with those up to and with it.
 use Rattle.std.proofs.Common.{◌≡◌, ℕ, ◌+◌, ◌-◌, List, [], ◌∷◌, ◌++◌, length, Ok, Err, refl, sym, ap, ◌∙◌}
 use Rattle.rnc_grammar.specs.declared.fault.Stop.TheVariants.{Unexpected, TooDeep}
 use Rattle.rnc_grammar.specs.Lexeme.{Lexeme}
@@ -13,6 +13,7 @@ use Rattle.rnc_grammar.proofs.LocalPrimaries.{Locals}
 use Rattle.rnc_grammar.proofs.LocalComponents.{inside_local, self_local}
 use Rattle.rnc_grammar.proofs.LocalFiles.{declarations_local, body_local}
 use Rattle.rnc_grammar.proofs.Stuck.{IsStuckBehind, stuck_at}
+use Rattle.rnc_grammar.proofs.ViableFiles.{viable}
 
 abbrev file_of : List Declaration → Body → File
 file_of declarations body = record { declarations = declarations; body = body }
@@ -68,6 +69,6 @@ behind n m ts left e (stuck_there front rest parts is same) =
     record { front = front; rest = rest; parts = parts; count = same_left n ts left (length rest) e (stuck_then (inside_at n) ts (length rest) is); same = λ other h. stuck_then (inside_at m) (front ++ other) (length other) (same other h) }
 behind n m ts left e (deep is) = absurd (not_deep n ts left e (deep_then (inside_at n) ts is))
 
--- no sentence begins with the tokens up to and with the one where the reading stopped
+-- the place of the token where the reading stopped
 pub stuck : (n : ℕ) (ts : List Lexeme) (left : ℕ) → file_with (inside_at n) ts ≡ Err (Unexpected left) → IsStuckAt ts (length ts - left + 1)
-stuck n ts left e = stuck_at n ts left (λ m le. behind n m ts left e (file_local (inside_at n) (inside_at m) (inside_local n m le) (self_local m) ts))
+stuck n ts left e = stuck_at n ts left (viable n ts left e) (λ m le. behind n m ts left e (file_local (inside_at n) (inside_at m) (inside_local n m le) (self_local m) ts))

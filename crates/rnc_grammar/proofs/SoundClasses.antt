@@ -28,7 +28,7 @@ basic_sound class sound (sign _ ∷ ts) x e = absurd cc
 last_parts : (ts a b r : List Lexeme) → ts ≡ a ++ b → a ≡ sign Bar ∷ r → b ≡ [] → ts ≡ sign Bar ∷ r
 last_parts ts a b r e f g = e ∙ ap (λ (b : List Lexeme). a ++ b) g ∙ append-nil a ∙ f
 
-more_classes_are : {ts : List Lexeme} {cs : List NameClass} → Each (Preceded IsBasic Bar) ts cs → (y : NameClass) (ys : List NameClass) → y ∷ ys ≡ cs → AreMoreClasses ts cs
+pub more_classes_are : {ts : List Lexeme} {cs : List NameClass} → Each (Preceded IsBasic Bar) ts cs → (y : NameClass) (ys : List NameClass) → y ∷ ys ≡ cs → AreMoreClasses ts cs
 more_classes_are (no_items e) y ys ne = absurd cc
 more_classes_are {ts} (and_item {xs = []} {a = a} {b = b} p q parts) y ys ne = grammar.last_class p.is (last_parts ts a b p.rest parts p.parts (nothing_left q))
 more_classes_are {ts} (and_item {xs = z ∷ zs} {a = a} {b = b} p q parts) y ys ne = grammar.more_classes p.is (more_classes_are q z zs refl) (parts ∙ ap (λ (a : List Lexeme). a ++ b) p.parts)
@@ -39,6 +39,20 @@ choice_reads ts rest front c others y ys one parts ne q = record {
   is = grammar.choice_class one (more_classes_are q.is y ys ne) refl refl;
   parts = parts ∙ ap (λ (r : List Lexeme). front ++ r) q.parts ∙ sym (append_assoc front q.front others.1);
 }
+
+-- `*` or `p:*`, and `-`, before these tokens
+abbrev pub except_tokens : Option (List ℕ) → List Lexeme → List Lexeme
+except_tokens None ts = sign Star ∷ sign Minus ∷ ts
+except_tokens (Some p) ts = ns_name p ∷ sign Minus ∷ ts
+
+pub except_is : (ts : List Lexeme) (y : Option (List ℕ) × List Lexeme) → except_front ts ≡ Some y → ts ≡ except_tokens y.0 y.1
+except_is (sign Star ∷ sign Minus ∷ ts) y e = subst (λ (y : Option (List ℕ) × List Lexeme). sign Star ∷ sign Minus ∷ ts ≡ except_tokens y.0 y.1) (some_is (None, ts) y e) refl
+except_is (ns_name p ∷ sign Minus ∷ ts) y e = subst (λ (y : Option (List ℕ) × List Lexeme). ns_name p ∷ sign Minus ∷ ts ≡ except_tokens y.0 y.1) (some_is (Some p, ts) y e) refl
+except_is _ y e = absurd cc
+
+excepted_reads : (o : Option (List ℕ)) (ts rest : List Lexeme) (c : NameClass × List Lexeme) → ts ≡ except_tokens o rest → Reads IsBasic rest c → Reads IsClass ts (excepted o c.0, c.1)
+excepted_reads None ts rest c f p = record { front = sign Star ∷ sign Minus ∷ p.front; is = grammar.any_except p.is refl; parts = f ∙ ap (λ (r : List Lexeme). sign Star ∷ sign Minus ∷ r) p.parts }
+excepted_reads (Some q) ts rest c f p = record { front = ns_name q ∷ sign Minus ∷ p.front; is = grammar.ns_except p.is refl; parts = f ∙ ap (λ (r : List Lexeme). ns_name q ∷ sign Minus ∷ r) p.parts }
 
 module _ (basic : List Lexeme → Read NameClass) (sound : Sound basic IsBasic) where
   choice_step : (ts rest front : List Lexeme) (c : NameClass) (x : NameClass × List Lexeme) (o : Option (List Lexeme)) → IsBasic front c → ts ≡ front ++ rest → follow Bar rest ≡ o
@@ -53,19 +67,6 @@ module _ (basic : List Lexeme → Read NameClass) (sound : Sound basic IsBasic) 
   choice_sound : (ts : List Lexeme) (c : NameClass × List Lexeme) (x : NameClass × List Lexeme) → Reads IsBasic ts c → choice_with basic c.0 c.1 ≡ Ok x → Reads IsClass ts x
   unfolding choice_with
   choice_sound ts c x p e = choice_step ts c.1 p.front c.0 x (follow Bar c.1) p.is p.parts refl e
-
-  abbrev except_tokens : Option (List ℕ) → List Lexeme → List Lexeme
-  except_tokens None ts = sign Star ∷ sign Minus ∷ ts
-  except_tokens (Some p) ts = ns_name p ∷ sign Minus ∷ ts
-
-  except_is : (ts : List Lexeme) (y : Option (List ℕ) × List Lexeme) → except_front ts ≡ Some y → ts ≡ except_tokens y.0 y.1
-  except_is (sign Star ∷ sign Minus ∷ ts) y e = subst (λ (y : Option (List ℕ) × List Lexeme). sign Star ∷ sign Minus ∷ ts ≡ except_tokens y.0 y.1) (some_is (None, ts) y e) refl
-  except_is (ns_name p ∷ sign Minus ∷ ts) y e = subst (λ (y : Option (List ℕ) × List Lexeme). ns_name p ∷ sign Minus ∷ ts ≡ except_tokens y.0 y.1) (some_is (Some p, ts) y e) refl
-  except_is _ y e = absurd cc
-
-  excepted_reads : (o : Option (List ℕ)) (ts rest : List Lexeme) (c : NameClass × List Lexeme) → ts ≡ except_tokens o rest → Reads IsBasic rest c → Reads IsClass ts (excepted o c.0, c.1)
-  excepted_reads None ts rest c f p = record { front = sign Star ∷ sign Minus ∷ p.front; is = grammar.any_except p.is refl; parts = f ∙ ap (λ (r : List Lexeme). sign Star ∷ sign Minus ∷ r) p.parts }
-  excepted_reads (Some q) ts rest c f p = record { front = ns_name q ∷ sign Minus ∷ p.front; is = grammar.ns_except p.is refl; parts = f ∙ ap (λ (r : List Lexeme). ns_name q ∷ sign Minus ∷ r) p.parts }
 
   class_step : (ts : List Lexeme) (x : NameClass × List Lexeme) (o : Option (Option (List ℕ) × List Lexeme)) → except_front ts ≡ o
       → either_way o (basic ts >>= λ c. choice_with basic c.0 c.1) (λ x. basic x.1 >>= λ c. Ok (excepted x.0 c.0, c.1)) ≡ Ok x → Reads IsClass ts x

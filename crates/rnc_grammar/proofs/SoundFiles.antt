@@ -27,7 +27,7 @@ unfolding prefix_at
 prefix_sound ts x e = setting_sound IsUri uri_at uri_sound ts x e
 
 -- behind `default namespace`
-abbrev IsDefault : List Lexeme → Declaration → Type 0
+abbrev pub IsDefault : List Lexeme → Declaration → Type 0
 IsDefault ts d = (r s : Spelling) → IsDeclaration (keyword keywords.Default r ∷ keyword keywords.Namespace s ∷ ts) d
 
 prefixed_default : (ts : List Lexeme) (x : Declaration × List Lexeme) → (prefix_at ts >>= λ x. Ok (syntax.default_namespace (Some x.0.0) x.0.1, x.1)) ≡ Ok x → Reads IsDefault ts x
@@ -58,7 +58,7 @@ declaration_sound (keyword keywords.Default s ∷ ts) x e =
     default_reads s k.0 ts a.0.1 x k.1 (default_sound a.0.1 x a.2)
 declaration_sound _ x e = absurd cc
 
-declaration_front_is : (ts us : List Lexeme) → declaration_front ts ≡ Some us → ts ≡ us
+pub declaration_front_is : (ts us : List Lexeme) → declaration_front ts ≡ Some us → ts ≡ us
 declaration_front_is (keyword keywords.Namespace s ∷ ts) us e = some_is _ us e
 declaration_front_is (keyword keywords.Default s ∷ ts) us e = some_is _ us e
 declaration_front_is (keyword keywords.Datatypes s ∷ ts) us e = some_is _ us e
@@ -72,7 +72,7 @@ declarations_are (no_items e) = grammar.no_declarations e
 declarations_are (and_item p q parts) = grammar.and_declaration p (declarations_are q) parts
 
 module _ (inside : Inside) (sound : InsideSound inside) where
-  body_sound : Sound (body_with inside) IsBody
+  pub body_sound : Sound (body_with inside) IsBody
   unfolding body_with
   body_sound ts x e =
       elim (chosen (is_grammar_body ts) (components_with inside content ts >>= λ cs. Ok (syntax.grammar_body (syntax.components_of cs.0), cs.1)) (pattern_with inside ts >>= λ t. Ok (syntax.pattern_body t.0, t.1)) (Ok x) e) [

@@ -14,7 +14,7 @@ use Rattle.rnc_grammar.proofs.Sound.{bind_ok, ok_is, some_is, same_inherit, keyw
 segments : (w x : List ℕ) (ts a b r : List Lexeme) → ts ≡ a ++ b → a ≡ sign Tilde ∷ r → r ≡ segment x ∷ [] → segment w ∷ ts ≡ segment w ∷ sign Tilde ∷ (segment x ∷ b)
 segments w x ts a b r e f g = ap (λ (ts : List Lexeme). segment w ∷ ts) (e ∙ ap (λ (a : List Lexeme). a ++ b) (f ∙ ap (λ (r : List Lexeme). sign Tilde ∷ r) g))
 
-literal_is : (w : List ℕ) {ts : List Lexeme} {ws : List (List ℕ)} → Each (Preceded IsSegment Tilde) ts ws → IsLiteral (segment w ∷ ts) (joined_text (w ∷ ws))
+pub literal_is : (w : List ℕ) {ts : List Lexeme} {ws : List (List ℕ)} → Each (Preceded IsSegment Tilde) ts ws → IsLiteral (segment w ∷ ts) (joined_text (w ∷ ws))
 literal_is w {ts} (no_items parts) = subst (IsLiteral (segment w ∷ ts)) (sym (append-nil w)) (grammar.one_segment (ap (λ (ts : List Lexeme). segment w ∷ ts) parts))
 literal_is w {ts} (and_item {a = a} {b = b} {x = x} p q parts) = grammar.more_segments (literal_is x q) (segments w x ts a b p.rest parts p.parts p.is) refl
 
@@ -40,17 +40,17 @@ parameter_sound ts x e = setting_sound IsLiteral literal_at literal_sound ts x e
 parameter_parts : (t : Lexeme) (ts a b v : List Lexeme) → ts ≡ a ++ b → a ≡ t ∷ sign Equal ∷ v → ts ≡ t ∷ sign Equal ∷ (v ++ b)
 parameter_parts t ts a b v e f = e ∙ ap (λ (a : List Lexeme). a ++ b) f
 
-parameters_are : {ts : List Lexeme} {xs : List (List ℕ × List ℕ)} → Each (IsSetting IsLiteral) ts xs → AreParameters ts xs
+pub parameters_are : {ts : List Lexeme} {xs : List (List ℕ × List ℕ)} → Each (IsSetting IsLiteral) ts xs → AreParameters ts xs
 parameters_are (no_items e) = grammar.no_parameters e
 parameters_are {ts} (and_item {a = a} {b = b} {x = x} p q parts) = grammar.and_parameter p.word p.is (parameters_are q) (parameter_parts p.token ts a b p.value parts p.parts)
 
-word_front_is : (ts us : List Lexeme) → word_front ts ≡ Some us → ts ≡ us
+pub word_front_is : (ts us : List Lexeme) → word_front ts ≡ Some us → ts ≡ us
 word_front_is [] us e = absurd cc
 word_front_is (identifier w ∷ ts) us e = some_is _ us e
 word_front_is (keyword k s ∷ ts) us e = some_is _ us e
 word_front_is (_ ∷ ts) us e = absurd cc
 
-parameter_item : (ts us : List Lexeme) (x : (List ℕ × List ℕ) × List Lexeme) → word_front ts ≡ Some us → parameter_at us ≡ Ok x → Reads (IsSetting IsLiteral) ts x
+pub parameter_item : (ts us : List Lexeme) (x : (List ℕ × List ℕ) × List Lexeme) → word_front ts ≡ Some us → parameter_at us ≡ Ok x → Reads (IsSetting IsLiteral) ts x
 parameter_item ts us x is e = parameter_sound ts x (ap parameter_at (word_front_is ts us is) ∙ e)
 
 parameters_step : (ts : List Lexeme) (x : List (List ℕ × List ℕ) × List Lexeme) (o : Option (List Lexeme)) → follow OpenBrace ts ≡ o → either_way o (Ok ([], ts)) (in_braces_at (many word_front parameter_at)) ≡ Ok x → Reads MayBeParameters ts x

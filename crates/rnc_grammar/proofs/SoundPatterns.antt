@@ -75,7 +75,7 @@ typed_sound d t (cname p l ∷ ts) x is e = typed_data d t (cname p l ∷ ts) x 
 typed_sound d t (ns_name p ∷ ts) x is e = typed_data d t (ns_name p ∷ ts) x is e
 typed_sound d t (sign s ∷ ts) x is e = typed_data d t (sign s ∷ ts) x is e
 
-separator_is : (s : Sign) (ts : List Lexeme) → separator_of ts ≡ Some s → (us : List Lexeme) × (follow s ts ≡ Some us) × (k : Connector) × (connector_of s ≡ Some k) × ((all : List Pattern) → joined s all ≡ syntax.members k all)
+pub separator_is : (s : Sign) (ts : List Lexeme) → separator_of ts ≡ Some s → (us : List Lexeme) × (follow s ts ≡ Some us) × (k : Connector) × (connector_of s ≡ Some k) × ((all : List Pattern) → joined s all ≡ syntax.members k all)
 separator_is s (sign Comma ∷ ts) e = subst (λ (s : Sign). (us : List Lexeme) × (follow s (sign Comma ∷ ts) ≡ Some us) × (k : Connector) × (connector_of s ≡ Some k) × ((all : List Pattern) → joined s all ≡ syntax.members k all)) (some_is Comma s e) (ts, refl, group, refl, λ all. refl)
 separator_is s (sign And ∷ ts) e = subst (λ (s : Sign). (us : List Lexeme) × (follow s (sign And ∷ ts) ≡ Some us) × (k : Connector) × (connector_of s ≡ Some k) × ((all : List Pattern) → joined s all ≡ syntax.members k all)) (some_is And s e) (ts, refl, interleave, refl, λ all. refl)
 separator_is s (sign Bar ∷ ts) e = subst (λ (s : Sign). (us : List Lexeme) × (follow s (sign Bar ∷ ts) ≡ Some us) × (k : Connector) × (connector_of s ≡ Some k) × ((all : List Pattern) → joined s all ≡ syntax.members k all)) (some_is Bar s e) (ts, refl, choice, refl, λ all. refl)
@@ -85,7 +85,7 @@ repeated_by : (ts us rest front : List Lexeme) (r : Sign) (t u : Pattern) → ((
 repeated_by ts us rest front r t u makes one parts is = record { front = front ++ sign r ∷ []; is = makes front one; parts = let q = append_assoc front (sign r ∷ []) rest in cc }
 
 -- what a sign after a primary makes of it
-repeated_reads : (ts rest front : List Lexeme) (t : Pattern) → IsPrimary front t → ts ≡ front ++ rest → Reads IsParticle ts (repeated t rest)
+pub repeated_reads : (ts rest front : List Lexeme) (t : Pattern) → IsPrimary front t → ts ≡ front ++ rest → Reads IsParticle ts (repeated t rest)
 repeated_reads ts (sign Question ∷ us) front t one parts = repeated_by ts (sign Question ∷ us) us front Question t (syntax.optional t) (λ a p. grammar.optional p refl) one parts refl
 repeated_reads ts (sign Star ∷ us) front t one parts = repeated_by ts (sign Star ∷ us) us front Star t (syntax.zero_or_more t) (λ a p. grammar.zero_or_more p refl) one parts refl
 repeated_reads ts (sign Plus ∷ us) front t one parts = repeated_by ts (sign Plus ∷ us) us front Plus t (syntax.one_or_more t) (λ a p. grammar.one_or_more p refl) one parts refl
@@ -94,7 +94,7 @@ repeated_reads ts _ front t one parts = record { front = front; is = grammar.onc
 last_parts : (s : Sign) (ts a b r : List Lexeme) → ts ≡ a ++ b → a ≡ sign s ∷ r → b ≡ [] → ts ≡ sign s ∷ r
 last_parts s ts a b r e f g = e ∙ ap (λ (b : List Lexeme). a ++ b) g ∙ append-nil a ∙ f
 
-more_are : {s : Sign} {ts : List Lexeme} {us : List Pattern} → Each (Preceded IsParticle s) ts us → (y : Pattern) (ys : List Pattern) → y ∷ ys ≡ us → AreMore s ts us
+pub more_are : {s : Sign} {ts : List Lexeme} {us : List Pattern} → Each (Preceded IsParticle s) ts us → (y : Pattern) (ys : List Pattern) → y ∷ ys ≡ us → AreMore s ts us
 more_are (no_items e) y ys ne = absurd cc
 more_are {s} {ts} (and_item {xs = []} {a = a} {b = b} p q parts) y ys ne = grammar.last_particle p.is (last_parts s ts a b p.rest parts p.parts (nothing_left q))
 more_are {s} {ts} (and_item {xs = z ∷ zs} {a = a} {b = b} p q parts) y ys ne = grammar.more_particles p.is (more_are q z zs refl) (parts ∙ ap (λ (a : List Lexeme). a ++ b) p.parts)
@@ -107,11 +107,11 @@ joined_reads ts rest front s k t u others y ys connects one parts ne tree q = re
   parts = parts ∙ ap (λ (r : List Lexeme). front ++ r) q.parts ∙ sym (append_assoc front q.front others.1);
 }
 
-components_are : (w : Setting) {ts : List Lexeme} {cs : List Component} → Each (IsComponent w) ts cs → AreComponents w ts cs
+pub components_are : (w : Setting) {ts : List Lexeme} {cs : List Component} → Each (IsComponent w) ts cs → AreComponents w ts cs
 components_are w (no_items e) = grammar.no_components e
 components_are w (and_item p q parts) = grammar.and_component p (components_are w q) parts
 
-component_front_is : (w : Setting) (ts us : List Lexeme) → component_front w ts ≡ Some us → ts ≡ us
+pub component_front_is : (w : Setting) (ts us : List Lexeme) → component_front w ts ≡ Some us → ts ≡ us
 component_front_is content (identifier n ∷ ts) us e = some_is _ us e
 component_front_is content (keyword keywords.Start s ∷ ts) us e = some_is _ us e
 component_front_is content (keyword keywords.Div s ∷ ts) us e = some_is _ us e
@@ -121,7 +121,7 @@ component_front_is override (keyword keywords.Start s ∷ ts) us e = some_is _ u
 component_front_is override (keyword keywords.Div s ∷ ts) us e = some_is _ us e
 component_front_is _ _ us e = absurd cc
 
-include_stands : (w : Setting) (s : Spelling) (ts us : List Lexeme) → component_front w (keyword keywords.Include s ∷ ts) ≡ Some us → w ≡ content
+pub include_stands : (w : Setting) (s : Spelling) (ts us : List Lexeme) → component_front w (keyword keywords.Include s ∷ ts) ≡ Some us → w ≡ content
 include_stands content s ts us e = refl
 include_stands override s ts us e = absurd cc
 
@@ -269,7 +269,7 @@ module _ (inside : Inside) (sound : InsideSound inside) where
       both_sound (IsMention place) MayOverride (IsInclude place) (λ m cs. syntax.include m (syntax.components_of cs)) (mention_at place) (overrides_with inside) (mention_sound place) overrides_sound
       (λ first second m cs p q. record { first = first; second = second; mentioned = m; overriding = cs; mention = p; overrides = q; tree = refl; parts = refl }) ts x e
 
-  include_is : (w : Setting) (s : Spelling) (ts : List Lexeme) (c : Component) → w ≡ content → IsInclude s.place ts c → IsComponent w (keyword keywords.Include s ∷ ts) c
+  pub include_is : (w : Setting) (s : Spelling) (ts : List Lexeme) (c : Component) → w ≡ content → IsInclude s.place ts c → IsComponent w (keyword keywords.Include s ∷ ts) c
   include_is w s ts c stands p =
       grammar.include stands p.mention.literal p.mention.inherits p.overrides
       (ap (λ (r : List Lexeme). keyword keywords.Include s ∷ r) (p.parts ∙ ap (λ (r : List Lexeme). r ++ p.second) p.mention.parts ∙ append_assoc p.mention.first p.mention.second p.second))

@@ -6,7 +6,7 @@ use Rattle.rnc_grammar.specs.declared.fault.Stop.TheVariants.{Unexpected}
 use Rattle.rnc_grammar.specs.Lexeme.{Lexeme}
 use Rattle.rnc_grammar.specs.Syntax.{File}
 use Rattle.rnc_grammar.specs.Reading.{inside_at, file_with}
-use Rattle.rnc_grammar.specs.Sentence.{NestsWithin, IsSentence, BeginsAlike, IsStuckAt}
+use Rattle.rnc_grammar.specs.Sentence.{NestsWithin, IsSentence, BeginsSentence, BeginsAlike, IsStuckAt}
 use Rattle.rnc_grammar.proofs.Balance.{length_within}
 use Rattle.rnc_grammar.proofs.Exact.{file_complete}
 use Rattle.rnc_grammar.proofs.Local.{SameHead}
@@ -67,10 +67,14 @@ alike_behind depth ts us left nest b alike s =
     let place : length ts - left + 1 ≡ suc (length b.front) = omega (arith, b.count, ap length b.parts, length-append b.front b.rest) in
     alike_at depth b.front us nest (length ts - left + 1) place b.rest b.same (subst (λ (ts' : List Lexeme). BeginsAlike (length ts - left + 1) ts' us) b.parts alike) s
 
+before : (k : ℕ) → k ≡ k + 1 - 1
+before k = omega arith
+
 -- the place of the fault
-pub stuck_at : (n : ℕ) (ts : List Lexeme) (left : ℕ) → ((m : ℕ) → n ≤ m → IsStuckBehind m ts left) → IsStuckAt ts (length ts - left + 1)
-stuck_at n ts left behind = record {
+pub stuck_at : (n : ℕ) (ts : List Lexeme) (left : ℕ) → BeginsSentence (length ts - left) ts → ((m : ℕ) → n ≤ m → IsStuckBehind m ts left) → IsStuckAt ts (length ts - left + 1)
+stuck_at n ts left begins behind = record {
   positive = omega arith;
   within = omega arith;
+  begins = subst (λ (k : ℕ). BeginsSentence k ts) (before (length ts - left)) begins;
   stuck = λ us alike s. alike_behind (n + length us) ts us left (wider n (length us) us (length_within us)) (behind (n + length us) (omega arith)) alike s;
 }

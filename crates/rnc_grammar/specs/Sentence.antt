@@ -1,5 +1,5 @@
 -- Which file tree a list of tokens has, and which clause it breaks where it has none.
-use Rattle.std.specs.Prelude.{◌≡◌, ℕ, ◌+◌, ◌<◌, ◌≤◌, ◌⊎◌, Bool, true, false, List, length, take, Some, None, Result, Ok, Err}
+use Rattle.std.specs.Prelude.{◌≡◌, ℕ, ◌+◌, ◌-◌, ◌<◌, ◌≤◌, ◌⊎◌, Bool, true, false, List, length, take, Some, None, Result, Ok, Err}
 use Rattle.std.specs.List.{count_by}
 use Rattle.rnc_text.specs.declared.token.Sign.TheVariants.{OpenBrace, CloseBrace, OpenParenthesis, CloseParenthesis}
 use Rattle.rnc_grammar.specs.declared.fault.ParseFault.{ParseFault}
@@ -56,11 +56,16 @@ IsSentence ts = (f : File) × IsFile ts f
 abbrev pub BeginsAlike : ℕ → List Lexeme → List Lexeme → Type 0
 BeginsAlike place ts us = (place ≤ length ts → take place us ≡ take place ts) × (length ts < place → us ≡ ts)
 
--- no sentence begins with the tokens up to and with the one at this place, from 1, or the place is the one after the last
--- token and they are no sentence
+-- some sentence begins with so many of the tokens
+abbrev pub BeginsSentence : ℕ → List Lexeme → Type 0
+BeginsSentence count ts = (us : List Lexeme) × (take count us ≡ take count ts) × IsSentence us
+
+-- Some sentence begins with the tokens before this place, from 1, and none with the tokens up to and with the one at it; or the
+-- place is the one after the last token, and they are no sentence.
 pub record IsStuckAt (ts : List Lexeme) (place : ℕ) : Type 0 where
   pub positive : 0 < place
   pub within : place ≤ length ts + 1
+  pub begins : BeginsSentence (place - 1) ts
   pub stuck : (us : List Lexeme) → BeginsAlike place ts us → ¬ IsSentence us
 
 -- the tokens nest within the limit and are no sentence (clause 6)

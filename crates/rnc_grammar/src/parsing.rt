@@ -65,9 +65,8 @@ fn read(alloc: Global, tokens: &[Token<'_>]) -> Result<FileTree, ParseFault>
 /// clause have one tree, and it is answered; of those that break one, the clause is told:
 ///
 /// - 7, with no place, where at some token the `{` and `(` up to it exceed the `}` and `)` up to it by more than 128;
-/// - 6, where the tokens break not 7 and are no sentence of the grammar, with a place from 1: no sentence begins with the
-///   tokens up to and with the one at that place, or the place is the number of tokens plus one. That it is the first
-///   such place is tested, and not promised;
+/// - 6, where the tokens break not 7 and are no sentence of the grammar, with the place of the first token, from 1, such
+///   that no sentence begins with the tokens up to and with it, or with the number of tokens plus one;
 /// - 8, with no place, where they break neither and a prefix or the default namespace is declared twice, `xml`, `xmlns`
 ///   or `xsd` is declared as what it may not stand for, or a prefix is not declared.
 ///
