@@ -2,9 +2,7 @@
 
 use super::following::{Verdict, judged};
 use super::random::Sentence;
-use rnc_grammar::ParseFault;
-use rnc_grammar::FileTree;
-use rnc_grammar::parse;
+use rnc_grammar::{FileTree, ParseFault, parse};
 use rnc_text::{Keyword, Sign, Token, TokenKind};
 use std::alloc::{AllocError, Global};
 use std::test::Fail;

@@ -1,8 +1,8 @@
 // Random literals, names, name classes, datatypes and mentions.
 
 use super::random::Sentence;
-use rnc_grammar::{DatatypeName, Mention, NameClass};
 use crate::tests::building::Builder;
+use rnc_grammar::{DatatypeName, Mention, NameClass};
 use rnc_text::{Keyword, Sign, TokenKind};
 use std::alloc::AllocError;
 
