@@ -1,0 +1,89 @@
+//! Prints what `rnc_grammar` answers for the texts in the rows of its data.
+//!
+//! Of `worked.txt` and `sentences.txt` it prints the tree or the broken clause, of `neighbors.txt`, whose texts may declare
+//! anything, only whether they are sentences. `tools/grammar_cases` writes the rows and what is to be printed.
+#![tactic(auto)]
+
+use case_rows::rows;
+use rnc_grammar::{FileTree, ParseFault, parse};
+use rnc_text::{TextFault, read_text, tokens};
+use std::alloc::{AllocError, Global};
+use std::io;
+use std::rt::Files;
+
+/// The fault of a file whose text has this one.
+fn fault_of(fault: TextFault) -> ParseFault {
+    match fault {
+        TextFault::At { clause, .. } => ParseFault::Clause(clause),
+        TextFault::Memory => ParseFault::Memory,
+    }
+}
+
+/// The tree of a file, or why it has none.
+fn tree_of(alloc: Global, bytes: &[u8]) -> Result<FileTree, ParseFault> {
+    let text = read_text(alloc, bytes).map_err(fault_of)?;
+    let tokens = tokens(alloc, &text).map_err(fault_of)?;
+    parse(alloc, &tokens)
+}
+
+/// A fault as it is printed.
+fn fault_line(alloc: Global, fault: ParseFault) -> Result<String, AllocError> {
+    match fault {
+        ParseFault::At { clause, place } => format!(in alloc; "clause {clause} at token {place}"),
+        ParseFault::Clause(clause) => format!(in alloc; "clause {clause}"),
+        ParseFault::Memory => String::from_str(alloc, "out of memory"),
+    }
+}
+
+/// Of how many components a file is a grammar, as it is printed, if it is one.
+fn grammar_note(alloc: Global, tree: &FileTree) -> Result<String, AllocError> {
+    match tree.grammar() {
+        Some(components) => format!(in alloc; " is a grammar of {}", components.len()),
+        None => Ok(String::new(alloc)),
+    }
+}
+
+/// A tree as it is printed.
+fn tree_line(alloc: Global, tree: &FileTree) -> Result<String, AllocError> {
+    let mut line = format!(in alloc; "{tree:?}")?;
+    line.push_str(grammar_note(alloc, tree)?.as_str())?;
+    Ok(line)
+}
+
+/// What is printed of a file.
+fn answer_line(alloc: Global, bytes: &[u8]) -> Result<String, AllocError> {
+    match tree_of(alloc, bytes) {
+        Ok(tree) => tree_line(alloc, &tree),
+        Err(fault) => fault_line(alloc, fault),
+    }
+}
+
+/// What is printed of a file that may declare anything.
+fn sentence_line(alloc: Global, bytes: &[u8]) -> Result<String, AllocError> {
+    match tree_of(alloc, bytes).map(|_| ()) {
+        Ok(()) | Err(ParseFault::Clause(8)) => String::from_str(alloc, "sentence"),
+        Err(fault) => fault_line(alloc, fault),
+    }
+}
+
+/// Prints a line for each row of a file.
+fn print_answers<R: Files + Print + AllocGlobal>(rt: &R, path: &str) -> io::Result<()> {
+    for row in rows(rt, path)? {
+        println!(rt; "{}", answer_line(rt.alloc(), row.bytes(0)?)?)?;
+    }
+    Ok(())
+}
+
+/// Prints for each row of a file whether it is a sentence.
+fn print_sentences<R: Files + Print + AllocGlobal>(rt: &R, path: &str) -> io::Result<()> {
+    for row in rows(rt, path)? {
+        println!(rt; "{}", sentence_line(rt.alloc(), row.bytes(0)?)?)?;
+    }
+    Ok(())
+}
+
+fn main(rt: HostRuntime) -> io::Result<()> {
+    print_answers(&rt, "worked.txt")?;
+    print_answers(&rt, "sentences.txt")?;
+    print_sentences(&rt, "neighbors.txt")
+}
