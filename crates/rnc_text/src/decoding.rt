@@ -108,6 +108,8 @@ pub fn read_text(alloc: Global, bytes: &[u8]) -> Result<Text, TextFault>
     ensures found { IfOk result (λ t. IsDecoded bytes.now (characters_of t)) }
     // What the bytes stand for is answered, so there is no other.
     ensures only { (cs : List Character) → IsDecoded bytes.now cs → GivesOk characters_of result cs }
+    // There is no other decoding.
+    ensures one { (cs ds : List Character) → IsDecoded bytes.now cs → IsDecoded bytes.now ds → cs ≡ ds }
     // A fault has its clause broken at its place.
     ensures fault { IfErr result (IfBroken (BreaksTextAt bytes.now)) }
     // A broken clause is answered, with its place.

@@ -13,12 +13,8 @@ mod fault;
 mod hexadecimal;
 mod scanning;
 mod table;
-#[cfg(test)]
-mod tests;
 mod text;
 mod token;
-#[cfg(test)]
-mod walks;
 
 pub use character::Character;
 pub use cutting::tokens;

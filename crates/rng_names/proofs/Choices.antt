@@ -35,11 +35,13 @@ module _ {A : Type 0} where
 
   -- ---- a test passes for what is written in a choice if it does for a member
 
-  some_met-members : (f : A → NameClass) (xs : List A) (test : Name → Bool) (fresh : List ℕ) → is_some_met test fresh (classes_of (map f xs)) ≡ list_any (λ x. is_met test fresh (f x)) xs
+  some_met-members : (f : A → NameClass) (xs : List A) (test : Name → Bool) (fresh : List ℕ)
+      → is_some_met test fresh (classes_of (map f xs)) ≡ list_any (λ x. is_met test fresh (f x)) xs
   some_met-members f [] test fresh = refl
   some_met-members f (x ∷ xs) test fresh = ap (λ b. is_met test fresh (f x) || b) (some_met-members f xs test fresh)
 
-  pub met-members : (f : A → NameClass) (xs : List A) (test : Name → Bool) (fresh : List ℕ) → is_met test fresh (some_of (map f xs)) ≡ list_any (λ x. is_met test fresh (f x)) xs
+  pub met-members : (f : A → NameClass) (xs : List A) (test : Name → Bool) (fresh : List ℕ)
+      → is_met test fresh (some_of (map f xs)) ≡ list_any (λ x. is_met test fresh (f x)) xs
   met-members f [] test fresh = refl
   met-members f (x ∷ []) test fresh = or-false (is_met test fresh (f x))
   met-members f (x ∷ (y ∷ xs)) test fresh = ap (λ b. is_met test fresh (f x) || (is_met test fresh (f y) || b)) (some_met-members f xs test fresh)
@@ -52,7 +54,8 @@ module _ {A : Type 0} where
   longest_of-members : (f : A → NameClass) (n : ℕ) (xs : List A) → max n (longest_of (classes_of (map f xs))) ≡ longest_among f n xs
   longest_of-members f n [] = omega arith
   longest_of-members f n (x ∷ xs) =
-      let grouped : max n (max (longest (f x)) (longest_of (classes_of (map f xs)))) ≡ max (max n (longest (f x))) (longest_of (classes_of (map f xs))) = omega arith in
+      let grouped : max n (max (longest (f x)) (longest_of (classes_of (map f xs)))) ≡ max (max n (longest (f x))) (longest_of (classes_of (map f xs))) =
+          omega arith in
       grouped ∙ longest_of-members f (max n (longest (f x))) xs
 
   pub longest-members : (f : A → NameClass) (xs : List A) → longest (some_of (map f xs)) ≡ longest_among f 0 xs

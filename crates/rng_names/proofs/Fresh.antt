@@ -76,9 +76,11 @@ mutual
   met_by_name test fresh (ns_name u) q passes e = never _ e
   met_by_name test fresh (ns_except u c) q passes e = or_right (test (pair u fresh)) _ (met_by_name test fresh c q passes e)
   met_by_name test fresh (name_is n) q passes e = or_left (test n) _ (subst (λ r. test r ≡ true) ((same_name-Decides n q).0 e) passes)
-  met_by_name test fresh (one_of c d cs) q passes e = or_both _ _ _ _ (met_by_name test fresh c q passes) (or_both _ _ _ _ (met_by_name test fresh d q passes) (some_met_by_name test fresh cs q passes)) e
+  met_by_name test fresh (one_of c d cs) q passes e =
+      or_both _ _ _ _ (met_by_name test fresh c q passes) (or_both _ _ _ _ (met_by_name test fresh d q passes) (some_met_by_name test fresh cs q passes)) e
 
-  some_met_by_name : (test : Name → Bool) (fresh : List ℕ) (cs : NameClasses) (q : Name) → test q ≡ true → some_write_name cs q ≡ true → is_some_met test fresh cs ≡ true
+  some_met_by_name : (test : Name → Bool) (fresh : List ℕ) (cs : NameClasses) (q : Name) → test q ≡ true → some_write_name cs q ≡ true
+      → is_some_met test fresh cs ≡ true
   some_met_by_name test fresh no_classes q passes e = e
   some_met_by_name test fresh (class_and c cs) q passes e = or_both _ _ _ _ (met_by_name test fresh c q passes) (some_met_by_name test fresh cs q passes) e
 
@@ -86,15 +88,18 @@ met_at : (test : Name → Bool) (fresh u v : List ℕ) → test (pair v fresh) �
 met_at test fresh u v passes e = subst (λ w. test (pair w fresh) ≡ true) (sym ((bytes_eq-Decides u v).0 e)) passes
 
 mutual
-  met_by_ns : (test : Name → Bool) (fresh : List ℕ) (c : NameClass) (v : List ℕ) → test (pair v fresh) ≡ true → writes_ns c v ≡ true → is_met test fresh c ≡ true
+  met_by_ns : (test : Name → Bool) (fresh : List ℕ) (c : NameClass) (v : List ℕ) → test (pair v fresh) ≡ true → writes_ns c v ≡ true
+      → is_met test fresh c ≡ true
   met_by_ns test fresh any_name v passes e = e
   met_by_ns test fresh (any_except c) v passes e = met_by_ns test fresh c v passes e
   met_by_ns test fresh (ns_name u) v passes e = met_at test fresh u v passes e
   met_by_ns test fresh (ns_except u c) v passes e = or_both _ _ _ _ (met_at test fresh u v passes) (met_by_ns test fresh c v passes) e
   met_by_ns test fresh (name_is n) v passes e = or_right (test n) _ (met_at test fresh n.ns v passes e)
-  met_by_ns test fresh (one_of c d cs) v passes e = or_both _ _ _ _ (met_by_ns test fresh c v passes) (or_both _ _ _ _ (met_by_ns test fresh d v passes) (some_met_by_ns test fresh cs v passes)) e
+  met_by_ns test fresh (one_of c d cs) v passes e =
+      or_both _ _ _ _ (met_by_ns test fresh c v passes) (or_both _ _ _ _ (met_by_ns test fresh d v passes) (some_met_by_ns test fresh cs v passes)) e
 
-  some_met_by_ns : (test : Name → Bool) (fresh : List ℕ) (cs : NameClasses) (v : List ℕ) → test (pair v fresh) ≡ true → some_write_ns cs v ≡ true → is_some_met test fresh cs ≡ true
+  some_met_by_ns : (test : Name → Bool) (fresh : List ℕ) (cs : NameClasses) (v : List ℕ) → test (pair v fresh) ≡ true → some_write_ns cs v ≡ true
+      → is_some_met test fresh cs ≡ true
   some_met_by_ns test fresh no_classes v passes e = e
   some_met_by_ns test fresh (class_and c cs) v passes e = or_both _ _ _ _ (met_by_ns test fresh c v passes) (some_met_by_ns test fresh cs v passes) e
 
@@ -104,7 +109,8 @@ and-off : (x y : Bool) → x ≡ false → (x && y) ≡ false
 and-off false y e = refl
 and-off true y e = search rules
 
-other_local : (n q : Name) (fresh : List ℕ) → same_name n q ≡ false → max (length n.ns) (length n.local) < length fresh → same_name n q ≡ same_name n (pair q.ns fresh)
+other_local : (n q : Name) (fresh : List ℕ) → same_name n q ≡ false → max (length n.ns) (length n.local) < length fresh
+    → same_name n q ≡ same_name n (pair q.ns fresh)
 other_local n q fresh e less = e ∙ sym (and-off (bytes_eq n.local fresh) (bytes_eq n.ns q.ns) (shorter n.local fresh (max-below _ _ _ less).1))
 
 mutual
@@ -119,9 +125,11 @@ mutual
       let rest = neither _ _ first.1 in
       let below = max-below (longest c) (max (longest d) (longest_of cs)) _ less in
       let after = max-below (longest d) (longest_of cs) _ below.1 in
-      ap₂ (λ x y. x || y) (like_local c q fresh first.0 below.0) (ap₂ (λ x y. x || y) (like_local d q fresh rest.0 after.0) (some_like_local cs q fresh rest.1 after.1))
+      ap₂ (λ x y. x || y) (like_local c q fresh first.0 below.0)
+          (ap₂ (λ x y. x || y) (like_local d q fresh rest.0 after.0) (some_like_local cs q fresh rest.1 after.1))
 
-  some_like_local : (cs : NameClasses) (q : Name) (fresh : List ℕ) → some_write_name cs q ≡ false → longest_of cs < length fresh → some_hold cs q ≡ some_hold cs (pair q.ns fresh)
+  some_like_local : (cs : NameClasses) (q : Name) (fresh : List ℕ) → some_write_name cs q ≡ false → longest_of cs < length fresh
+      → some_hold cs q ≡ some_hold cs (pair q.ns fresh)
   some_like_local no_classes q fresh e less = refl
   some_like_local (class_and c cs) q fresh e less =
       let apart = neither _ _ e in
@@ -148,9 +156,11 @@ mutual
       let rest = neither _ _ first.1 in
       let below = max-below (longest c) (max (longest d) (longest_of cs)) _ less in
       let after = max-below (longest d) (longest_of cs) _ below.1 in
-      ap₂ (λ x y. x || y) (like_ns c v w fresh first.0 below.0) (ap₂ (λ x y. x || y) (like_ns d v w fresh rest.0 after.0) (some_like_ns cs v w fresh rest.1 after.1))
+      ap₂ (λ x y. x || y) (like_ns c v w fresh first.0 below.0)
+          (ap₂ (λ x y. x || y) (like_ns d v w fresh rest.0 after.0) (some_like_ns cs v w fresh rest.1 after.1))
 
-  some_like_ns : (cs : NameClasses) (v w fresh : List ℕ) → some_write_ns cs v ≡ false → longest_of cs < length fresh → some_hold cs (pair v w) ≡ some_hold cs (pair fresh w)
+  some_like_ns : (cs : NameClasses) (v w fresh : List ℕ) → some_write_ns cs v ≡ false → longest_of cs < length fresh
+      → some_hold cs (pair v w) ≡ some_hold cs (pair fresh w)
   some_like_ns no_classes v w fresh e less = refl
   some_like_ns (class_and c cs) v w fresh e less =
       let apart = neither _ _ e in
@@ -169,18 +179,21 @@ module _ (test : Name → Bool) (fresh : List ℕ) (c d : NameClass) where
   in_second : is_met test fresh d ≡ true → Found
   in_second e = or_right (test (pair fresh fresh)) _ (or_right (is_met test fresh c) _ e)
 
-  by_ns : (v : List ℕ) (x y : Bool) → writes_ns c v ≡ x → writes_ns d v ≡ y → test (pair v fresh) ≡ true → (writes_ns c v ≡ false → writes_ns d v ≡ false → test (pair v fresh) ≡ test (pair fresh fresh)) → Found
+  by_ns : (v : List ℕ) (x y : Bool) → writes_ns c v ≡ x → writes_ns d v ≡ y → test (pair v fresh) ≡ true
+      → (writes_ns c v ≡ false → writes_ns d v ≡ false → test (pair v fresh) ≡ test (pair fresh fresh)) → Found
   by_ns v true y ex ey passes same = in_first (met_by_ns test fresh c v passes ex)
   by_ns v false true ex ey passes same = in_second (met_by_ns test fresh d v passes ey)
   by_ns v false false ex ey passes same = or_left _ _ (sym (same ex ey) ∙ passes)
 
-  by_name : (q : Name) (x y : Bool) → writes_name c q ≡ x → writes_name d q ≡ y → test q ≡ true → (writes_name c q ≡ false → writes_name d q ≡ false → test q ≡ test (pair q.ns fresh)) → (test (pair q.ns fresh) ≡ true → Found) → Found
+  by_name : (q : Name) (x y : Bool) → writes_name c q ≡ x → writes_name d q ≡ y → test q ≡ true
+      → (writes_name c q ≡ false → writes_name d q ≡ false → test q ≡ test (pair q.ns fresh)) → (test (pair q.ns fresh) ≡ true → Found) → Found
   by_name q true y ex ey passes same else_by = in_first (met_by_name test fresh c q passes ex)
   by_name q false true ex ey passes same else_by = in_second (met_by_name test fresh d q passes ey)
   by_name q false false ex ey passes same else_by = else_by (sym (same ex ey) ∙ passes)
 
 -- if both classes hold a name, both hold one of those that are tried
-pub one_is_found : (fresh : List ℕ) (c d : NameClass) (q : Name) → longest c < length fresh → longest d < length fresh → both_hold c d q ≡ true → Found (both_hold c d) fresh c d
+pub one_is_found : (fresh : List ℕ) (c d : NameClass) (q : Name) → longest c < length fresh → longest d < length fresh → both_hold c d q ≡ true
+    → Found (both_hold c d) fresh c d
 one_is_found fresh c d q less less' passes =
     let test : Name → Bool = both_hold c d in
     let locals : writes_name c q ≡ false → writes_name d q ≡ false → test q ≡ test (pair q.ns fresh) =
@@ -194,7 +207,8 @@ found-neither : (x y z : Bool) → x ≡ false → y ≡ false → z ≡ false �
 found-neither x y z ex ey ez found = search rules
 
 -- if the test passes for none of those that are tried, no name lies in both classes
-pub none_is_found : (fresh : List ℕ) (c d : NameClass) → longest c < length fresh → longest d < length fresh → both_hold c d (pair fresh fresh) ≡ false → is_met (both_hold c d) fresh c ≡ false → is_met (both_hold c d) fresh d ≡ false → AreApart c d
+pub none_is_found : (fresh : List ℕ) (c d : NameClass) → longest c < length fresh → longest d < length fresh → both_hold c d (pair fresh fresh) ≡ false
+    → is_met (both_hold c d) fresh c ≡ false → is_met (both_hold c d) fresh d ≡ false → AreApart c d
 none_is_found fresh c d less less' outside first second q in_c in_d =
     let passes : both_hold c d q ≡ true = ap₂ (λ x y. x && y) ((holds-Decides c q).1 in_c) ((holds-Decides d q).1 in_d) in
     found-neither _ _ _ outside first second (one_is_found fresh c d q less less' passes)

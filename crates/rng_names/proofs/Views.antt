@@ -7,7 +7,8 @@ use Rattle.rng_model.specs.declared.name.NameClass.{NameClass, Choice, Name, the
 use Rattle.rng_model.specs.declared.name.Name as declared
 
 -- a choice is seen as one of its members, each as it is seen
-pub choice_is : (class : NameClass) (members : Vec NameClass Global) (xs : List NameClass) → class ≡ Choice members → xs ≡ members.items → class_of class ≡ some_of (map class_of xs)
+pub choice_is : (class : NameClass) (members : Vec NameClass Global) (xs : List NameClass) → class ≡ Choice members → xs ≡ members.items
+    → class_of class ≡ some_of (map class_of xs)
 choice_is class members xs e items = ap class_of e ∙ search (rules, the_lemmas, items)
 
 -- a plain name is seen as a name

@@ -7,8 +7,6 @@
 
 mod common_name;
 mod membership;
-#[cfg(test)]
-mod tests;
 
 pub use common_name::overlap;
 pub use membership::contains;

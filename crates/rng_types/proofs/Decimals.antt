@@ -1,5 +1,6 @@
 -- Numerals: what `parse` answers where they are short enough.
-use Rattle.std.proofs.Common.{◌^◌, codes, nat_le, ◌==◌, ◌≡◌, ℕ, zero, suc, ◌<◌, ◌≤◌, List, [], ◌∷◌, ◌++◌, length, Bool, true, false, ◌&&◌, Some, None, Result, Ok, Err, ℤ, pos, neg_ℤ, cond, refl, ap, ◌∙◌, rules, arith}
+use Rattle.std.proofs.Common.{◌^◌, codes, nat_le, ◌==◌, ◌≡◌, ℕ, zero, suc, ◌<◌, ◌≤◌, List, [], ◌∷◌, ◌++◌, length, Bool, true, false, ◌&&◌, Some, None, Result}
+use Rattle.std.proofs.Common.{Ok, Err, ℤ, pos, neg_ℤ, cond, refl, ap, ◌∙◌, rules, arith}
 use Rattle.std.specs.Char.{is_ascii_digit}
 use Rattle.std.specs.List.{list_all}
 use Rattle.std.specs.Result.{result_ok}
@@ -37,7 +38,8 @@ IsShort-from most ds e =
     record { some = some_digits ds parts.0; digits = more.0; short = leb-true (length ds) most more.1 }
 
 -- what `parse` answers at a length
-pub length-parsed : {E : Type 0} (bs : List ℕ) (r : Result ℕ E) → ParsesUnsigned 64 10 bs r → is_decimal most_length_digits bs ≡ true → result_ok r ≡ length_of bs
+pub length-parsed : {E : Type 0} (bs : List ℕ) (r : Result ℕ E) → ParsesUnsigned 64 10 bs r → is_decimal most_length_digits bs ≡ true
+    → result_ok r ≡ length_of bs
 unfolding length_of
 length-parsed bs r h e =
     let is = IsShort-from most_length_digits bs e in
@@ -57,23 +59,27 @@ mag_signed false n = omega arith
 signed_fits : (bs : List ℕ) → digits_value 10 (without_leading_sign bs) < 10 ^ most_digits → FitsSigned w128 (signed_digits_value 10 bs)
 signed_fits bs small = record { sfits = omega (arith, small, mag_signed (starts_with_minus bs) (digits_value 10 (without_leading_sign bs))) }
 
-parsed_by : {E : Type 0} (bs : List ℕ) (r : Result ℤ E) → ParsesSigned w128 10 bs r → IsNumeral 10 (without_leading_sign bs) × FitsSigned w128 (signed_digits_value 10 bs) → result_ok r ≡ Some (signed_digits_value 10 bs)
+parsed_by : {E : Type 0} (bs : List ℕ) (r : Result ℤ E) → ParsesSigned w128 10 bs r
+    → IsNumeral 10 (without_leading_sign bs) × FitsSigned w128 (signed_digits_value 10 bs) → result_ok r ≡ Some (signed_digits_value 10 bs)
 parsed_by bs (Ok x) h is = ap Some h.1
 parsed_by bs (Err e) h is = absurd (h is)
 
 -- what `parse` answers at an integer
-pub integer-parsed : {E : Type 0} (bs : List ℕ) (r : Result ℤ E) → ParsesSigned w128 10 bs r → is_decimal most_digits (without_leading_sign bs) ≡ true → result_ok r ≡ integer_of bs
+pub integer-parsed : {E : Type 0} (bs : List ℕ) (r : Result ℤ E) → ParsesSigned w128 10 bs r → is_decimal most_digits (without_leading_sign bs) ≡ true
+    → result_ok r ≡ integer_of bs
 unfolding integer_of
 integer-parsed bs r h e =
     let is = IsShort-from most_digits (without_leading_sign bs) e in
-    let small : digits_value 10 (without_leading_sign bs) < 10 ^ most_digits = digits_value_short own (without_leading_sign bs) most_digits is.digits is.short in
+    let small : digits_value 10 (without_leading_sign bs) < 10 ^ most_digits =
+        digits_value_short own (without_leading_sign bs) most_digits is.digits is.short in
     parsed_by bs r h ((is.some, own.to (without_leading_sign bs) is.digits), signed_fits bs small) ∙ rw e refl
 
 -- nothing, or a space inside, is no truth value
 pub truth-spaced : (v w : List ℕ) → truth_of (v ++ 32 ∷ w) ≡ None
 unfolding truth_of
 truth-spaced v w =
-    rw (differs is_run_byte v w (codes "true") refl refl, differs is_run_byte v w (codes "1") refl refl, differs is_run_byte v w (codes "false") refl refl, differs is_run_byte v w (codes "0") refl refl) refl
+    rw (differs is_run_byte v w (codes "true") refl refl, differs is_run_byte v w (codes "1") refl refl, differs is_run_byte v w (codes "false") refl refl,
+        differs is_run_byte v w (codes "0") refl refl) refl
 
 pub truth-empty : truth_of [] ≡ None
 unfolding truth_of
@@ -96,7 +102,9 @@ pub integer-spaced : (v w : List ℕ) → integer_of (v ++ 32 ∷ w) ≡ None
 unfolding integer_of
 integer-spaced v w =
     let ds = without_leading_sign (v ++ 32 ∷ w) in
-    none_if (is_decimal most_digits ds) (signed_digits_value 10 (v ++ 32 ∷ w)) (and_right (has_bytes ds) (list_all is_ascii_digit ds && nat_le (length ds) most_digits) (and_left (list_all is_ascii_digit ds) (nat_le (length ds) most_digits) (sign_spaced v w)))
+    none_if (is_decimal most_digits ds) (signed_digits_value 10 (v ++ 32 ∷ w))
+        (and_right (has_bytes ds) (list_all is_ascii_digit ds && nat_le (length ds) most_digits)
+        (and_left (list_all is_ascii_digit ds) (nat_le (length ds) most_digits) (sign_spaced v w)))
 
 pub integer-empty : integer_of [] ≡ None
 unfolding integer_of

@@ -1,22 +1,21 @@
 -- Collapsed texts, by their pieces: one piece is the collapsed text, and otherwise it is empty or has a space inside.
-use Rattle.std.proofs.Common.{◌≡◌, ℕ, ◌+◌, ◌≤◌, List, [], ◌∷◌, ◌++◌, length, Bool, true, false, Some, None, refl, ap, ap₂, sym, ◌∙◌, subst, rules, arith, length-append}
+use Rattle.std.proofs.Common.{◌≡◌, ℕ, ◌+◌, ◌≤◌, List, [], ◌∷◌, ◌++◌, length, Bool, true, false, Some, None, refl, ap, ap₂, sym, ◌∙◌, subst, rules, arith}
+use Rattle.std.proofs.Common.{length-append}
 use Rattle.std.specs.List.{list_all, join_with_byte, AllByRecursion}
 use Rattle.std.specs.Str.{IsUtf8, chars, bytes_eq}
 use Rattle.std.proofs.lemmas.Str.{chars-append, encodes-chars, length-le-encodes}
 use Rattle.std.proofs.lemmas.List.Folds.{list_all-append}
 use Rattle.std.proofs.lemmas.Slice.Eq.{bytes_eq-Decides}
+use Rattle.std.proofs.lemmas.Option.{same_Some}
 use Rattle.std.proofs.lemmas.Bool.{true≢false, and_right, and_left, and_parts, and_from}
 use Rattle.std.specs.Cmp.Lexicographic.{pointwise}
 use Rattle.rng_model.specs.Blanks.{pieces, collapse}
 use Rattle.rng_model.proofs.BlankLemmas.{pieces-collapse, pieces_fit, spaced_length, IsUtf8-pieces}
 use Rattle.rng_types.specs.Pieces.{only}
 
-some_is : {A : Type 0} (x y : A) → Some x ≡ Some y → x ≡ y
-some_is x y e = search rules
-
 joined_only : (ps : List (List ℕ)) (w : List ℕ) → Some w ≡ only ps → join_with_byte 32 ps ≡ w
 joined_only [] w e = search rules
-joined_only (p ∷ []) w e = sym (some_is w p e)
+joined_only (p ∷ []) w e = sym (same_Some w p e)
 joined_only (p ∷ q ∷ ps) w e = search rules
 
 -- the only piece is the collapsed text
@@ -24,13 +23,15 @@ pub collapse-only : (s w : List ℕ) → Some w ≡ only (pieces s) → collapse
 unfolding collapse
 collapse-only s w e = joined_only (pieces s) w e
 
-joined_other : {A : Type 0} (f : List ℕ → A) (d : A) (ps : List (List ℕ)) → f [] ≡ d → ((v w : List ℕ) → IsUtf8 v → f (v ++ 32 ∷ w) ≡ d) → AllByRecursion IsUtf8 ps → None ≡ only ps → f (join_with_byte 32 ps) ≡ d
+joined_other : {A : Type 0} (f : List ℕ → A) (d : A) (ps : List (List ℕ)) → f [] ≡ d → ((v w : List ℕ) → IsUtf8 v → f (v ++ 32 ∷ w) ≡ d)
+    → AllByRecursion IsUtf8 ps → None ≡ only ps → f (join_with_byte 32 ps) ≡ d
 joined_other f d [] nil spaced utf8 e = nil
 joined_other f d (p ∷ []) nil spaced utf8 e = search rules
 joined_other f d (p ∷ q ∷ ps) nil spaced utf8 e = spaced p (join_with_byte 32 (q ∷ ps)) utf8.0
 
 -- without an only piece, it is empty or has a space
-pub collapse-other : {A : Type 0} (f : List ℕ → A) (d : A) (s : List ℕ) → f [] ≡ d → ((v w : List ℕ) → IsUtf8 v → f (v ++ 32 ∷ w) ≡ d) → IsUtf8 s → None ≡ only (pieces s) → f (collapse s) ≡ d
+pub collapse-other : {A : Type 0} (f : List ℕ → A) (d : A) (s : List ℕ) → f [] ≡ d → ((v w : List ℕ) → IsUtf8 v → f (v ++ 32 ∷ w) ≡ d) → IsUtf8 s
+    → None ≡ only (pieces s) → f (collapse s) ≡ d
 unfolding collapse
 collapse-other f d s nil spaced utf8 e = joined_other f d (pieces s) nil spaced (IsUtf8-pieces s utf8) e
 
@@ -67,13 +68,16 @@ abbrev pub spaced_count : List (List ℕ) → ℕ
 spaced_count [] = 0
 spaced_count (w ∷ ws) = (1 + length (chars w)) + spaced_count ws
 
-length-joined : (first : List ℕ) (ws : List (List ℕ)) → IsUtf8 first → AllByRecursion IsUtf8 ws → length (chars (join_with_byte 32 (first ∷ ws))) ≡ length (chars first) + spaced_count ws
+length-joined : (first : List ℕ) (ws : List (List ℕ)) → IsUtf8 first → AllByRecursion IsUtf8 ws
+    → length (chars (join_with_byte 32 (first ∷ ws))) ≡ length (chars first) + spaced_count ws
 length-joined first [] utf8 all = omega arith
 length-joined first (w ∷ ws) utf8 all =
-    omega (arith, ap length (chars-spaced first (join_with_byte 32 (w ∷ ws)) utf8), length-append (chars first) (32 ∷ chars (join_with_byte 32 (w ∷ ws))), length-joined w ws all.0 all.1)
+    omega (arith, ap length (chars-spaced first (join_with_byte 32 (w ∷ ws)) utf8), length-append (chars first) (32 ∷ chars (join_with_byte 32 (w ∷ ws))),
+        length-joined w ws all.0 all.1)
 
 -- how many characters a collapsed text has
-pub length-collapse : (s first : List ℕ) (ws : List (List ℕ)) → IsUtf8 s → pieces s ≡ first ∷ ws → length (chars (collapse s)) ≡ length (chars first) + spaced_count ws
+pub length-collapse : (s first : List ℕ) (ws : List (List ℕ)) → IsUtf8 s → pieces s ≡ first ∷ ws
+    → length (chars (collapse s)) ≡ length (chars first) + spaced_count ws
 unfolding collapse
 length-collapse s first ws utf8 e =
     let all : AllByRecursion IsUtf8 (first ∷ ws) = subst (AllByRecursion IsUtf8) e (IsUtf8-pieces s utf8) in
@@ -101,7 +105,8 @@ same_texts : (vs ws : List (List ℕ)) → pointwise bytes_eq vs ws ≡ true →
 same_texts [] [] e = refl
 same_texts [] (w ∷ ws) e = search rules
 same_texts (v ∷ vs) [] e = search rules
-same_texts (v ∷ vs) (w ∷ ws) e = let both = and_parts (bytes_eq v w) (pointwise bytes_eq vs ws) e in ap₂ (λ x xs. x ∷ xs) ((bytes_eq-Decides v w).0 both.0) (same_texts vs ws both.1)
+same_texts (v ∷ vs) (w ∷ ws) e = let both = and_parts (bytes_eq v w) (pointwise bytes_eq vs ws) e in
+    ap₂ (λ x xs. x ∷ xs) ((bytes_eq-Decides v w).0 both.0) (same_texts vs ws both.1)
 
 same_texts-self : (vs : List (List ℕ)) → pointwise bytes_eq vs vs ≡ true
 same_texts-self [] = refl

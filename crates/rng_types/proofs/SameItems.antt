@@ -10,7 +10,8 @@ module _ {S T A B : Type 0} (steps : S → Option A → S → Type 0) (others : 
   abbrev Last : Option A → Option A → Type 0
   Last o p = MatchOption o (MatchOption p (r ≡ true) (λ _. r ≡ false)) (λ x. (r ≡ false) × IfSome p (λ y. eq x y ≡ false))
 
-  at_last : (o p : Option A) (xs ys : List B) (s u : S) (t w : T) → AlwaysYields steps v s xs → AlwaysYields others v t ys → steps s o u → others t p w → Last o p → r ≡ pointwise E xs ys
+  at_last : (o p : Option A) (xs ys : List B) (s u : S) (t w : T) → AlwaysYields steps v s xs → AlwaysYields others v t ys → steps s o u → others t p w
+      → Last o p → r ≡ pointwise E xs ys
   at_last None None (x ∷ xs) ys s u t w e f a b h = absurd (e.0 u a)
   at_last None (Some y) (x ∷ xs) ys s u t w e f a b h = absurd (e.0 u a)
   at_last (Some x) None [] ys s u t w e f a b h = absurd (e x u a)
@@ -39,7 +40,8 @@ module _ {S T A B : Type 0} (steps : S → Option A → S → Type 0) (others : 
       let tie : true ≡ E x' y' = sym z.0 ∙ agree x y ∙ ap₂ E m.0 n.0 in
       along cs bs o p xs ys a.1.0 u b.1.0 w m.1 n.1 (a.0, a.1.2, a.2) (b.0, b.1.2, b.2) z.1 h ∙ ap (λ c. c && pointwise E xs ys) tie
 
-pub eq_from_yields_List : {S U T A B : Type 0} {steps : S → Option A → S → Type 0} {others : T → Option A → T → Type 0} {v : A → B} {s : S} {eq : A → A → Bool} {xs ys : List B}
+pub eq_from_yields_List : {S U T A B : Type 0} {steps : S → Option A → S → Type 0} {others : T → Option A → T → Type 0} {v : A → B} {s : S} {eq : A → A
+    → Bool} {xs ys : List B}
     (becomes : U → T → Type 0) (other : U) (E : B → B → Bool) (r : Bool) → ComparesItemsByEq steps becomes others s other eq r
     → YieldsList steps v s xs → ((it : T) → becomes other it → YieldsList others v it ys) → ((x y : A) → eq x y ≡ E (v x) (v y)) → r ≡ pointwise E xs ys
 eq_from_yields_List {steps = steps} {others = others} {v = v} {s = s} {eq = eq} {xs = xs} {ys = ys} becomes other E r d e f agree =

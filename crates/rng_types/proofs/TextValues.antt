@@ -23,7 +23,8 @@ pub allows-only : (good : List ℕ → Bool) (s w : List ℕ) → Some w ≡ onl
 allows-only good s w e = ap good (sym (collapse-only s w e)) ∙ sym (is_some-text_if (good (collapse s)) (collapse s))
 
 -- without one nothing that the test takes is left
-pub allows-other : (good : List ℕ → Bool) (s : List ℕ) → good [] ≡ false → ((v w : List ℕ) → IsUtf8 v → good (v ++ 32 ∷ w) ≡ false) → IsUtf8 s → None ≡ only (pieces s) → false ≡ is_some (text_if (good (collapse s)) (collapse s))
+pub allows-other : (good : List ℕ → Bool) (s : List ℕ) → good [] ≡ false → ((v w : List ℕ) → IsUtf8 v → good (v ++ 32 ∷ w) ≡ false) → IsUtf8 s
+    → None ≡ only (pieces s) → false ≡ is_some (text_if (good (collapse s)) (collapse s))
 allows-other good s nil spaced utf8 e = sym (collapse-other good false s nil spaced utf8 e) ∙ sym (is_some-text_if (good (collapse s)) (collapse s))
 
 pub fails_and : (b x y : Bool) → b ≡ x → b ≡ false → b ≡ (x && y)
@@ -32,43 +33,51 @@ fails_and b x y is f = f ∙ sym (and_left x y (sym is ∙ f))
 pub passes_and : (b x y r : Bool) → b ≡ x → b ≡ true → r ≡ y → r ≡ (x && y)
 passes_and b x y r is t e = e ∙ ap (λ z. z && y) (sym t ∙ is)
 
--- what NCName and NMTOKEN take
-abbrev pub ncname_passes : Lengths → List ℕ → Bool
-ncname_passes l w = is_ncname (chars w) && fits l w
+chars_none : chars [] ≡ []
+unfolding chars
+chars_none = refl
 
-abbrev pub nmtoken_passes : Lengths → List ℕ → Bool
-nmtoken_passes l w = is_nmtoken (chars w) && fits l w
+-- a text whose characters pass a test, and are as many as allowed
+abbrev pub passes : (List ℕ → Bool) → Lengths → List ℕ → Bool
+passes is_word l w = is_word (chars w) && fits l w
 
-ncname_space : (v w : List ℕ) → is_ncname (v ++ 32 ∷ w) ≡ false
+-- what is allowed of the texts that collapse to such a text, by the only piece
+module _ (is_word : List ℕ → Bool) (l : Lengths) (s : List ℕ) where
+  abbrev IsAllowed : Bool → Type 0
+  IsAllowed b = b ≡ is_some (text_if (passes is_word l (collapse s)) (collapse s))
+
+  pub word_passes : (w : List ℕ) (b r : Bool) → Some w ≡ only (pieces s) → b ≡ is_word (chars w) → b ≡ true → r ≡ fits l w → IsAllowed r
+  word_passes w b r piece is t e = passes_and b (is_word (chars w)) (fits l w) r is t e ∙ allows-only (passes is_word l) s w piece
+
+  pub word_fails : (w : List ℕ) (b : Bool) → Some w ≡ only (pieces s) → b ≡ is_word (chars w) → b ≡ false → IsAllowed b
+  word_fails w b piece is f = fails_and b (is_word (chars w)) (fits l w) is f ∙ allows-only (passes is_word l) s w piece
+
+  pub no_word : is_word [] ≡ false → ((v w : List ℕ) → is_word (v ++ 32 ∷ w) ≡ false) → IsUtf8 s → None ≡ only (pieces s) → IsAllowed false
+  no_word nil spaced utf8 none =
+      allows-other (passes is_word l) s
+      (and_left (is_word (chars [])) (fits l []) (ap is_word chars_none ∙ nil))
+      (λ v w u. and_left (is_word (chars (v ++ 32 ∷ w))) (fits l (v ++ 32 ∷ w)) (ap is_word (chars-spaced v w u) ∙ spaced (chars v) (chars w)))
+      utf8 none
+
+-- no NCName and no NMTOKEN has a space
+pub ncname_space : (v w : List ℕ) → is_ncname (v ++ 32 ∷ w) ≡ false
 ncname_space [] w = refl
 ncname_space (c ∷ v) w = and_right _ _ (all_fails (λ d. is_name_char d && not (is_colon d)) v w refl)
 
-nmtoken_space : (v w : List ℕ) → is_nmtoken (v ++ 32 ∷ w) ≡ false
+pub nmtoken_space : (v w : List ℕ) → is_nmtoken (v ++ 32 ∷ w) ≡ false
 nmtoken_space [] w = refl
 nmtoken_space (c ∷ v) w = all_fails is_name_char (c ∷ v) w refl
 
-pub ncname_empty : (l : Lengths) → ncname_passes l [] ≡ false
-unfolding chars
-ncname_empty l = refl
-
-pub nmtoken_empty : (l : Lengths) → nmtoken_passes l [] ≡ false
-unfolding chars
-nmtoken_empty l = refl
-
-pub ncname_spaced : (l : Lengths) (v w : List ℕ) → IsUtf8 v → ncname_passes l (v ++ 32 ∷ w) ≡ false
-ncname_spaced l v w utf8 = and_left (is_ncname (chars (v ++ 32 ∷ w))) (fits l (v ++ 32 ∷ w)) (ap is_ncname (chars-spaced v w utf8) ∙ ncname_space (chars v) (chars w))
-
-pub nmtoken_spaced : (l : Lengths) (v w : List ℕ) → IsUtf8 v → nmtoken_passes l (v ++ 32 ∷ w) ≡ false
-nmtoken_spaced l v w utf8 = and_left (is_nmtoken (chars (v ++ 32 ∷ w))) (fits l (v ++ 32 ∷ w)) (ap is_nmtoken (chars-spaced v w utf8) ∙ nmtoken_space (chars v) (chars w))
-
 -- where the first text is allowed, the two are equal if they are one
-texts_equal_by : (x y : List ℕ) (gx gy same : Bool) → gx ≡ true → bytes_eq x y ≡ same → (same ≡ true → gy ≡ true) → bytes_eq x y ≡ are_equal (text_if gx x) (text_if gy y)
+texts_equal_by : (x y : List ℕ) (gx gy same : Bool) → gx ≡ true → bytes_eq x y ≡ same → (same ≡ true → gy ≡ true)
+    → bytes_eq x y ≡ are_equal (text_if gx x) (text_if gy y)
 texts_equal_by x y false gy same e is more = search rules
 texts_equal_by x y true true same e is more = refl
 texts_equal_by x y true false true e is more = absurd (true≢false (sym (more refl)))
 texts_equal_by x y true false false e is more = is
 
-pub texts_equal : (good : List ℕ → Bool) (x y : List ℕ) → is_some (text_if (good x) x) ≡ true → bytes_eq x y ≡ are_equal (text_if (good x) x) (text_if (good y) y)
+pub texts_equal : (good : List ℕ → Bool) (x y : List ℕ) → is_some (text_if (good x) x) ≡ true
+    → bytes_eq x y ≡ are_equal (text_if (good x) x) (text_if (good y) y)
 texts_equal good x y allowed =
     let passes : good x ≡ true = sym (is_some-text_if (good x) x) ∙ allowed in
     texts_equal_by x y (good x) (good y) (bytes_eq x y) passes refl (λ e. ap good (sym ((bytes_eq-Decides x y).0 e)) ∙ passes)

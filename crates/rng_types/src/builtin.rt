@@ -12,7 +12,7 @@ use crate::texts::{NcName, NmToken, XsdString, XsdToken};
 use crate::values::{Boolean, Integer};
 
 /// A datatype of one of the two libraries, with its parameters.
-#[derive(Clone, Copy, Debug, PartialEq, Eq)]
+#[derive(Clone, Copy, Debug)]
 pub enum Builtin {
     PlainString(PlainString),
     PlainToken(PlainToken),
@@ -25,7 +25,7 @@ pub enum Builtin {
 }
 
 /// Why there is no datatype of some library, name and parameters.
-#[derive(Clone, Copy, Debug, PartialEq, Eq)]
+#[derive(Clone, Copy, Debug)]
 pub enum TypeFault {
     /// There is no library of that uri.
     UnknownLibrary,

@@ -5,7 +5,7 @@ ghost use Rattle.rng_types.specs.Lengths.{is_at_least, is_at_most, is_within};
 /// The least and the greatest number of characters of a text, where there is one.
 ///
 /// XML Schema Part 2, sections 4.3.2 and 4.3.3. A least one above the greatest allows nothing.
-#[derive(Clone, Copy, Debug, PartialEq, Eq)]
+#[derive(Clone, Copy, Debug)]
 pub struct Lengths {
     pub min: Option<usize>,
     pub max: Option<usize>,

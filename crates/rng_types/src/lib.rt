@@ -11,8 +11,6 @@ mod lengths;
 mod numerals;
 mod parameters;
 mod plain;
-#[cfg(test)]
-mod tests;
 mod texts;
 mod values;
 

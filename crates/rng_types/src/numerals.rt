@@ -17,7 +17,7 @@ const MOST_LENGTH_DIGITS: usize = 9;
 /// The least and the greatest integer, where there is one. Both are inclusive.
 ///
 /// XML Schema Part 2, sections 4.3.7 and 4.3.10. A least one above the greatest allows nothing.
-#[derive(Clone, Copy, Debug, PartialEq, Eq)]
+#[derive(Clone, Copy, Debug)]
 pub struct Bounds {
     pub min: Option<i128>,
     pub max: Option<i128>,

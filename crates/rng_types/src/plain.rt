@@ -10,7 +10,7 @@ use crate::datatype::Datatype;
 /// `string` of the library that is built in: every text, and each is equal to itself alone.
 ///
 /// RELAX NG Specification, section 6.2.9.
-#[derive(Clone, Copy, Debug, PartialEq, Eq)]
+#[derive(Clone, Copy, Debug)]
 pub struct PlainString;
 
 impl Datatype for PlainString {
@@ -38,7 +38,7 @@ impl Datatype for PlainString {
 /// `token` of the library that is built in: every text, and texts are equal that collapse to the same.
 ///
 /// RELAX NG Specification, section 6.2.9.
-#[derive(Clone, Copy, Debug, PartialEq, Eq)]
+#[derive(Clone, Copy, Debug)]
 pub struct PlainToken;
 
 impl Datatype for PlainToken {

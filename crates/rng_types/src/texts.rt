@@ -14,7 +14,7 @@ use rng_model::{is_name_char, is_ncname};
 /// `string`: every text whose characters are as many as allowed, and each is equal to itself alone.
 ///
 /// XML Schema Part 2, section 3.2.1.
-#[derive(Clone, Copy, Debug, PartialEq, Eq)]
+#[derive(Clone, Copy, Debug)]
 pub struct XsdString {
     pub lengths: Lengths,
 }
@@ -45,7 +45,7 @@ impl Datatype for XsdString {
 /// to the same.
 ///
 /// XML Schema Part 2, section 3.3.2.
-#[derive(Clone, Copy, Debug, PartialEq, Eq)]
+#[derive(Clone, Copy, Debug)]
 pub struct XsdToken {
     pub lengths: Lengths,
 }
@@ -76,7 +76,7 @@ impl Datatype for XsdToken {
 /// that collapse to the same.
 ///
 /// XML Schema Part 2, section 3.3.7.
-#[derive(Clone, Copy, Debug, PartialEq, Eq)]
+#[derive(Clone, Copy, Debug)]
 pub struct NcName {
     pub lengths: Lengths,
 }
@@ -110,7 +110,7 @@ impl Datatype for NcName {
 /// collapse to the same.
 ///
 /// XML Schema Part 2, section 3.3.4.
-#[derive(Clone, Copy, Debug, PartialEq, Eq)]
+#[derive(Clone, Copy, Debug)]
 pub struct NmToken {
     pub lengths: Lengths,
 }

@@ -10,7 +10,7 @@ use crate::numerals::{Bounds, integer, truth};
 /// `boolean`: `true` and `1`, which are equal, and `false` and `0`, which are equal, with blanks around them or not.
 ///
 /// XML Schema Part 2, section 3.2.2.
-#[derive(Clone, Copy, Debug, PartialEq, Eq)]
+#[derive(Clone, Copy, Debug)]
 pub struct Boolean;
 
 impl Datatype for Boolean {
@@ -42,7 +42,7 @@ impl Datatype for Boolean {
 /// Texts are equal that write the same number.
 ///
 /// XML Schema Part 2, section 3.3.13, whose numerals have any number of digits.
-#[derive(Clone, Copy, Debug, PartialEq, Eq)]
+#[derive(Clone, Copy, Debug)]
 pub struct Integer {
     pub bounds: Bounds,
 }

@@ -14,7 +14,9 @@ returns-in_default-Name c =
     let n = c.in_default-Name.name in
     let is = name_class_is _ n c.in_default-Name.is-1 in
     record {
-      common = λ told. swapped _ _ (plain_common _ (name_of n) (class_of c.args.b.now) (class_of c.args.a.now) (are_texts n) is c.contains-in_default-Name.ensures told);
-      apart = λ denied q in_a in_b. plain_apart _ (name_of n) (class_of c.args.b.now) (class_of c.args.a.now) is c.contains-in_default-Name.ensures denied q in_b in_a;
+      common = λ told. swapped _ _
+          (plain_common _ (name_of n) (class_of c.args.b.now) (class_of c.args.a.now) (are_texts n) is c.contains-in_default-Name.ensures told);
+      apart = λ denied q in_a in_b. plain_apart _ (name_of n) (class_of c.args.b.now)
+          (class_of c.args.a.now) is c.contains-in_default-Name.ensures denied q in_b in_a;
       plain = search rules;
     }

@@ -1,12 +1,13 @@
 use Rattle.std.proofs.Common.{sym, ◌∙◌}
 use Rattle.rng_model.specs.Blanks.{collapse}
-use Rattle.rng_types.specs.Lengths.{nmtoken_value}
-use Rattle.rng_types.proofs.TextValues.{texts_equal, never_equal, nmtoken_passes}
+use Rattle.rng_types.specs.Lengths.{is_nmtoken, nmtoken_value}
+use Rattle.rng_types.proofs.TextValues.{texts_equal, never_equal, passes}
 use Rattle.rng_types.proofs.texts.NmTokenDatatype.equal.Goals as goal
 
 pub returns-then-allows : goal.returns-then-allows
 returns-then-allows c =
-    c.is_same_collapsed.ensures ∙ texts_equal (nmtoken_passes c.args.self.now.lengths) (collapse c.args.a.now) (collapse c.args.b.now) (sym c.allows.ensures ∙ c.if-allows.true)
+    c.is_same_collapsed.ensures
+        ∙ texts_equal (passes is_nmtoken c.args.self.now.lengths) (collapse c.args.a.now) (collapse c.args.b.now) (sym c.allows.ensures ∙ c.if-allows.true)
 
 pub returns-else-allows : goal.returns-else-allows
 returns-else-allows c =

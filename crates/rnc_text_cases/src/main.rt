@@ -1,0 +1,44 @@
+//! Prints what `rnc_text` answers for each row of `cases.txt`, a line a row.
+//!
+//! A row is a call and bytes: of `decode` the decoded text is printed, of `cut` the tokens of that text, and of either the
+//! clause that is broken and its place.
+#![tactic(auto)]
+
+use case_rows::rows;
+use rnc_text::{Text, TextFault, read_text, tokens};
+use std::io;
+
+fn main(rt: HostRuntime) -> io::Result<()> {
+    for row in rows(&rt, "cases.txt")? {
+        let call = row.text(0)?;
+        match read_text(rt.alloc(), row.bytes(1)?) {
+            Ok(text) if call == "cut" => print_tokens(&rt, &text)?,
+            Ok(text) => println!(rt; "{text:?}")?,
+            Err(fault) => print_fault(&rt, fault)?,
+        }
+    }
+    Ok(())
+}
+
+/// Prints the tokens of a text in order, each with its kind, its text and its span.
+fn print_tokens(rt: &(impl Print + AllocGlobal), text: &Text) -> io::Result<()> {
+    match tokens(rt.alloc(), text) {
+        Ok(tokens) => {
+            let count = tokens.len();
+            print!(rt; "{count} tokens:")?;
+            for token in tokens {
+                print!(rt; " {:?} {:?} {}..{};", token.kind, token.text, token.start, token.end)?;
+            }
+            println!(rt;)
+        }
+        Err(fault) => print_fault(rt, fault),
+    }
+}
+
+/// Prints a clause and its place.
+fn print_fault(rt: &impl Print, fault: TextFault) -> io::Result<()> {
+    match fault {
+        TextFault::At { clause, place } => println!(rt; "{clause} at {place}"),
+        TextFault::Memory => println!(rt; "out of memory"),
+    }
+}
