@@ -8,7 +8,7 @@ use Rattle.std.proofs.lemmas.Slice.Eq.{bytes_eq-Decides}
 use Rattle.std.proofs.lemmas.Bool.{true≢false, and_right, and_left, and_parts, and_from}
 use Rattle.std.specs.Cmp.Lexicographic.{pointwise}
 use Rattle.rng_model.specs.Blanks.{pieces, collapse}
-use Rattle.rng_model.proofs.BlankLemmas.{pieces-collapse, pieces_fit, spaced_length, IsUtf8-pieces}
+use Rattle.rng_model.proofs.Runs.{pieces-collapse, pieces_fit, spaced_length, IsUtf8-pieces}
 use Rattle.rng_types.specs.Pieces.{only}
 
 some_is : {A : Type 0} (x y : A) → Some x ≡ Some y → x ≡ y
