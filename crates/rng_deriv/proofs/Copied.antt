@@ -9,15 +9,16 @@ use Rattle.rng_model.specs.Table.{Table, AreChildrenBelow, tree_at}
 use Rattle.rng_model.specs.declared.simple.PatternId.{PatternId}
 use Rattle.rng_model.specs.declared.simple.Simple.{Simple}
 use Rattle.rng_model.specs.declared.simple.Simple.TheVariants as simple
-use Rattle.rng_deriv.specs.Residual.{Longer, attribute_found, node_for, shape, tree_of}
-use Rattle.rng_deriv.specs.declared.residual.Residual.{Residual}
-use Rattle.rng_deriv.proofs.Trees.{tree_stays}
+use Rattle.rng_deriv.specs.PatternTable.{Longer, attribute_found, node_for, shape, tree_of}
+use Rattle.rng_deriv.specs.declared.pattern_table.TableEntry.{TableEntry}
+use Rattle.rng_deriv.proofs.PatternTable.{tree_stays}
 
 -- the trees of the patterns so far are those of the grammar
-abbrev pub Agrees : Table → List Residual → ℕ → Type 0
+abbrev pub Agrees : Table → List TableEntry → ℕ → Type 0
 Agrees t rs n = (i : ℕ) → i < n → tree_of t rs i ≡ tree_at t.patterns (record { 0 = i })
 
-node_tree : (t : Table) (rs : List Residual) (p : Simple) (position : PatternId) → slice_get t.patterns position.0 ≡ Some p → AreChildrenBelow position.0 p → Agrees t rs position.0 → shape t (tree_of t rs) (node_for p position) ≡ table.shape (tree_at t.patterns) p
+node_tree : (t : Table) (rs : List TableEntry) (p : Simple) (position : PatternId) → slice_get t.patterns position.0 ≡ Some p → AreChildrenBelow position.0 p
+    → Agrees t rs position.0 → shape t (tree_of t rs) (node_for p position) ≡ table.shape (tree_at t.patterns) p
 node_tree t rs simple.NotAllowed position found below agrees = refl
 node_tree t rs simple.Empty position found below agrees = refl
 node_tree t rs simple.Text position found below agrees = refl
@@ -27,7 +28,9 @@ node_tree t rs (simple.Group a b) position found below agrees = ap₂ (tree.s_jo
 node_tree t rs (simple.Choice a b) position found below agrees = ap₂ (tree.s_joined choice) (agrees a.0 below.0) (agrees b.0 below.1)
 
 -- one more pattern of the grammar
-pub agrees_more : (t : Table) (rs ss : List Residual) (p : Simple) (position : PatternId) → position.0 ≡ length rs → length ss ≡ length rs + 1 → Longer rs ss → slice_get t.patterns position.0 ≡ Some p → AreChildrenBelow position.0 p → tree_at t.patterns position ≡ table.shape (tree_at t.patterns) p → tree_of t ss (length rs) ≡ shape t (tree_of t rs) (node_for p position) → Agrees t rs (length rs) → Agrees t ss (length ss)
+pub agrees_more : (t : Table) (rs ss : List TableEntry) (p : Simple) (position : PatternId) → position.0 ≡ length rs → length ss ≡ length rs + 1 → Longer rs ss
+    → slice_get t.patterns position.0 ≡ Some p → AreChildrenBelow position.0 p → tree_at t.patterns position ≡ table.shape (tree_at t.patterns) p
+    → tree_of t ss (length rs) ≡ shape t (tree_of t rs) (node_for p position) → Agrees t rs (length rs) → Agrees t ss (length ss)
 agrees_more t rs ss p position at long longer found below is_shape pushed agrees = λ i h. ⊎_elim
     (λ less. tree_stays t rs ss i longer less ∙ agrees i less)
     (λ past.

@@ -7,11 +7,11 @@ use Rattle.rng_model.specs.Table.{Table, tree_at}
 use Rattle.rng_model.specs.declared.simple.PatternId.{PatternId}
 use Rattle.rng_model.specs.declared.simple.Simple.{Simple}
 use Rattle.rng_model.specs.declared.simple.Simple.TheVariants as simple
-use Rattle.rng_deriv.specs.Plain.{IsDerivable}
-use Rattle.rng_deriv.specs.Residual.{attribute_found, shape, tree_in, tree_of, trees, with_tree}
-use Rattle.rng_deriv.specs.declared.residual.Node.{Node}
-use Rattle.rng_deriv.specs.declared.residual.Node.TheVariants as node
-use Rattle.rng_deriv.specs.declared.residual.Residual.{Residual}
+use Rattle.rng_deriv.specs.Acceptance.{IsDerivable}
+use Rattle.rng_deriv.specs.PatternTable.{attribute_found, shape, tree_in, tree_of, trees, with_tree}
+use Rattle.rng_deriv.specs.declared.pattern_table.Node.{Node}
+use Rattle.rng_deriv.specs.declared.pattern_table.Node.TheVariants as node
+use Rattle.rng_deriv.specs.declared.pattern_table.TableEntry.{TableEntry}
 
 -- each tree of the list is, and so is what stands past its end
 abbrev AllDerivable : List (tree.Simple ℕ) → Type 0
@@ -46,7 +46,7 @@ pub grammar_derivable : (t : Table) (id : PatternId) → IsDerivable (tree_at t.
 unfolding table.trees
 grammar_derivable t id = table_from [] t.patterns none_derivable id.0
 
--- ---- of residuals
+-- ---- of the patterns of a table
 
 found_derivable : (t : Table) (found : Option Simple) → IsDerivable (attribute_found t found)
 found_derivable t None = tt
@@ -67,10 +67,10 @@ shape_derivable t of all (node.Attribute a) = found_derivable t (slice_get t.pat
 shape_derivable t of all (node.Group a b) = (all a, all b)
 shape_derivable t of all (node.Choice a b) = (all a, all b)
 
-residual_from : (t : Table) (ts : List (tree.Simple ℕ)) (rs : List Residual) → AllDerivable ts → AllDerivable (fold (with_tree t) ts rs)
-residual_from t ts [] all = all
-residual_from t ts (r ∷ rs) all = residual_from t (with_tree t ts r) rs (derivable_push ts _ all (shape_derivable t (tree_in ts) all r.node))
+entry_from : (t : Table) (ts : List (tree.Simple ℕ)) (rs : List TableEntry) → AllDerivable ts → AllDerivable (fold (with_tree t) ts rs)
+entry_from t ts [] all = all
+entry_from t ts (r ∷ rs) all = entry_from t (with_tree t ts r) rs (derivable_push ts _ all (shape_derivable t (tree_in ts) all r.node))
 
-pub residual_derivable : (t : Table) (rs : List Residual) (number : ℕ) → IsDerivable (tree_of t rs number)
+pub entry_derivable : (t : Table) (rs : List TableEntry) (number : ℕ) → IsDerivable (tree_of t rs number)
 unfolding trees
-residual_derivable t rs number = residual_from t [] rs none_derivable number
+entry_derivable t rs number = entry_from t [] rs none_derivable number

@@ -1,6 +1,7 @@
 -- The table of local names lists each element, one after another.
-use Rattle.std.proofs.Common.{◌≡◌, ℕ, ◌+◌, ◌<◌, ◌≤◌, ⊎_elim, List, [], ◌∷◌, ◌++◌, length, slice_get, Option, Some, None, Bool, true, false, cond, ◌||◌, nat_eq, refl, ap, sym, ◌∙◌, arith, rules, subst, Bor, Vec, Global}
-use Rattle.std.proofs.lemmas.Bool.{cases_lt, eq-eqb}
+use Rattle.std.proofs.Common.{◌≡◌, ℕ, ◌+◌, ◌<◌, ◌≤◌, ⊎_elim, List, [], ◌∷◌, ◌++◌, length, slice_get, Option, Some, None, Bool, true, false, cond, ◌||◌, nat_eq}
+use Rattle.std.proofs.Common.{refl, ap, sym, ◌∙◌, arith, rules, subst, Bor, Vec, Global}
+use Rattle.std.proofs.lemmas.Bool.{cases_lt, eq-eqb, or_left, or_right}
 use Rattle.std.proofs.lemmas.List.Folds.{list_any-append}
 use Rattle.std.proofs.lemmas.Option.{slice_get_within}
 use Rattle.std.specs.HashMap.{HashMap}
@@ -18,18 +19,12 @@ use Rattle.rng_deriv.specs.Named.{ListsFirst, candidates, has_number, is_same_pl
 use Rattle.rng_deriv.specs.declared.names.ElementNames.{ElementNames}
 use Rattle.rng_deriv.proofs.Copied.{past_from_none}
 
-either_left : (a b : Bool) → a ≡ true → a || b ≡ true
-either_left a b d = rw d refl
-
-either_right : (a b : Bool) → b ≡ true → a || b ≡ true
-either_right true b d = refl
-either_right false b d = d
-
 pub has_front : (xs ys : List ℕ) (k : ℕ) → has_number xs k ≡ true → has_number (xs ++ ys) k ≡ true
-has_front xs ys k h = list_any-append (λ x. nat_eq k x) xs ys ∙ either_left (has_number xs k) (has_number ys k) h
+has_front xs ys k h = list_any-append (λ x. nat_eq k x) xs ys ∙ or_left (has_number xs k) (has_number ys k) h
 
 pub has_last : (xs : List ℕ) (k : ℕ) → has_number (xs ++ k ∷ []) k ≡ true
-has_last xs k = list_any-append (λ x. nat_eq k x) xs (k ∷ []) ∙ either_right (has_number xs k) (has_number (k ∷ []) k) (either_left (nat_eq k k) false (eq-eqb k k refl))
+has_last xs k = list_any-append (λ x. nat_eq k x) xs (k ∷ [])
+    ∙ or_right (has_number xs k) (has_number (k ∷ []) k) (or_left (nat_eq k k) false (eq-eqb k k refl))
 
 bytes_eq-same : (xs : List ℕ) → bytes_eq xs xs ≡ true
 bytes_eq-same [] = refl
@@ -41,7 +36,7 @@ kept_old false xs n k h = h
 
 -- what a list has, it has with more after it or before it
 pub has_back : (xs ys : List ℕ) (k : ℕ) → has_number ys k ≡ true → has_number (xs ++ ys) k ≡ true
-has_back xs ys k h = list_any-append (λ x. nat_eq k x) xs ys ∙ either_right (has_number xs k) (has_number ys k) h
+has_back xs ys k h = list_any-append (λ x. nat_eq k x) xs ys ∙ or_right (has_number xs k) (has_number ys k) h
 
 -- a place is the same as itself
 same_itself : (o : Option (List ℕ)) → is_same_place o o ≡ true
@@ -61,7 +56,8 @@ lists_more t old new n e lists found grown = λ k f less at. ⊎_elim
     let same : f ≡ e = cc in
     let o = local_of e.0 in
     let put : new o ≡ old o ++ n ∷ [] = grown o ∙ ap (λ b. cond b (old o ++ n ∷ []) (old o)) (same_itself o) in
-    ap (λ (x : NameClass × PatternId). has_number (new (local_of x.0)) k) same ∙ ap (λ j. has_number (new o) j) here ∙ ap (λ xs. has_number xs n) put ∙ has_last (old o) n)
+    ap (λ (x : NameClass × PatternId). has_number (new (local_of x.0)) k) same ∙ ap (λ j. has_number (new o) j) here ∙ ap (λ xs. has_number xs n) put
+    ∙ has_last (old o) n)
     (cases_lt k n)
 
 -- a number more under a local name
@@ -97,7 +93,8 @@ pub lists_fewer : (t : Table) (place : Option (List ℕ) → List ℕ) (n m : �
 lists_fewer t place n m lists fewer = λ k f less at. lists k f (omega arith) at
 
 -- an element that stands at the place of its class is a candidate for each name that the class holds
-pub held_candidate : (table : ElementNames) (c : NameClass) (q : names.Name) (k : ℕ) → In (class_of c) q → has_number (place_of table.by_local table.others.items (local_of c)) k ≡ true → has_number (candidates table q.local) k ≡ true
+pub held_candidate : (table : ElementNames) (c : NameClass) (q : names.Name) (k : ℕ) → In (class_of c) q
+    → has_number (place_of table.by_local table.others.items (local_of c)) k ≡ true → has_number (candidates table q.local) k ≡ true
 held_candidate table (classes.Name only) q k i h =
     let view : class_of (Name only) ≡ names.name_is (name_of only) = search (rules, the_lemmas) in
     let e : q ≡ name_of only = subst (λ c. In c q) view i in

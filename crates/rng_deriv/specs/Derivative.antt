@@ -7,11 +7,11 @@ use Rattle.rng_model.specs.Document.{Item, a_text}
 use Rattle.rng_model.specs.View.{attribute_of}
 use Rattle.rng_model.specs.Table.{Table, Grammar, grammar_of}
 use Rattle.rng_model.specs.Texts.{TextTests}
-use Rattle.rng_deriv.specs.Plain.{IsOf, IsAfterItem, IsAfterAttribute, has_element}
-use Rattle.rng_deriv.specs.Residual.{AreSidesBelow, shape, tree_of}
-use Rattle.rng_deriv.specs.declared.residual.Node.{Node}
-use Rattle.rng_deriv.specs.declared.residual.Node.TheVariants as node
-use Rattle.rng_deriv.specs.declared.residual.Residual.{Residual}
+use Rattle.rng_deriv.specs.Acceptance.{IsOf, IsAfterItem, IsAfterAttribute, has_element}
+use Rattle.rng_deriv.specs.PatternTable.{AreSidesBelow, shape, tree_of}
+use Rattle.rng_deriv.specs.declared.pattern_table.Node.{Node}
+use Rattle.rng_deriv.specs.declared.pattern_table.Node.TheVariants as node
+use Rattle.rng_deriv.specs.declared.pattern_table.TableEntry.{TableEntry}
 use Rattle.rng_deriv.specs.declared.derivative.Symbol.{Symbol}
 use Rattle.rng_deriv.specs.declared.derivative.Symbol.TheVariants as symbol
 
@@ -32,23 +32,24 @@ first_side (node.Group a b) = Some a
 first_side (node.Choice a b) = Some a
 
 -- the pattern at parent is a group or a choice with this first side
-pub record IsFirstSide (rs : List Residual) (parent first : ℕ) : Type 0 where
-  pub residual : Residual
-  pub found : slice_get rs parent ≡ Some residual
-  pub side : first_side residual.node ≡ Some first
+pub record IsFirstSide (rs : List TableEntry) (parent first : ℕ) : Type 0 where
+  pub entry : TableEntry
+  pub found : slice_get rs parent ≡ Some entry
+  pub side : first_side entry.node ≡ Some first
   pub below : first < parent
 
 -- the groups and choices from a pattern down along first sides, and the first side of the last
-pub data IsSpine (rs : List Residual) (top : ℕ) : List ℕ → ℕ → Type 0 where
-  at_top : IsSpine rs top [] top
-  further : {parents all : List ℕ} {parent first : ℕ} → IsSpine rs top parents parent → IsFirstSide rs parent first → all ≡ parents ++ parent ∷ [] → IsSpine rs top all first
+pub data AreFirstSides (rs : List TableEntry) (top : ℕ) : List ℕ → ℕ → Type 0 where
+  at_top : AreFirstSides rs top [] top
+  further : {parents all : List ℕ} {parent first : ℕ} → AreFirstSides rs top parents parent → IsFirstSide rs parent first → all ≡ parents ++ parent ∷ []
+      → AreFirstSides rs top all first
 
 -- the pattern has no first side
-abbrev pub IsLeaf : List Residual → ℕ → Type 0
-IsLeaf rs number = (r : Residual) → slice_get rs number ≡ Some r → first_side r.node ≡ None
+abbrev pub IsLeaf : List TableEntry → ℕ → Type 0
+IsLeaf rs number = (r : TableEntry) → slice_get rs number ≡ Some r → first_side r.node ≡ None
 
 -- the pattern has no first side, or a known derivative
-abbrev pub IsBottom : {Z : Type 0} → List Residual → HashMap ℕ ℕ Z → ℕ → Type 0
+abbrev pub IsBottom : {Z : Type 0} → List TableEntry → HashMap ℕ ℕ Z → ℕ → Type 0
 IsBottom rs memo number = get nat_eq memo number ≡ None → IsLeaf rs number
 
 -- the set has the elements of the grammar that the item matches, of those that the program can number
@@ -69,23 +70,23 @@ IsDerivative g (symbol.Text s) p q = (tests : TextTests) → IsAfterItem g tests
 IsDerivative g (symbol.Element elements) p q = (n : Item) → HasItsElements g elements n → (tests : TextTests) → IsAfterItem g tests n p q
 
 -- left is the derivative of the pattern of this number by the symbol
-pub record IsAfter (t : Table) (rs : List Residual) (s : Symbol) (number left : ℕ) : Type 0 where
+pub record IsAfter (t : Table) (rs : List TableEntry) (s : Symbol) (number left : ℕ) : Type 0 where
   pub inside : number < length rs
   pub left_inside : left < length rs
   pub is : IsDerivative (grammar_of t) s (tree_of t rs number) (tree_of t rs left)
 
 -- each derivative that is kept is one
-abbrev pub Knows : {Z : Type 0} → Table → List Residual → Symbol → HashMap ℕ ℕ Z → Type 0
+abbrev pub Knows : {Z : Type 0} → Table → List TableEntry → Symbol → HashMap ℕ ℕ Z → Type 0
 Knows t rs s memo = (number left : ℕ) → get nat_eq memo number ≡ Some left → IsAfter t rs s number left
 
 -- the first side of a group or a choice has this derivative
-pub record IsFirstAfter (t : Table) (rs : List Residual) (s : Symbol) (parent left : ℕ) : Type 0 where
+pub record IsFirstAfter (t : Table) (rs : List TableEntry) (s : Symbol) (parent left : ℕ) : Type 0 where
   pub first : ℕ
   pub side : IsFirstSide rs parent first
   pub after : IsAfter t rs s first left
 
 -- the node is what is left of the leaf of this number after the symbol
-pub record IsLeftOfLeaf (t : Table) (rs : List Residual) (s : Symbol) (number : ℕ) (n : Node) : Type 0 where
+pub record IsLeftOfLeaf (t : Table) (rs : List TableEntry) (s : Symbol) (number : ℕ) (n : Node) : Type 0 where
   pub left : tree.Simple ℕ
   pub tree : (of : ℕ → tree.Simple ℕ) → shape t of n ≡ left
   pub below : (k : ℕ) → AreSidesBelow k n

@@ -1,6 +1,6 @@
 pub mod WellFormed
-pub mod Plain
-pub mod Residual
+pub mod Acceptance
+pub mod PatternTable
 pub mod Derivative
 pub mod Named
-pub mod Taken
+pub mod Content

@@ -1,5 +1,5 @@
 -- Documents as the reader of a document gives them.
-use Rattle.std.specs.Prelude.{◌≢◌, ℕ, List, [], ◌∷◌, Bool, true, false}
+use Rattle.std.specs.Prelude.{◌≢◌, ℕ, List, [], ◌∷◌}
 use Rattle.rng_model.specs.Names as names
 use Rattle.rng_model.specs.Document.{Attribute, Item, a_text, an_element, Items, no_items, item_and, list_of}
 use Rattle.rng_model.specs.Pyx.{Distinct}
@@ -9,7 +9,8 @@ pub data Separate : List Item → Type 0 where
   nothing : Separate []
   string : {s : List ℕ} → Separate (a_text s ∷ [])
   element : {q : names.Name} {xs : List Attribute} {kids : Items} {ns : List Item} → Separate ns → Separate (an_element q xs kids ∷ ns)
-  string_element : {s : List ℕ} {q : names.Name} {xs : List Attribute} {kids : Items} {ns : List Item} → Separate ns → Separate (a_text s ∷ an_element q xs kids ∷ ns)
+  string_element : {s : List ℕ} {q : names.Name} {xs : List Attribute} {kids : Items} {ns : List Item} → Separate ns
+      → Separate (a_text s ∷ an_element q xs kids ∷ ns)
 
 -- in each element the attributes have distinct names, no string is empty, and no two strings stand side by side
 -- (RELAX NG Specification, section 2; XML 1.0, section 3.1)
@@ -21,12 +22,3 @@ abbrev mutual
   pub AreWellFormed : Items → Type 0
   AreWellFormed no_items = Unit {0}
   AreWellFormed (item_and n ns) = IsWellFormed n × AreWellFormed ns
-
-abbrev pub is_text : Item → Bool
-is_text (a_text s) = true
-is_text (an_element q xs kids) = false
-
--- no two strings stand side by side, nor one behind a string before the list
-abbrev pub StaysSeparate : Bool → List Item → Type 0
-StaysSeparate false ns = Separate ns
-StaysSeparate true ns = (s : List ℕ) → Separate (a_text s ∷ ns)

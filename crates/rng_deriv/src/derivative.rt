@@ -4,12 +4,12 @@ ghost use Rattle.rng_model.specs.Table.{grammar_of};
 ghost use Rattle.rng_model.specs.Tree.{s_empty, s_not_allowed};
 ghost use Rattle.rng_model.specs.View.{attribute_of, class_of, name_of};
 ghost use Rattle.rng_model.specs.Texts.{TextTests, is_blank};
-ghost use Rattle.rng_deriv.specs.Plain.{IsAfterAttribute, TakesText};
-ghost use Rattle.rng_deriv.specs.Residual.{AreCopied, Longer, attribute_found, tree_of};
-ghost use Rattle.rng_deriv.specs.Derivative.{IsAfter, IsBottom, IsFirstAfter, IsFirstSide, IsLeaf, IsLeftOfLeaf, IsSpine, Knows};
+ghost use Rattle.rng_deriv.specs.Acceptance.{IsAfterAttribute, TakesText};
+ghost use Rattle.rng_deriv.specs.PatternTable.{AreCopied, Longer, attribute_found, tree_of};
+ghost use Rattle.rng_deriv.specs.Derivative.{IsAfter, IsBottom, IsFirstAfter, IsFirstSide, IsLeaf, IsLeftOfLeaf, AreFirstSides, Knows};
 
 use crate::names::is_blank;
-use crate::residual::{Node, Residuals};
+use crate::pattern_table::{Node, PatternTable};
 use rng_model::{Attr, OutOfMemory, PatternId, Simple, SimpleGrammar};
 use rng_names::contains;
 use std::alloc::Global;
@@ -31,22 +31,22 @@ pub type Memo = HashMap<usize, usize>;
 pub fn after(
     alloc: Global,
     grammar: &SimpleGrammar,
-    residuals: &mut Residuals,
+    table: &mut PatternTable,
     symbol: &Symbol,
     memo: &mut Memo,
     number: usize,
 ) -> Result<usize, OutOfMemory>
-    requires inside { number < length residuals.old }
-    requires copied { AreCopied grammar.now residuals.old }
-    requires known { Knows grammar.now residuals.old symbol.now memo.old }
-    ensures longer { OnOk result (Longer residuals.old residuals.new) }
-    ensures known { OnOk result (Knows grammar.now residuals.new symbol.now memo.new) }
-    ensures after { IfOk result (IsAfter grammar.now residuals.new symbol.now number) }
+    requires inside { number < length table.old }
+    requires copied { AreCopied grammar.now table.old }
+    requires known { Knows grammar.now table.old symbol.now memo.old }
+    ensures longer { OnOk result (Longer table.old table.new) }
+    ensures known { OnOk result (Knows grammar.now table.new symbol.now memo.new) }
+    ensures after { IfOk result (IsAfter grammar.now table.new symbol.now number) }
 {
-    let (mut parents, bottom) = spine(alloc, residuals, memo, number)?;
-    let mut left = after_bottom(alloc, grammar, residuals, symbol, memo, bottom)?;
+    let (mut parents, bottom) = first_sides(alloc, table, memo, number)?;
+    let mut left = after_bottom(alloc, grammar, table, symbol, memo, bottom)?;
     'parents: while let Some(parent) = parents.pop() {
-        left = after_parent(alloc, grammar, residuals, symbol, memo, parent, left)?;
+        left = after_parent(alloc, grammar, table, symbol, memo, parent, left)?;
         memo.insert(parent, left)?;
     }
     Ok(left)
@@ -54,19 +54,19 @@ pub fn after(
 
 /// The groups and choices from a pattern down along first sides, and the first side of the last of them, which is no
 /// group or choice or has a known derivative.
-fn spine(
+fn first_sides(
     alloc: Global,
-    residuals: &Residuals,
+    table: &PatternTable,
     memo: &Memo,
     number: usize,
 ) -> Result<(Vec<usize>, usize), OutOfMemory>
-    requires { number < length residuals.now }
-    ensures spine { IfOk result (λ s. IsSpine residuals.now number s.0.items s.1) }
-    ensures bottom { IfOk result (λ s. IsBottom residuals.now memo.now s.1) }
+    requires { number < length table.now }
+    ensures first_sides { IfOk result (λ s. AreFirstSides table.now number s.0.items s.1) }
+    ensures bottom { IfOk result (λ s. IsBottom table.now memo.now s.1) }
 {
     let mut parents = Vec::new(alloc);
     let mut bottom = number;
-    'sides: while let Some(first) = unknown_first(residuals, memo, bottom) {
+    'sides: while let Some(first) = unknown_first(table, memo, bottom) {
         parents.push(bottom)?;
         bottom = first;
     }
@@ -74,14 +74,14 @@ fn spine(
 }
 
 /// The first side of a pattern without a known derivative.
-fn unknown_first(residuals: &Residuals, memo: &Memo, number: usize) -> Option<usize>
-    requires { number < length residuals.now }
-    ensures { MatchOption result (IsBottom residuals.now memo.now number) (IsFirstSide residuals.now number) }
+fn unknown_first(table: &PatternTable, memo: &Memo, number: usize) -> Option<usize>
+    requires { number < length table.now }
+    ensures { MatchOption result (IsBottom table.now memo.now number) (IsFirstSide table.now number) }
 {
     if memo.contains_key(&number) {
         return None;
     }
-    match residuals.at(number).node {
+    match table.at(number).node {
         Node::Group(first, _) | Node::Choice(first, _) => Some(first),
         _ => None,
     }
@@ -92,23 +92,23 @@ fn unknown_first(residuals: &Residuals, memo: &Memo, number: usize) -> Option<us
 fn after_bottom(
     alloc: Global,
     grammar: &SimpleGrammar,
-    residuals: &mut Residuals,
+    table: &mut PatternTable,
     symbol: &Symbol,
     memo: &mut Memo,
     number: usize,
 ) -> Result<usize, OutOfMemory>
-    requires inside { number < length residuals.old }
-    requires copied { AreCopied grammar.now residuals.old }
-    requires known { Knows grammar.now residuals.old symbol.now memo.old }
-    requires bottom { IsBottom residuals.old memo.old number }
-    ensures longer { OnOk result (Longer residuals.old residuals.new) }
-    ensures known { OnOk result (Knows grammar.now residuals.new symbol.now memo.new) }
-    ensures after { IfOk result (IsAfter grammar.now residuals.new symbol.now number) }
+    requires inside { number < length table.old }
+    requires copied { AreCopied grammar.now table.old }
+    requires known { Knows grammar.now table.old symbol.now memo.old }
+    requires bottom { IsBottom table.old memo.old number }
+    ensures longer { OnOk result (Longer table.old table.new) }
+    ensures known { OnOk result (Knows grammar.now table.new symbol.now memo.new) }
+    ensures after { IfOk result (IsAfter grammar.now table.new symbol.now number) }
 {
     if let Some(left) = memo.get(&number) {
         return Ok(*left);
     }
-    let left = after_leaf(alloc, grammar, residuals, symbol, number)?;
+    let left = after_leaf(alloc, grammar, table, symbol, number)?;
     memo.insert(number, left)?;
     Ok(left)
 }
@@ -118,38 +118,38 @@ fn after_bottom(
 fn after_parent(
     alloc: Global,
     grammar: &SimpleGrammar,
-    residuals: &mut Residuals,
+    table: &mut PatternTable,
     symbol: &Symbol,
     memo: &mut Memo,
     parent: usize,
     left: usize,
 ) -> Result<usize, OutOfMemory>
-    requires first { IsFirstAfter grammar.now residuals.old symbol.now parent left }
-    requires copied { AreCopied grammar.now residuals.old }
-    requires known { Knows grammar.now residuals.old symbol.now memo.old }
-    ensures longer { OnOk result (Longer residuals.old residuals.new) }
-    ensures known { OnOk result (Knows grammar.now residuals.new symbol.now memo.new) }
-    ensures after { IfOk result (IsAfter grammar.now residuals.new symbol.now parent) }
+    requires first { IsFirstAfter grammar.now table.old symbol.now parent left }
+    requires copied { AreCopied grammar.now table.old }
+    requires known { Knows grammar.now table.old symbol.now memo.old }
+    ensures longer { OnOk result (Longer table.old table.new) }
+    ensures known { OnOk result (Knows grammar.now table.new symbol.now memo.new) }
+    ensures after { IfOk result (IsAfter grammar.now table.new symbol.now parent) }
 {
-    match residuals.at(parent).node {
+    match table.at(parent).node {
         Node::Choice(_, second) => {
-            let right = after(alloc, grammar, residuals, symbol, memo, second)?;
-            let whole = residuals.choice(left, right)?;
+            let right = after(alloc, grammar, table, symbol, memo, second)?;
+            let whole = table.choice(left, right)?;
             Ok(whole)
         }
         Node::Group(first, second) => {
-            let front = residuals.group(left, second)?;
+            let front = table.group(left, second)?;
             if let Symbol::Attribute(_) = symbol {
-                let right = after(alloc, grammar, residuals, symbol, memo, second)?;
-                let back = residuals.group(first, right)?;
-                let whole = residuals.choice(front, back)?;
+                let right = after(alloc, grammar, table, symbol, memo, second)?;
+                let back = table.group(first, right)?;
+                let whole = table.choice(front, back)?;
                 return Ok(whole);
             }
-            if !residuals.at(first).nullable {
+            if !table.at(first).nullable {
                 return Ok(front);
             }
-            let right = after(alloc, grammar, residuals, symbol, memo, second)?;
-            let whole = residuals.choice(front, right)?;
+            let right = after(alloc, grammar, table, symbol, memo, second)?;
+            let whole = table.choice(front, right)?;
             Ok(whole)
         }
         _ => unreachable!(),
@@ -161,18 +161,18 @@ fn after_parent(
 fn after_leaf(
     alloc: Global,
     grammar: &SimpleGrammar,
-    residuals: &mut Residuals,
+    table: &mut PatternTable,
     symbol: &Symbol,
     number: usize,
 ) -> Result<usize, OutOfMemory>
-    requires inside { number < length residuals.old }
-    requires copied { AreCopied grammar.now residuals.old }
-    requires leaf { IsLeaf residuals.old number }
-    ensures longer { OnOk result (Longer residuals.old residuals.new) }
-    ensures after { IfOk result (IsAfter grammar.now residuals.new symbol.now number) }
+    requires inside { number < length table.old }
+    requires copied { AreCopied grammar.now table.old }
+    requires leaf { IsLeaf table.old number }
+    ensures longer { OnOk result (Longer table.old table.new) }
+    ensures after { IfOk result (IsAfter grammar.now table.new symbol.now number) }
 {
-    let node = leaf_after(alloc, grammar, residuals, symbol, number)?;
-    let left = residuals.number_of(node)?;
+    let node = leaf_after(alloc, grammar, table, symbol, number)?;
+    let left = table.number_of(node)?;
     Ok(left)
 }
 
@@ -181,17 +181,17 @@ fn after_leaf(
 fn leaf_after(
     alloc: Global,
     grammar: &SimpleGrammar,
-    residuals: &mut Residuals,
+    table: &mut PatternTable,
     symbol: &Symbol,
     number: usize,
 ) -> Result<Node, OutOfMemory>
-    requires inside { number < length residuals.old }
-    requires copied { AreCopied grammar.now residuals.old }
-    requires leaf { IsLeaf residuals.old number }
-    ensures longer { OnOk result (Longer residuals.old residuals.new) }
-    ensures left { IfOk result (IsLeftOfLeaf grammar.now residuals.old symbol.now number) }
+    requires inside { number < length table.old }
+    requires copied { AreCopied grammar.now table.old }
+    requires leaf { IsLeaf table.old number }
+    ensures longer { OnOk result (Longer table.old table.new) }
+    ensures left { IfOk result (IsLeftOfLeaf grammar.now table.old symbol.now number) }
 {
-    match residuals.at(number).node {
+    match table.at(number).node {
         Node::Text => match symbol {
             Symbol::Text(_) => Ok(Node::Text),
             _ => Ok(Node::NotAllowed),
@@ -202,7 +202,7 @@ fn leaf_after(
         },
         Node::Attribute(pattern) => match symbol {
             Symbol::Attribute(attr) => {
-                let takes = takes_attribute(alloc, grammar, residuals, pattern, attr)?;
+                let takes = takes_attribute(alloc, grammar, table, pattern, attr)?;
                 Ok(empty_if(takes))
             }
             _ => Ok(Node::NotAllowed),
@@ -223,12 +223,12 @@ fn empty_if(takes: bool) -> Node
 fn takes_attribute(
     alloc: Global,
     grammar: &SimpleGrammar,
-    residuals: &mut Residuals,
+    table: &mut PatternTable,
     pattern: PatternId,
     attr: &Attr,
 ) -> Result<bool, OutOfMemory>
-    requires { AreCopied grammar.now residuals.old }
-    ensures longer { OnOk result (Longer residuals.old residuals.new) }
+    requires { AreCopied grammar.now table.old }
+    ensures longer { OnOk result (Longer table.old table.new) }
     ensures left { IfOk result (λ takes. (tests : TextTests) → IsAfterAttribute (grammar_of grammar.now) tests (attribute_of attr.now) (attribute_found grammar.now (slice_get grammar.now.patterns pattern.0)) (if takes then s_empty else s_not_allowed)) }
 {
     match grammar.pattern(pattern) {
@@ -236,7 +236,7 @@ fn takes_attribute(
             if !contains(class, &attr.name) {
                 return Ok(false);
             }
-            takes_text(alloc, grammar, residuals, attr.value.as_str(), body.0)
+            takes_text(alloc, grammar, table, attr.value.as_str(), body.0)
         }
         _ => Ok(false),
     }
@@ -247,20 +247,20 @@ fn takes_attribute(
 pub fn takes_text(
     alloc: Global,
     grammar: &SimpleGrammar,
-    residuals: &mut Residuals,
+    table: &mut PatternTable,
     text: &str,
     number: usize,
 ) -> Result<bool, OutOfMemory>
-    requires inside { number < length residuals.old }
-    requires copied { AreCopied grammar.now residuals.old }
-    ensures longer { OnOk result (Longer residuals.old residuals.new) }
-    ensures takes { IfOk result (λ takes. (tests : TextTests) → IsTrue takes ↔ TakesText (grammar_of grammar.now) tests (tree_of grammar.now residuals.old number) [] text.now) }
+    requires inside { number < length table.old }
+    requires copied { AreCopied grammar.now table.old }
+    ensures longer { OnOk result (Longer table.old table.new) }
+    ensures takes { IfOk result (λ takes. (tests : TextTests) → IsTrue takes ↔ TakesText (grammar_of grammar.now) tests (tree_of grammar.now table.old number) [] text.now) }
 {
     let mut memo = HashMap::new(alloc);
     let symbol = Symbol::Text(text);
-    let left = after(alloc, grammar, residuals, &symbol, &mut memo, number)?;
-    let alone = residuals.at(left).nullable;
-    let empty = residuals.at(number).nullable;
+    let left = after(alloc, grammar, table, &symbol, &mut memo, number)?;
+    let alone = table.at(left).nullable;
+    let empty = table.at(number).nullable;
     Ok(is_taken(alone, empty, text))
 }
 

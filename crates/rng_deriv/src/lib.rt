@@ -7,9 +7,7 @@
 
 mod derivative;
 mod names;
-mod residual;
-#[cfg(test)]
-mod tests;
+mod pattern_table;
 mod valid;
 
 pub use valid::is_valid;

@@ -5,15 +5,15 @@ ghost use Rattle.rng_model.specs.Table.{IsValidBy, grammar_of};
 ghost use Rattle.rng_model.specs.View.{attribute_of, item_of, name_of};
 ghost use Rattle.rng_model.specs.Texts.{TextTests, texts_of};
 ghost use Rattle.rng_deriv.specs.WellFormed.{IsWellFormed};
-ghost use Rattle.rng_deriv.specs.Plain.{is_blank_text, is_element};
-ghost use Rattle.rng_deriv.specs.Residual.{AreCopied, Longer, tree_of};
+ghost use Rattle.rng_deriv.specs.Acceptance.{is_blank_text, is_element};
+ghost use Rattle.rng_deriv.specs.PatternTable.{AreCopied, Longer, tree_of};
 ghost use Rattle.rng_deriv.specs.Derivative.{IsAfter, StandsForItem};
 ghost use Rattle.rng_deriv.specs.Named.{ListsElements};
-ghost use Rattle.rng_deriv.specs.Taken.{AddsNodes, AnswersContent, AnswersNode, AnswersNodes, AnswersPlain, IsAfterAttributes};
+ghost use Rattle.rng_deriv.specs.Content.{AddsNodes, AnswersContent, AnswersNode, AnswersNodes, AnswersItems, IsAfterAttributes};
 
 use crate::derivative::{Symbol, after, takes_text};
 use crate::names::{ElementNames, is_blank};
-use crate::residual::{Residuals, residuals_of};
+use crate::pattern_table::{PatternTable, table_of};
 use rng_model::{Attr, ElementId, Item, Name, OutOfMemory, SimpleGrammar};
 use rng_names::contains;
 use std::alloc::Global;
@@ -32,10 +32,10 @@ pub fn is_valid(alloc: Global, grammar: &SimpleGrammar, root: &Item) -> Result<b
 {
     let start = grammar.start().0;
     let names = ElementNames::new(alloc, grammar)?;
-    let mut residuals = residuals_of(alloc, grammar)?;
-    let symbol = symbol_of(alloc, grammar, &names, &mut residuals, root)?;
-    let left = after_one(alloc, grammar, &mut residuals, &symbol, start)?;
-    Ok(residuals.at(left).nullable)
+    let mut table = table_of(alloc, grammar)?;
+    let symbol = symbol_of(alloc, grammar, &names, &mut table, root)?;
+    let left = after_one(alloc, grammar, &mut table, &symbol, start)?;
+    Ok(table.at(left).nullable)
 }
 
 /// An item as patterns take it: an element by its children, without blank strings where there is an element.
@@ -43,13 +43,13 @@ fn symbol_of<'a>(
     alloc: Global,
     grammar: &SimpleGrammar,
     names: &ElementNames,
-    residuals: &mut Residuals,
+    table: &mut PatternTable,
     item: &'a Item,
 ) -> Result<Symbol<'a>, OutOfMemory>
-    requires copied { AreCopied grammar.now residuals.old }
+    requires copied { AreCopied grammar.now table.old }
     requires names { ListsElements grammar.now names.now }
     requires well_formed { IsWellFormed (item_of item.now) }
-    ensures longer { OnOk result (Longer residuals.old residuals.new) }
+    ensures longer { OnOk result (Longer table.old table.new) }
     ensures stands { IfOk result (λ symbol. StandsForItem (grammar_of grammar.now) symbol (item_of item.now)) }
 {
     match item {
@@ -63,12 +63,12 @@ fn symbol_of<'a>(
             let mut content = Vec::new(alloc);
             'children: for child in children {
                 if !is_dropped(drops_blanks, child) {
-                    content.push(symbol_of(alloc, grammar, names, residuals, child)?)?;
+                    content.push(symbol_of(alloc, grammar, names, table, child)?)?;
                 }
             }
             let attrs = attrs.as_slice();
             let content = content.as_slice();
-            let found = elements_of(alloc, grammar, names, residuals, name, attrs, content)?;
+            let found = elements_of(alloc, grammar, names, table, name, attrs, content)?;
             Ok(Symbol::Element(found))
         }
     }
@@ -103,24 +103,24 @@ fn elements_of(
     alloc: Global,
     grammar: &SimpleGrammar,
     names: &ElementNames,
-    residuals: &mut Residuals,
+    table: &mut PatternTable,
     name: &Name,
     attrs: &[Attr],
     content: &[Symbol],
 ) -> Result<HashSet<usize>, OutOfMemory>
-    requires copied { AreCopied grammar.now residuals.old }
+    requires copied { AreCopied grammar.now table.old }
     requires names { ListsElements grammar.now names.now }
-    ensures longer { OnOk result (Longer residuals.old residuals.new) }
+    ensures longer { OnOk result (Longer table.old table.new) }
     ensures found { IfOk result (AnswersNodes grammar.now (name_of name.now) (map attribute_of attrs.now) content.now) }
 {
     let mut found = HashSet::new(alloc);
     let named = names.named(name);
     add_elements(
-        alloc, grammar, residuals, &mut found, named, name, attrs, content,
+        alloc, grammar, table, &mut found, named, name, attrs, content,
     )?;
     let others = names.others();
     add_elements(
-        alloc, grammar, residuals, &mut found, others, name, attrs, content,
+        alloc, grammar, table, &mut found, others, name, attrs, content,
     )?;
     Ok(found)
 }
@@ -129,19 +129,19 @@ fn elements_of(
 fn add_elements(
     alloc: Global,
     grammar: &SimpleGrammar,
-    residuals: &mut Residuals,
+    table: &mut PatternTable,
     found: &mut HashSet<usize>,
     candidates: &[usize],
     name: &Name,
     attrs: &[Attr],
     content: &[Symbol],
 ) -> Result<(), OutOfMemory>
-    requires { AreCopied grammar.now residuals.old }
-    ensures longer { OnOk result (Longer residuals.old residuals.new) }
+    requires { AreCopied grammar.now table.old }
+    ensures longer { OnOk result (Longer table.old table.new) }
     ensures found { OnOk result (AddsNodes grammar.now (name_of name.now) (map attribute_of attrs.now) content.now candidates.now found.old found.new) }
 {
     'elements: for element in candidates {
-        if takes_element(alloc, grammar, residuals, *element, name, attrs, content)? {
+        if takes_element(alloc, grammar, table, *element, name, attrs, content)? {
             found.insert(*element)?;
         }
     }
@@ -152,14 +152,14 @@ fn add_elements(
 fn takes_element(
     alloc: Global,
     grammar: &SimpleGrammar,
-    residuals: &mut Residuals,
+    table: &mut PatternTable,
     element: usize,
     name: &Name,
     attrs: &[Attr],
     content: &[Symbol],
 ) -> Result<bool, OutOfMemory>
-    requires { AreCopied grammar.now residuals.old }
-    ensures longer { OnOk result (Longer residuals.old residuals.new) }
+    requires { AreCopied grammar.now table.old }
+    ensures longer { OnOk result (Longer table.old table.new) }
     ensures takes { IfOk result (AnswersNode grammar.now element (name_of name.now) (map attribute_of attrs.now) content.now) }
 {
     let Some((class, body)) = grammar.element(ElementId(element)) else {
@@ -168,27 +168,27 @@ fn takes_element(
     if !contains(class, name) {
         return Ok(false);
     }
-    let left = after_attributes(alloc, grammar, residuals, attrs, body.0)?;
-    takes_content(alloc, grammar, residuals, content, left)
+    let left = after_attributes(alloc, grammar, table, attrs, body.0)?;
+    takes_content(alloc, grammar, table, content, left)
 }
 
 /// What is left of a pattern after attributes.
 fn after_attributes(
     alloc: Global,
     grammar: &SimpleGrammar,
-    residuals: &mut Residuals,
+    table: &mut PatternTable,
     attrs: &[Attr],
     number: usize,
 ) -> Result<usize, OutOfMemory>
-    requires inside { number < length residuals.old }
-    requires copied { AreCopied grammar.now residuals.old }
-    ensures longer { OnOk result (Longer residuals.old residuals.new) }
-    ensures inside { IfOk result (λ left. left < length residuals.new) }
-    ensures after { IfOk result (λ left. (tests : TextTests) → IsAfterAttributes (grammar_of grammar.now) tests (map attribute_of attrs.now) (tree_of grammar.now residuals.old number) (tree_of grammar.now residuals.new left)) }
+    requires inside { number < length table.old }
+    requires copied { AreCopied grammar.now table.old }
+    ensures longer { OnOk result (Longer table.old table.new) }
+    ensures inside { IfOk result (λ left. left < length table.new) }
+    ensures after { IfOk result (λ left. (tests : TextTests) → IsAfterAttributes (grammar_of grammar.now) tests (map attribute_of attrs.now) (tree_of grammar.now table.old number) (tree_of grammar.now table.new left)) }
 {
     let mut left = number;
     'attrs: for attr in attrs {
-        left = after_one(alloc, grammar, residuals, &Symbol::Attribute(attr), left)?;
+        left = after_one(alloc, grammar, table, &Symbol::Attribute(attr), left)?;
     }
     Ok(left)
 }
@@ -197,22 +197,22 @@ fn after_attributes(
 fn takes_content(
     alloc: Global,
     grammar: &SimpleGrammar,
-    residuals: &mut Residuals,
+    table: &mut PatternTable,
     content: &[Symbol],
     number: usize,
 ) -> Result<bool, OutOfMemory>
-    requires inside { number < length residuals.old }
-    requires copied { AreCopied grammar.now residuals.old }
-    ensures longer { OnOk result (Longer residuals.old residuals.new) }
-    ensures takes { IfOk result (AnswersContent grammar.now residuals.old number content.now) }
+    requires inside { number < length table.old }
+    requires copied { AreCopied grammar.now table.old }
+    ensures longer { OnOk result (Longer table.old table.new) }
+    ensures takes { IfOk result (AnswersContent grammar.now table.old number content.now) }
 {
     match content {
-        [] => takes_text(alloc, grammar, residuals, "", number),
+        [] => takes_text(alloc, grammar, table, "", number),
         [only] => match only {
-            Symbol::Text(text) => takes_text(alloc, grammar, residuals, text, number),
-            _ => takes_all(alloc, grammar, residuals, content, number),
+            Symbol::Text(text) => takes_text(alloc, grammar, table, text, number),
+            _ => takes_all(alloc, grammar, table, content, number),
         },
-        _ => takes_all(alloc, grammar, residuals, content, number),
+        _ => takes_all(alloc, grammar, table, content, number),
     }
 }
 
@@ -220,35 +220,35 @@ fn takes_content(
 fn takes_all(
     alloc: Global,
     grammar: &SimpleGrammar,
-    residuals: &mut Residuals,
+    table: &mut PatternTable,
     content: &[Symbol],
     number: usize,
 ) -> Result<bool, OutOfMemory>
-    requires inside { number < length residuals.old }
-    requires copied { AreCopied grammar.now residuals.old }
-    ensures longer { OnOk result (Longer residuals.old residuals.new) }
-    ensures takes { IfOk result (AnswersPlain grammar.now residuals.old number content.now) }
+    requires inside { number < length table.old }
+    requires copied { AreCopied grammar.now table.old }
+    ensures longer { OnOk result (Longer table.old table.new) }
+    ensures takes { IfOk result (AnswersItems grammar.now table.old number content.now) }
 {
     let mut left = number;
     'symbols: for symbol in content {
-        left = after_one(alloc, grammar, residuals, symbol, left)?;
+        left = after_one(alloc, grammar, table, symbol, left)?;
     }
-    Ok(residuals.at(left).nullable)
+    Ok(table.at(left).nullable)
 }
 
 /// What is left of a pattern after one symbol.
 fn after_one(
     alloc: Global,
     grammar: &SimpleGrammar,
-    residuals: &mut Residuals,
+    table: &mut PatternTable,
     symbol: &Symbol,
     number: usize,
 ) -> Result<usize, OutOfMemory>
-    requires inside { number < length residuals.old }
-    requires copied { AreCopied grammar.now residuals.old }
-    ensures longer { OnOk result (Longer residuals.old residuals.new) }
-    ensures after { IfOk result (IsAfter grammar.now residuals.new symbol.now number) }
+    requires inside { number < length table.old }
+    requires copied { AreCopied grammar.now table.old }
+    ensures longer { OnOk result (Longer table.old table.new) }
+    ensures after { IfOk result (IsAfter grammar.now table.new symbol.now number) }
 {
     let mut memo = HashMap::new(alloc);
-    after(alloc, grammar, residuals, symbol, &mut memo, number)
+    after(alloc, grammar, table, symbol, &mut memo, number)
 }

@@ -34,7 +34,8 @@ ends_run (b ∷ s) = is_blank_byte b
 -- A text is blanks, a run, blanks, a run, .. and blanks: these are its runs, each as long as it can be.
 pub data HasRuns : List ℕ → List (List ℕ) → Type 0 where
   no_run : {s : List ℕ} → IsTrue (is_blank s) → HasRuns s []
-  then_run : {s run : List ℕ} {runs : List (List ℕ)} (before rest : List ℕ) → IsTrue (is_blank before) → IsTrue (is_run run) → IsTrue (ends_run rest) → HasRuns rest runs → s ≡ before ++ (run ++ rest) → HasRuns s (run ∷ runs)
+  then_run : {s run : List ℕ} {runs : List (List ℕ)} (before rest : List ℕ) → IsTrue (is_blank before) → IsTrue (is_run run) → IsTrue (ends_run rest)
+      → HasRuns rest runs → s ≡ before ++ (run ++ rest) → HasRuns s (run ∷ runs)
 
 -- the pieces that are still to come
 abbrev pub pieces_left : Pieces → List (List ℕ)

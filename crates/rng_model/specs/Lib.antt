@@ -17,3 +17,4 @@ pub mod SimpleForm
 pub mod Characters
 pub mod Blanks
 pub mod Types
+pub mod Answers

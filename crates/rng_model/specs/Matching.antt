@@ -4,7 +4,8 @@
 use Rattle.std.specs.Prelude.{◌≡◌, ℕ, List, [], ◌∷◌, ◌++◌, map, Bool, true}
 use Rattle.rng_model.specs.Names.{Name, NameClass}
 use Rattle.rng_model.specs.Tree.{Datatype, Connector, choice}
-use Rattle.rng_model.specs.Tree.{Tree, empty, text, leaf, attribute, list, data_of, data_except, value, mixed, optional, zero_or_more, one_or_more, joined, Trees, no_trees, tree_and}
+use Rattle.rng_model.specs.Tree.{Tree, empty, text, leaf, attribute, list, data_of, data_except, value, mixed, optional, zero_or_more, one_or_more, joined}
+use Rattle.rng_model.specs.Tree.{Trees, no_trees, tree_and}
 use Rattle.rng_model.specs.Document.{Attribute, Item, a_text, an_element, Items, list_of, Interleaves, Shares, AllTexts, SharesName, Padded}
 
 -- how the leaves of a tree are read, at a place
@@ -51,19 +52,24 @@ module _ {X L : Type 0} (leaves : Leaves X L) (In : NameClass → Name → Type 
       no_times : {x : X} {a : Tree L} → Matches x (zero_or_more a) [] []
       some_times : {x : X} {a : Tree L} {xs : List Attribute} {ns : List Item} → Matches x (one_or_more a) xs ns → Matches x (zero_or_more a) xs ns
       -- 4.13: an interleave of the pattern and text
-      mixed_with : {x : X} {a : Tree L} {xs : List Attribute} {ms ns os : List Item} → Matches x a xs ms → AllTexts ns → Interleaves ms ns os → Matches x (mixed a) xs os
+      mixed_with : {x : X} {a : Tree L} {xs : List Attribute} {ms ns os : List Item} → Matches x a xs ms → AllTexts ns → Interleaves ms ns os
+          → Matches x (mixed a) xs os
       -- 6.2.7
-      attribute_is : {x : X} {c : NameClass} {a : Tree L} {v : Attribute} → In c v.name → Weakly x a [] (a_text v.content ∷ []) → Matches x (attribute c a) (v ∷ []) []
+      attribute_is : {x : X} {c : NameClass} {a : Tree L} {v : Attribute} → In c v.name → Weakly x a [] (a_text v.content ∷ [])
+          → Matches x (attribute c a) (v ∷ []) []
       element_is : {x y : X} {l : L} {c : NameClass} {a : Tree L} {q : Name} {xs : List Attribute} {kids : Items} {ns os : List Item} →
           leaves.IsElement x l c y a → In c q → ns ≡ list_of kids → Weakly y a xs ns → Padded texts.blank (an_element q xs kids) os → Matches x (leaf l) [] os
       -- 6.2.8
       data_is : {x : X} {d : Datatype} {w : List ℕ} → texts.Allows d w → Matches x (data_of d) [] (a_text w ∷ [])
-      data_but : {x : X} {d : Datatype} {a : Tree L} {w : List ℕ} → texts.Allows d w → (leaves.Excepts x a w → ⊥) → Matches x (data_except d a) [] (a_text w ∷ [])
+      data_but : {x : X} {d : Datatype} {a : Tree L} {w : List ℕ} → texts.Allows d w → (leaves.Excepts x a w → ⊥)
+          → Matches x (data_except d a) [] (a_text w ∷ [])
       value_is : {x : X} {d : Datatype} {v w : List ℕ} → texts.Equals d v w → Matches x (value d v) [] (a_text w ∷ [])
       -- 6.2.10
-      list_is : {x : X} {a : Tree L} {w : List ℕ} {ns : List Item} → ns ≡ map a_text (texts.pieces w) → Matches x a [] ns → Matches x (list a) [] (a_text w ∷ [])
+      list_is : {x : X} {a : Tree L} {w : List ℕ} {ns : List Item} → ns ≡ map a_text (texts.pieces w) → Matches x a [] ns
+          → Matches x (list a) [] (a_text w ∷ [])
       -- 4.18 and 4.19: a ref is what it refers to
-      stands_for : {x y : X} {l : L} {a : Tree L} {xs : List Attribute} {ns : List Item} → leaves.StandsFor x l y a → Matches y a xs ns → Matches x (leaf l) xs ns
+      stands_for : {x y : X} {l : L} {a : Tree L} {xs : List Attribute} {ns : List Item} → leaves.StandsFor x l y a → Matches y a xs ns
+          → Matches x (leaf l) xs ns
 
     -- some member does
     pub data MatchesOne : X → Trees L → List Attribute → List Item → Type 0 where

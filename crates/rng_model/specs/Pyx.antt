@@ -26,7 +26,8 @@ pub data AreLines : List Line → List Shape → Type 0 where
 -- the attributes of a tag
 pub data AreAttributes : List Shape → List Attribute → Type 0 where
   no_attributes : AreAttributes [] []
-  attribute_and : {name value : List ℕ} {xs : List Shape} {attrs : List Attribute} → AreAttributes xs attrs → AreAttributes (attribute name value ∷ xs) (record { name = plain_name name; content = value } ∷ attrs)
+  attribute_and : {name value : List ℕ} {xs : List Shape} {attrs : List Attribute} → AreAttributes xs attrs
+      → AreAttributes (attribute name value ∷ xs) (record { name = plain_name name; content = value } ∷ attrs)
 
 -- no attribute has this name
 pub data HasNoName (name : Name) : List Attribute → Type 0 where
@@ -56,7 +57,8 @@ mutual
         all ≡ start name ∷ (xs ++ (ys ++ end name ∷ [])) → node ≡ an_element (plain_name name) attrs kids → IsElement (suc n) all node
 
   pub data IsContent : ℕ → List Shape → Items → Type 0 where
-    last_text : {n : ℕ} {xs : List Shape} {kids : Items} {t : List ℕ} → IsText xs t → length t ≤ text_limit → kids ≡ text_before t no_items → IsContent n xs kids
+    last_text : {n : ℕ} {xs : List Shape} {kids : Items} {t : List ℕ} → IsText xs t → length t ≤ text_limit → kids ≡ text_before t no_items
+        → IsContent n xs kids
     text_and_element : {n : ℕ} {all : List Shape} {kids : Items} {xs ys zs : List Shape} {t : List ℕ} {node : Item} {rest : Items} →
         IsText xs t → length t ≤ text_limit → IsElement n ys node → IsContent n zs rest →
         all ≡ xs ++ (ys ++ zs) → kids ≡ text_before t (item_and node rest) → IsContent n all kids

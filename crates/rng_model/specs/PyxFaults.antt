@@ -17,7 +17,8 @@ pub data IsBalanced : List Line → Type 0 where
 -- after these lines these start tags are open, the innermost last
 pub data AreOpen : List Line → List Line → Type 0 where
   none_open : {ls : List Line} → IsBalanced ls → AreOpen ls []
-  one_open : (l : Line) {all ls ms opened now_open : List Line} → AreOpen ls opened → HasKind 40 l → IsBalanced ms → all ≡ ls ++ l ∷ ms → now_open ≡ opened ++ l ∷ [] → AreOpen all now_open
+  one_open : (l : Line) {all ls ms opened now_open : List Line} → AreOpen ls opened → HasKind 40 l → IsBalanced ms → all ≡ ls ++ l ∷ ms
+      → now_open ≡ opened ++ l ∷ [] → AreOpen all now_open
 
 -- these lines end in a tag: its start, and then attributes
 pub record EndsInTag (before : List Line) : Type 0 where
@@ -59,10 +60,12 @@ pub data BreaksAt (before : List Line) (l : Line) (after : List Line) : ℕ → 
   no_tag : HasKind 65 l → (EndsInTag before → ⊥) → BreaksAt before l after 7
   -- an end tag where no element is open, or with another name than the open element
   none_to_end : HasKind 41 l → AreOpen before [] → BreaksAt before l after 8
-  other_name : {name other_name : List ℕ} (opened : List Line) (top : Line) → l.bytes ≡ 41 ∷ name → AreOpen before (opened ++ top ∷ []) → top.bytes ≡ 40 ∷ other_name → name ≢ other_name → BreaksAt before l after 8
+  other_name : {name other_name : List ℕ} (opened : List Line) (top : Line) → l.bytes ≡ 41 ∷ name → AreOpen before (opened ++ top ∷ [])
+      → top.bytes ≡ 40 ∷ other_name → name ≢ other_name → BreaksAt before l after 8
   -- a text outside the root, or a start tag after it
   text_outside : HasKind 45 l → AreOpen before [] → BreaksAt before l after 9
-  second_root : (front rest : List Line) (root : Line) → HasKind 40 l → AreOpen before [] → before ≡ front ++ root ∷ rest → HasKind 40 root → BreaksAt before l after 9
+  second_root : (front rest : List Line) (root : Line) → HasKind 40 l → AreOpen before [] → before ≡ front ++ root ∷ rest → HasKind 40 root
+      → BreaksAt before l after 9
   -- two attributes of the tag that ends here have one name
   repeats : EndsInRepeat (before ++ l ∷ []) → ((next : Line) (rest : List Line) → after ≡ next ∷ rest → HasKind 65 next → ⊥) → BreaksAt before l after 12
 
@@ -73,10 +76,12 @@ pub record Fault : Type 0 where
 
 -- the clause is broken at this line of all
 pub data Broken (all : List Line) : Fault → Type 0 where
-  at_line : (before after : List Line) (l : Line) (k n : ℕ) → all ≡ before ++ l ∷ after → n ≡ length before + 1 → BreaksAt before l after k → Broken all (record { clause = k; line = n })
+  at_line : (before after : List Line) (l : Line) (k n : ℕ) → all ≡ before ++ l ∷ after → n ≡ length before + 1 → BreaksAt before l after k
+      → Broken all (record { clause = k; line = n })
   -- an element is open at the end, or there is no root
   unfinished : (opened : List Line) (top : Line) → AreOpen all (opened ++ top ∷ []) → Broken all (record { clause = 13; line = length all })
-  rootless : ((front rest : List Line) (root : Line) → all ≡ front ++ root ∷ rest → HasKind 40 root → ⊥) → Broken all (record { clause = 13; line = length all })
+  rootless : ((front rest : List Line) (root : Line) → all ≡ front ++ root ∷ rest → HasKind 40 root → ⊥)
+      → Broken all (record { clause = 13; line = length all })
 
 -- a stands at an earlier line, or at the same line with no greater clause
 abbrev pub IsBefore : Fault → Fault → Type 0

@@ -3,7 +3,8 @@
 use Rattle.std.specs.Prelude.{◌≡◌, ◌↔◌, ℕ, ◌<◌, List, [], length, slice_get, Some, All}
 use Rattle.std.specs.List.{Contains}
 use Rattle.rng_model.specs.Names.{NameClass}
-use Rattle.rng_model.specs.Tree.{Datatype, Connector, Tree, leaf, attribute, list, data_except, mixed, optional, zero_or_more, one_or_more, joined, Trees, tree_and, Simple, as_tree}
+use Rattle.rng_model.specs.Tree.{Datatype, Connector, Tree, leaf, attribute, list, data_except, mixed, optional, zero_or_more, one_or_more, joined, Trees}
+use Rattle.rng_model.specs.Tree.{tree_and, Simple, as_tree}
 use Rattle.rng_model.specs.Document.{Item}
 use Rattle.rng_model.specs.Texts.{TextTests, texts_of}
 use Rattle.rng_model.specs.Written.{Pattern, IsValidWritten}

@@ -3,7 +3,8 @@
 use Rattle.std.specs.Prelude.{◌≡◌, ℕ, List}
 use Rattle.rng_model.specs.Names.{NameClass, any_except, ns_except, one_of, NameClasses, no_classes, class_and}
 use Rattle.rng_model.specs.Tree.{Datatype, Connector, choice, interleave}
-use Rattle.rng_model.specs.Tree.{Tree, not_allowed, empty, text, attribute, list, data_of, data_except, mixed, optional, zero_or_more, one_or_more, joined, Trees, no_trees, tree_and}
+use Rattle.rng_model.specs.Tree.{Tree, not_allowed, empty, text, attribute, list, data_of, data_except, mixed, optional, zero_or_more, one_or_more, joined}
+use Rattle.rng_model.specs.Tree.{Trees, no_trees, tree_and}
 
 -- one step in a name class: three members or more are nested in twos from the left
 -- (RELAX NG Specification, section 4.12)

@@ -66,7 +66,8 @@ pub record IsInSimpleSyntax (g : Grammar) : Type 0 where
 
 -- the grammar lists this class and this body for the element
 pub data IsListed (g : Grammar) : Unit {0} → ℕ → names.NameClass → Unit {0} → Tree ℕ → Type 0 where
-  is_listed : {x y : Unit {0}} {k : ℕ} {c : names.NameClass} {t : Tree ℕ} {s : tree.Simple ℕ} → slice_get g.elements k ≡ Some (c, s) → t ≡ as_tree s → IsListed g x k c y t
+  is_listed : {x y : Unit {0}} {k : ℕ} {c : names.NameClass} {t : Tree ℕ} {s : tree.Simple ℕ} → slice_get g.elements k ≡ Some (c, s) → t ≡ as_tree s
+      → IsListed g x k c y t
 
 abbrev pub grammar_leaves : Grammar → Texts → Leaves (Unit {0}) ℕ
 grammar_leaves g texts = record { StandsFor = Nothing (Unit {0}) ℕ; IsElement = IsListed g; Excepts = λ x a w. HasText texts a w }

@@ -2,7 +2,8 @@
 -- there (RELAX NG Specification, sections 4.18 and 4.19).
 use Rattle.std.specs.Prelude.{ℕ, List, [], ◌∷◌}
 use Rattle.rng_model.specs.Names.{NameClass}
-use Rattle.rng_model.specs.Tree.{Tree, not_allowed, empty, text, leaf, attribute, list, data_of, data_except, value, mixed, optional, zero_or_more, one_or_more, joined, Trees, no_trees, tree_and}
+use Rattle.rng_model.specs.Tree.{Tree, not_allowed, empty, text, leaf, attribute, list, data_of, data_except, value, mixed, optional, zero_or_more, one_or_more}
+use Rattle.rng_model.specs.Tree.{joined, Trees, no_trees, tree_and}
 use Rattle.rng_model.specs.Written.{Position, Pattern, Point, an_element, shape}
 
 -- the tree with each leaf under another name

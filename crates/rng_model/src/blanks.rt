@@ -12,7 +12,7 @@ use std::alloc::Global;
 /// carriage return.
 ///
 /// It takes no memory, and reads the text once.
-#[derive(Clone, Debug, Drop)]
+#[derive(Drop)]
 pub struct Pieces<'a> {
     rest: &'a str,
 }

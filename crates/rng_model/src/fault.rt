@@ -27,18 +27,13 @@ pub enum SchemaFault {
     Memory,
 }
 
-impl From<AllocError> for SchemaFault {
+impl<E: Drop> From<E> for SchemaFault
+where
+    OutOfMemory: From<E>,
+{
     ghost from_gives = { λ _ e. e ≡ faults.Memory };
 
-    fn from(_e: AllocError) -> SchemaFault {
-        SchemaFault::Memory
-    }
-}
-
-impl<T: Drop> From<AllocFailed<T>> for SchemaFault {
-    ghost from_gives = { λ _ e. e ≡ faults.Memory };
-
-    fn from(_e: AllocFailed<T>) -> SchemaFault {
+    fn from(_e: E) -> SchemaFault {
         SchemaFault::Memory
     }
 }

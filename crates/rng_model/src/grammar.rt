@@ -12,7 +12,7 @@ use std::marker::Model;
 /// position is smaller than its parent's, every ref is a position in the table of elements, and every choice in a
 /// name class has two members. Contracts see the tables; `Rattle.rng_model.specs.Table.grammar_of` gives the trees
 /// that they stand for.
-#[derive(Debug, Drop)]
+#[derive(Drop)]
 pub struct SimpleGrammar {
     patterns: Vec<Simple>,
     elements: Vec<(NameClass, PatternId)>,

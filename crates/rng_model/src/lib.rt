@@ -14,10 +14,6 @@ mod grammar;
 mod name;
 mod pattern;
 mod simple;
-#[cfg(test)]
-mod tests;
-#[cfg(test)]
-mod text_tests;
 mod type_use;
 
 pub use blanks::{Pieces, collapse, split_blanks};

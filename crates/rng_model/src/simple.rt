@@ -2,17 +2,17 @@
 use crate::name::NameClass;
 
 /// A position in a grammar's table of patterns, from 0.
-#[derive(Clone, Copy, Debug, PartialEq, Eq, PartialOrd, Ord, Hash)]
+#[derive(Clone, Copy, PartialEq, Eq, Hash)]
 pub struct PatternId(pub usize);
 
 /// A position in a grammar's table of elements, from 0.
-#[derive(Clone, Copy, Debug, PartialEq, Eq, PartialOrd, Ord, Hash)]
+#[derive(Clone, Copy, PartialEq, Eq, Hash)]
 pub struct ElementId(pub usize);
 
 /// A pattern in simple form, its children named by their positions.
 ///
 /// RELAX NG Specification, section 5.
-#[derive(Debug, Drop)]
+#[derive(Drop)]
 pub enum Simple {
     NotAllowed,
     Empty,

@@ -1,8 +1,8 @@
-pub mod Drafts
+pub mod GrammarBuilder
 pub mod SimpleClass
 pub mod Sorts
-pub mod Kept
-pub mod Own
+pub mod StepSimpleOf
+pub mod NoStep
 pub mod Reached
 pub mod Normal
 pub mod Unique
@@ -10,12 +10,12 @@ pub mod Sharing
 pub mod StepMatches
 pub mod StepLex
 pub mod NestedNames
-pub mod Alike
+pub mod Correspondence
 pub mod Rereading
 pub mod SameDocuments
 pub mod Renamed
 pub mod Listed
-pub mod Making
+pub mod Representation
 pub mod Members
 pub mod Nesting
 pub mod Views

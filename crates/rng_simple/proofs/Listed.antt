@@ -1,5 +1,6 @@
 -- The elements that tables list, as the tables grow; positions inside one another.
-use Rattle.std.proofs.Common.{◌≡◌, ◌⊎◌, inl, inr, refl, ap, sym, ◌∙◌, subst, ℕ, ◌+◌, ◌-◌, ◌<◌, ◌≤◌, List, [], ◌∷◌, ◌++◌, length, Some, slice_get, get_or, append_assoc, length-append, arith}
+use Rattle.std.proofs.Common.{◌≡◌, ◌⊎◌, inl, inr, refl, ap, sym, ◌∙◌, subst, ℕ, ◌+◌, ◌-◌, ◌<◌, ◌≤◌, List, [], ◌∷◌, ◌++◌, length, Some, slice_get, get_or}
+use Rattle.std.proofs.Common.{append_assoc, length-append, arith}
 use Rattle.std.proofs.lemmas.List.{get_or_push, get_or_append_left, get_or-append_right, append_cancel_right}
 use Rattle.std.proofs.lemmas.Bool.{cases_lt}
 use Rattle.std.proofs.lemmas.Option.{slice_get_within, get_or_from_slice_get, slice_get-get_or}
@@ -10,12 +11,12 @@ use Rattle.rng_model.specs.Unfold.{Leaf, body_of}
 use Rattle.rng_model.specs.SimpleForm.{AreLeavesBelow}
 use Rattle.rng_model.specs.declared.name.NameClass.{NameClass}
 use Rattle.rng_model.specs.declared.simple.PatternId.{PatternId}
-use Rattle.rng_model.proofs.TableLemmas.{tree_stays}
-use Rattle.rng_simple.specs.Draft.{Tables, Extends}
+use Rattle.rng_model.proofs.Table.{tree_stays}
+use Rattle.rng_simple.specs.GrammarBuilder.{Tables, Extends}
 use Rattle.rng_simple.specs.SimpleOf.{nested, simple_of}
-use Rattle.rng_simple.specs.Made.{simple_renamed, no_element, element_at, AreDistinct, IsWithin, AreApart, IsListedAs, Lists}
-use Rattle.rng_simple.proofs.Drafts.{front_is_shorter}
-use Rattle.rng_simple.proofs.Renamed.{renamed_alike}
+use Rattle.rng_simple.specs.Representation.{simple_renamed, no_element, element_at, AreDistinct, IsWithin, AreApart, IsListedAs, Lists}
+use Rattle.rng_simple.proofs.GrammarBuilder.{front_is_shorter}
+use Rattle.rng_simple.proofs.Renamed.{renamed_corresponds}
 
 -- ---- elements by number
 
@@ -29,10 +30,12 @@ pub element_last : (ls : List Leaf) (l : Leaf) (k : ℕ) → length ls ≡ k →
 element_last ls l k h = get_or_push ls l no_element k h
 
 -- more elements change no tree of the earlier ones
-pub renamed_front : (ls more : List Leaf) (s : Simple ℕ) → AreLeavesBelow (length ls) (as_tree s) → simple_renamed (element_at (ls ++ more)) s ≡ simple_renamed (element_at ls) s
-renamed_front ls more s n = renamed_alike (element_at (ls ++ more)) (element_at ls) s (λ k i. element_front ls more k (n k i))
+pub renamed_front : (ls more : List Leaf) (s : Simple ℕ) → AreLeavesBelow (length ls) (as_tree s)
+    → simple_renamed (element_at (ls ++ more)) s ≡ simple_renamed (element_at ls) s
+renamed_front ls more s n = renamed_corresponds (element_at (ls ++ more)) (element_at ls) s (λ k i. element_front ls more k (n k i))
 
-pub distinct_append : (xs ys : List Leaf) → AreDistinct xs → AreDistinct ys → ((j k : ℕ) → j < length xs → k < length ys → element_at xs j ≡ element_at ys k → ⊥) → AreDistinct (xs ++ ys)
+pub distinct_append : (xs ys : List Leaf) → AreDistinct xs → AreDistinct ys
+    → ((j k : ℕ) → j < length xs → k < length ys → element_at xs j ≡ element_at ys k → ⊥) → AreDistinct (xs ++ ys)
 distinct_append xs ys d e n j k jn kn same =
     let long : length (xs ++ ys) ≡ length xs + length ys = length-append xs ys in
     elim (cases_lt j (length xs)) [
@@ -43,7 +46,8 @@ distinct_append xs ys d e n j k jn kn same =
       | inr a ↦ elim (cases_lt k (length xs)) [
         | inl b ↦ absurd (n k (j - length xs) b (omega arith) (sym (element_front xs ys k b) ∙ sym same ∙ element_behind xs ys j a))
         | inr b ↦
-            let s : j - length xs ≡ k - length xs = e (j - length xs) (k - length xs) (omega arith) (omega arith) (sym (element_behind xs ys j a) ∙ same ∙ element_behind xs ys k b) in
+            let s : j - length xs ≡ k - length xs =
+            e (j - length xs) (k - length xs) (omega arith) (omega arith) (sym (element_behind xs ys j a) ∙ same ∙ element_behind xs ys k b) in
             omega arith
       ]
     ]
@@ -72,7 +76,8 @@ one_is_apart x i j h k y v w = omega arith
 -- ---- tables
 
 -- what is found in a list with one more
-pub pushed_cases : {A : Type 0} (xs : List A) (y x : A) (k : ℕ) → slice_get (xs ++ y ∷ []) k ≡ Some x → ((k < length xs) × (slice_get xs k ≡ Some x)) ⊎ ((length xs ≡ k) × (y ≡ x))
+pub pushed_cases : {A : Type 0} (xs : List A) (y x : A) (k : ℕ) → slice_get (xs ++ y ∷ []) k ≡ Some x
+    → ((k < length xs) × (slice_get xs k ≡ Some x)) ⊎ ((length xs ≡ k) × (y ≡ x))
 pushed_cases xs y x k found =
     let inside = slice_get_within (xs ++ y ∷ []) k x found in
     let at : get_or (xs ++ y ∷ []) k x ≡ x = get_or_from_slice_get (xs ++ y ∷ []) k x x found in
@@ -99,7 +104,8 @@ lists_stay d e ls more same has = record {
       }
 
 -- what is listed stays so beside more elements
-listed_beside : (d : Tables) (ls more : List Leaf) (l m : Leaf) (x : NameClass × PatternId) → l ≡ m → IsListedAs d.patterns ls m x → IsListedAs d.patterns (ls ++ more) l x
+listed_beside : (d : Tables) (ls more : List Leaf) (l m : Leaf) (x : NameClass × PatternId) → l ≡ m → IsListedAs d.patterns ls m x
+    → IsListedAs d.patterns (ls ++ more) l x
 listed_beside d ls more l m x e is = record {
   there = is.there;
   below = λ k i. omega (arith, is.below k i, length-append ls more);
@@ -108,11 +114,18 @@ listed_beside d ls more l m x e is = record {
 }
 
 -- one more element with the simple form of its body
-pub lists_more : (d e : Tables) (ls : List Leaf) (l : Leaf) (x : NameClass × PatternId) → e.patterns ≡ d.patterns → e.elements ≡ d.elements ++ x ∷ [] → Lists d ls → IsListedAs d.patterns ls l x → Lists e (ls ++ l ∷ [])
+pub lists_more : (d e : Tables) (ls : List Leaf) (l : Leaf) (x : NameClass × PatternId) → e.patterns ≡ d.patterns → e.elements ≡ d.elements ++ x ∷ []
+    → Lists d ls → IsListedAs d.patterns ls l x → Lists e (ls ++ l ∷ [])
 lists_more d e ls l x p q has is = record {
   count = length-append ls (l ∷ []) ∙ ap (λ n. n + 1) has.count ∙ sym (length-append d.elements (x ∷ [])) ∙ ap length (sym q);
-  each = λ k y found. subst (λ ps. IsListedAs ps (ls ++ l ∷ []) (element_at (ls ++ l ∷ []) k) y) (sym p) (by_case k y (pushed_cases d.elements x y k (ap (λ xs. slice_get xs k) (sym q) ∙ found)));
+  each = λ k y found. subst (λ ps. IsListedAs ps (ls ++ l ∷ []) (element_at (ls ++ l ∷ []) k) y) (sym p)
+      (by_case k y (pushed_cases d.elements x y k (ap (λ xs. slice_get xs k) (sym q) ∙ found)));
 } where
-  by_case : (k : ℕ) (y : NameClass × PatternId) → ((k < length d.elements) × (slice_get d.elements k ≡ Some y)) ⊎ ((length d.elements ≡ k) × (x ≡ y)) → IsListedAs d.patterns (ls ++ l ∷ []) (element_at (ls ++ l ∷ []) k) y
-  by_case k y (inl h) = listed_beside d ls (l ∷ []) (element_at (ls ++ l ∷ []) k) (element_at ls k) y (element_front ls (l ∷ []) k (omega (arith, h.0, has.count))) (has.each k y h.1)
-  by_case k y (inr h) = subst (λ z. IsListedAs d.patterns (ls ++ l ∷ []) (element_at (ls ++ l ∷ []) k) z) h.1 (listed_beside d ls (l ∷ []) (element_at (ls ++ l ∷ []) k) l x (element_last ls l k (has.count ∙ h.0)) is)
+  by_case : (k : ℕ) (y : NameClass × PatternId) → ((k < length d.elements) × (slice_get d.elements k ≡ Some y)) ⊎ ((length d.elements ≡ k) × (x ≡ y))
+      → IsListedAs d.patterns (ls ++ l ∷ []) (element_at (ls ++ l ∷ []) k) y
+  by_case k y (inl h) =
+      listed_beside d ls (l ∷ []) (element_at (ls ++ l ∷ []) k) (element_at ls k) y (element_front ls (l ∷ []) k (omega (arith, h.0, has.count)))
+      (has.each k y h.1)
+  by_case k y (inr h) =
+      subst (λ z. IsListedAs d.patterns (ls ++ l ∷ []) (element_at (ls ++ l ∷ []) k) z) h.1
+      (listed_beside d ls (l ∷ []) (element_at (ls ++ l ∷ []) k) l x (element_last ls l k (has.count ∙ h.0)) is)

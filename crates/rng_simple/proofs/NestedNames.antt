@@ -48,7 +48,8 @@ mutual
   some_out _ _ (step.this_class s) q h = either (class_out _ _ s q) (λ i. i) h
   some_out _ _ (step.later_class s) q h = either (λ i. i) (some_out _ _ s q) h
 
-joined_out : (c d : NameClass) (cs : NameClasses) (q : Name) → (In (nested c) q → In c q) → (In (nested d) q → In d q) → In (one_of (nested c) (nested d) no_classes) q ⊎ InSome cs q → In (one_of c d cs) q
+joined_out : (c d : NameClass) (cs : NameClasses) (q : Name) → (In (nested c) q → In c q) → (In (nested d) q → In d q)
+    → In (one_of (nested c) (nested d) no_classes) q ⊎ InSome cs q → In (one_of c d cs) q
 joined_out c d cs q f g (inl (inl h)) = inl (f h)
 joined_out c d cs q f g (inl (inr (inl h))) = inr (inl (g h))
 joined_out c d cs q f g (inl (inr (inr h))) = absurd h

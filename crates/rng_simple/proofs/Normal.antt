@@ -2,7 +2,8 @@
 use Rattle.std.proofs.Common.{◌≡◌, refl}
 use Rattle.rng_model.specs.Names.{NameClass}
 use Rattle.rng_model.specs.Tree.{Datatype, Connector, choice, group, interleave}
-use Rattle.rng_model.specs.Tree.{Tree, not_allowed, empty, text, leaf, attribute, list, data_of, data_except, value, mixed, optional, zero_or_more, one_or_more, joined, Trees, no_trees, tree_and}
+use Rattle.rng_model.specs.Tree.{Tree, not_allowed, empty, text, leaf, attribute, list, data_of, data_except, value, mixed, optional, zero_or_more, one_or_more}
+use Rattle.rng_model.specs.Tree.{joined, Trees, no_trees, tree_and}
 use Rattle.rng_model.specs.Tree.{Simple, s_empty, s_text, as_tree}
 use Rattle.rng_model.specs.Step.{ClassStep, ClassesStep, HasNotAllowed, Step, StepAmong, Steps, HasNoStep, IsSimpleFormOf}
 use Rattle.rng_model.specs.Step as step
@@ -11,7 +12,8 @@ use Rattle.rng_simple.proofs.SimpleClass.{class_normal}
 use Rattle.rng_simple.proofs.Sorts.{Sorted, is_nothing, is_blank, is_proper, sorted, proper_is_allowed, proper_is_not_empty}
 
 module _ {L : Type 0} where
-  attribute_plain : (c : NameClass) (a : Tree L) → ((d : NameClass) → ClassStep c d → ⊥) → HasNoStep a → (a ≡ not_allowed → ⊥) → (b : Tree L) → Step (attribute c a) b → ⊥
+  attribute_plain : (c : NameClass) (a : Tree L) → ((d : NameClass) → ClassStep c d → ⊥) → HasNoStep a → (a ≡ not_allowed → ⊥) → (b : Tree L)
+      → Step (attribute c a) b → ⊥
   attribute_plain c a m n x b step.attribute_not_allowed = x refl
   attribute_plain c a m n x b (step.in_class s) = m _ s
   attribute_plain c a m n x b (step.in_attribute s) = n _ s
@@ -29,7 +31,8 @@ module _ {L : Type 0} where
   some_plain a n x y b step.one_or_more_empty = y refl
   some_plain a n x y b (step.in_one_or_more s) = n _ s
 
-  choice_plain : (a b : Tree L) → HasNoStep a → HasNoStep b → (a ≡ not_allowed → ⊥) → (b ≡ not_allowed → ⊥) → (b ≡ empty → ⊥) → (c : Tree L) → Step (joined choice a b no_trees) c → ⊥
+  choice_plain : (a b : Tree L) → HasNoStep a → HasNoStep b → (a ≡ not_allowed → ⊥) → (b ≡ not_allowed → ⊥) → (b ≡ empty → ⊥) → (c : Tree L)
+      → Step (joined choice a b no_trees) c → ⊥
   choice_plain a b m n x y z c (step.first_not_allowed k) = k refl
   choice_plain a b m n x y z c (step.second_not_allowed k) = k refl
   choice_plain a b m n x y z c (step.other_not_allowed k h) = k refl
@@ -43,7 +46,8 @@ module _ {L : Type 0} where
   choice_plain a b m n x y z c (step.in_second s) = n _ s
   choice_plain a b m n x y z c (step.in_others s) = elim s [ ]
 
-  both_plain : (k : Connector) → (k ≡ choice → ⊥) → (a b : Tree L) → HasNoStep a → HasNoStep b → (a ≡ not_allowed → ⊥) → (a ≡ empty → ⊥) → (b ≡ not_allowed → ⊥) → (b ≡ empty → ⊥) → (c : Tree L) → Step (joined k a b no_trees) c → ⊥
+  both_plain : (k : Connector) → (k ≡ choice → ⊥) → (a b : Tree L) → HasNoStep a → HasNoStep b → (a ≡ not_allowed → ⊥) → (a ≡ empty → ⊥)
+      → (b ≡ not_allowed → ⊥) → (b ≡ empty → ⊥) → (c : Tree L) → Step (joined k a b no_trees) c → ⊥
   both_plain k h a b m n x y z w c (step.first_not_allowed _) = x refl
   both_plain k h a b m n x y z w c (step.second_not_allowed _) = z refl
   both_plain k h a b m n x y z w c (step.other_not_allowed _ i) = elim i [ ]
@@ -63,7 +67,8 @@ module _ {L : Type 0} where
   empty_plain : HasNoStep {L = L} empty
   empty_plain b s = elim s [ ]
 
-  attribute_normal : (c : NameClass) {s : Simple L} {x : Sort} → Sorted s x → ((d : NameClass) → ClassStep c d → ⊥) → HasNoStep (as_tree s) → HasNoStep (as_tree (attribute_by x c s))
+  attribute_normal : (c : NameClass) {s : Simple L} {x : Sort} → Sorted s x → ((d : NameClass) → ClassStep c d → ⊥) → HasNoStep (as_tree s)
+      → HasNoStep (as_tree (attribute_by x c s))
   attribute_normal c is_nothing m n = n
   attribute_normal c is_blank m n = attribute_plain c empty m n (λ e. cc)
   attribute_normal c (is_proper {s} p) m n = attribute_plain c (as_tree s) m n (proper_is_allowed s p)
@@ -83,21 +88,25 @@ module _ {L : Type 0} where
   some_normal is_blank n = n
   some_normal (is_proper {s} p) n = some_plain (as_tree s) n (proper_is_allowed s p) (proper_is_not_empty s p)
 
-  choice_normal : {s u : Simple L} {x y : Sort} → Sorted s x → Sorted u y → HasNoStep (as_tree s) → HasNoStep (as_tree u) → HasNoStep (as_tree (choice_by x y s u))
+  choice_normal : {s u : Simple L} {x y : Sort} → Sorted s x → Sorted u y → HasNoStep (as_tree s) → HasNoStep (as_tree u)
+      → HasNoStep (as_tree (choice_by x y s u))
   choice_normal is_nothing v m n = n
   choice_normal is_blank is_nothing m n = m
   choice_normal (is_proper p) is_nothing m n = m
   choice_normal is_blank is_blank m n = m
   choice_normal (is_proper {s} p) is_blank m n = choice_plain empty (as_tree s) n m (λ e. cc) (proper_is_allowed s p) (proper_is_not_empty s p)
   choice_normal is_blank (is_proper {s} q) m n = choice_plain empty (as_tree s) m n (λ e. cc) (proper_is_allowed s q) (proper_is_not_empty s q)
-  choice_normal (is_proper {s} p) (is_proper {s = u} q) m n = choice_plain (as_tree s) (as_tree u) m n (proper_is_allowed s p) (proper_is_allowed u q) (proper_is_not_empty u q)
+  choice_normal (is_proper {s} p) (is_proper {s = u} q) m n =
+      choice_plain (as_tree s) (as_tree u) m n (proper_is_allowed s p) (proper_is_allowed u q) (proper_is_not_empty u q)
 
-  both_normal : (k : Connector) → (k ≡ choice → ⊥) → {s u : Simple L} {x y : Sort} → Sorted s x → Sorted u y → HasNoStep (as_tree s) → HasNoStep (as_tree u) → HasNoStep (as_tree (both_by k x y s u))
+  both_normal : (k : Connector) → (k ≡ choice → ⊥) → {s u : Simple L} {x y : Sort} → Sorted s x → Sorted u y → HasNoStep (as_tree s) → HasNoStep (as_tree u)
+      → HasNoStep (as_tree (both_by k x y s u))
   both_normal k h is_nothing v m n = m
   both_normal k h is_blank v m n = n
   both_normal k h (is_proper p) is_nothing m n = n
   both_normal k h (is_proper p) is_blank m n = m
-  both_normal k h (is_proper {s} p) (is_proper {s = u} q) m n = both_plain k h (as_tree s) (as_tree u) m n (proper_is_allowed s p) (proper_is_not_empty s p) (proper_is_allowed u q) (proper_is_not_empty u q)
+  both_normal k h (is_proper {s} p) (is_proper {s = u} q) m n =
+      both_plain k h (as_tree s) (as_tree u) m n (proper_is_allowed s p) (proper_is_not_empty s p) (proper_is_allowed u q) (proper_is_not_empty u q)
 
   join_normal : (k : Connector) (s u : Simple L) → HasNoStep (as_tree s) → HasNoStep (as_tree u) → HasNoStep (as_tree (join k s u))
   join_normal choice s u = choice_normal (sorted s) (sorted u)

@@ -2,7 +2,8 @@
 use Rattle.std.proofs.Common.{◌≡◌}
 use Rattle.rng_model.specs.Names.{NameClass}
 use Rattle.rng_model.specs.Tree.{Datatype, Connector, choice, group, interleave}
-use Rattle.rng_model.specs.Tree.{Tree, not_allowed, empty, text, leaf, attribute, list, data_of, data_except, value, mixed, optional, zero_or_more, one_or_more, joined, Trees, no_trees, tree_and}
+use Rattle.rng_model.specs.Tree.{Tree, not_allowed, empty, text, leaf, attribute, list, data_of, data_except, value, mixed, optional, zero_or_more, one_or_more}
+use Rattle.rng_model.specs.Tree.{joined, Trees, no_trees, tree_and}
 use Rattle.rng_model.specs.Tree.{Simple, s_empty, s_text, as_tree}
 use Rattle.rng_model.specs.Step.{ClassSteps, Step, Steps}
 use Rattle.rng_model.specs.Step as step
@@ -48,7 +49,8 @@ module _ {L : Type 0} where
   some_reached is_blank = once step.one_or_more_empty
   some_reached (is_proper p) = step.none
 
-  choice_reached : {s u : Simple L} {x y : Sort} → Sorted s x → Sorted u y → Steps (joined choice (as_tree s) (as_tree u) no_trees) (as_tree (choice_by x y s u))
+  choice_reached : {s u : Simple L} {x y : Sort} → Sorted s x → Sorted u y
+      → Steps (joined choice (as_tree s) (as_tree u) no_trees) (as_tree (choice_by x y s u))
   choice_reached is_nothing v = once step.no_first_side
   choice_reached is_blank is_nothing = once step.no_second_side
   choice_reached (is_proper p) is_nothing = once step.no_second_side
@@ -57,7 +59,8 @@ module _ {L : Type 0} where
   choice_reached is_blank (is_proper q) = step.none
   choice_reached (is_proper p) (is_proper q) = step.none
 
-  both_reached : (k : Connector) → (k ≡ choice → ⊥) → {s u : Simple L} {x y : Sort} → Sorted s x → Sorted u y → Steps (joined k (as_tree s) (as_tree u) no_trees) (as_tree (both_by k x y s u))
+  both_reached : (k : Connector) → (k ≡ choice → ⊥) → {s u : Simple L} {x y : Sort} → Sorted s x → Sorted u y
+      → Steps (joined k (as_tree s) (as_tree u) no_trees) (as_tree (both_by k x y s u))
   both_reached k m is_nothing v = once (step.first_not_allowed m)
   both_reached k m is_blank v = once (step.first_empty m)
   both_reached k m (is_proper p) is_nothing = once (step.second_not_allowed m)
@@ -84,8 +87,12 @@ module _ {L : Type 0} where
     reached (data_of d) = step.none
     reached (data_except d a) = then (inside (data_except d) (λ x y s. step.in_except s) (reached a)) (except_reached d (sorted (simple_of a)))
     reached (value d v) = step.none
-    reached (mixed a) = step.step_and step.mixed_is (then (inside (λ x. joined interleave x text no_trees) (λ x y s. step.in_first s) (reached a)) (join_reached interleave (simple_of a) s_text))
-    reached (optional a) = step.step_and step.optional_is (then (inside (λ x. joined choice x empty no_trees) (λ x y s. step.in_first s) (reached a)) (join_reached choice (simple_of a) s_empty))
+    reached (mixed a) =
+        step.step_and step.mixed_is
+        (then (inside (λ x. joined interleave x text no_trees) (λ x y s. step.in_first s) (reached a)) (join_reached interleave (simple_of a) s_text))
+    reached (optional a) =
+        step.step_and step.optional_is
+        (then (inside (λ x. joined choice x empty no_trees) (λ x y s. step.in_first s) (reached a)) (join_reached choice (simple_of a) s_empty))
     reached (zero_or_more a) =
         step.step_and step.zero_or_more_is
         (then (inside (λ x. joined choice (one_or_more x) empty no_trees) (λ x y s. step.in_first (step.in_one_or_more s)) (reached a))

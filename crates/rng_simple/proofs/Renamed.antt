@@ -6,7 +6,7 @@ use Rattle.rng_model.specs.Unfold.{Leaf, renamed, body_of}
 use Rattle.rng_model.specs.SimpleForm.{LeafIn, LeafAmong, IsReached}
 use Rattle.rng_model.specs.SimpleForm as f
 use Rattle.rng_simple.specs.SimpleOf.{Sort, nothing, blank, proper, sort_of, choice_by, both_by, joined_by, join, simple_of}
-use Rattle.rng_simple.specs.Made.{simple_renamed}
+use Rattle.rng_simple.specs.Representation.{simple_renamed}
 use Rattle.rng_simple.proofs.Sorts.{Sorted, is_nothing, is_blank, is_proper, sorted}
 use Rattle.rng_simple.proofs.Unique.{has_simple_form}
 
@@ -26,18 +26,19 @@ module _ {K L : Type 0} where
   as_tree_renamed g (s_joined k s u) = ap₂ (λ a b. joined k a b no_trees) (as_tree_renamed g s) (as_tree_renamed g u)
 
   -- only the names of its leaves matter
-  pub renamed_alike : (g h : K → L) (s : Simple K) → ((k : K) → LeafIn k (as_tree s) → g k ≡ h k) → simple_renamed g s ≡ simple_renamed h s
-  renamed_alike g h s_not_allowed n = refl
-  renamed_alike g h s_empty n = refl
-  renamed_alike g h s_text n = refl
-  renamed_alike g h (s_leaf k) n = ap s_leaf (n k f.here)
-  renamed_alike g h (s_attribute c s) n = ap (s_attribute c) (renamed_alike g h s (λ k i. n k (f.of_attribute i)))
-  renamed_alike g h (s_list s) n = ap s_list (renamed_alike g h s (λ k i. n k (f.of_list i)))
-  renamed_alike g h (s_data d) n = refl
-  renamed_alike g h (s_data_except d s) n = ap (s_data_except d) (renamed_alike g h s (λ k i. n k (f.of_except i)))
-  renamed_alike g h (s_value d v) n = refl
-  renamed_alike g h (s_one_or_more s) n = ap s_one_or_more (renamed_alike g h s (λ k i. n k (f.of_one_or_more i)))
-  renamed_alike g h (s_joined k s u) n = ap₂ (s_joined k) (renamed_alike g h s (λ j i. n j (f.of_first i))) (renamed_alike g h u (λ j i. n j (f.of_second i)))
+  pub renamed_corresponds : (g h : K → L) (s : Simple K) → ((k : K) → LeafIn k (as_tree s) → g k ≡ h k) → simple_renamed g s ≡ simple_renamed h s
+  renamed_corresponds g h s_not_allowed n = refl
+  renamed_corresponds g h s_empty n = refl
+  renamed_corresponds g h s_text n = refl
+  renamed_corresponds g h (s_leaf k) n = ap s_leaf (n k f.here)
+  renamed_corresponds g h (s_attribute c s) n = ap (s_attribute c) (renamed_corresponds g h s (λ k i. n k (f.of_attribute i)))
+  renamed_corresponds g h (s_list s) n = ap s_list (renamed_corresponds g h s (λ k i. n k (f.of_list i)))
+  renamed_corresponds g h (s_data d) n = refl
+  renamed_corresponds g h (s_data_except d s) n = ap (s_data_except d) (renamed_corresponds g h s (λ k i. n k (f.of_except i)))
+  renamed_corresponds g h (s_value d v) n = refl
+  renamed_corresponds g h (s_one_or_more s) n = ap s_one_or_more (renamed_corresponds g h s (λ k i. n k (f.of_one_or_more i)))
+  renamed_corresponds g h (s_joined k s u) n =
+      ap₂ (s_joined k) (renamed_corresponds g h s (λ j i. n j (f.of_first i))) (renamed_corresponds g h u (λ j i. n j (f.of_second i)))
 
   pub record Origin (g : K → L) (s : Simple K) (l : L) : Type 0 where
     pub name : K
@@ -75,14 +76,16 @@ module _ {K L : Type 0} where
   choice_renamed g proper blank s u = refl
   choice_renamed g proper proper s u = refl
 
-  both_renamed : (k : Connector) (g : K → L) (x y : Sort) (s u : Simple K) → simple_renamed g (both_by k x y s u) ≡ both_by k x y (simple_renamed g s) (simple_renamed g u)
+  both_renamed : (k : Connector) (g : K → L) (x y : Sort) (s u : Simple K)
+      → simple_renamed g (both_by k x y s u) ≡ both_by k x y (simple_renamed g s) (simple_renamed g u)
   both_renamed k g nothing y s u = refl
   both_renamed k g blank y s u = refl
   both_renamed k g proper nothing s u = refl
   both_renamed k g proper blank s u = refl
   both_renamed k g proper proper s u = refl
 
-  by_renamed : (k : Connector) (g : K → L) (x y : Sort) (s u : Simple K) → simple_renamed g (joined_by k x y s u) ≡ joined_by k x y (simple_renamed g s) (simple_renamed g u)
+  by_renamed : (k : Connector) (g : K → L) (x y : Sort) (s u : Simple K)
+      → simple_renamed g (joined_by k x y s u) ≡ joined_by k x y (simple_renamed g s) (simple_renamed g u)
   by_renamed choice = choice_renamed
   by_renamed group = both_renamed group
   by_renamed interleave = both_renamed interleave
@@ -91,7 +94,8 @@ module _ {K L : Type 0} where
   join_renamed k g s u = rw (renamed_sort g s, renamed_sort g u) (by_renamed k g (sort_of s) (sort_of u) s u)
 
 module _ {L : Type 0} where
-  choice_leaves : (l : L) {s u : Simple L} {x y : Sort} → Sorted s x → Sorted u y → LeafIn l (as_tree (choice_by x y s u)) → LeafIn l (as_tree s) ⊎ LeafIn l (as_tree u)
+  choice_leaves : (l : L) {s u : Simple L} {x y : Sort} → Sorted s x → Sorted u y → LeafIn l (as_tree (choice_by x y s u))
+      → LeafIn l (as_tree s) ⊎ LeafIn l (as_tree u)
   choice_leaves l is_nothing e i = inr i
   choice_leaves l is_blank is_nothing i = inl i
   choice_leaves l is_blank is_blank i = inl i
@@ -106,7 +110,8 @@ module _ {L : Type 0} where
   choice_leaves l (is_proper p) (is_proper q) (f.of_second i) = inr i
   choice_leaves l (is_proper p) (is_proper q) (f.of_others i) = elim i [ ]
 
-  both_leaves : (k : Connector) (l : L) {s u : Simple L} {x y : Sort} → Sorted s x → Sorted u y → LeafIn l (as_tree (both_by k x y s u)) → LeafIn l (as_tree s) ⊎ LeafIn l (as_tree u)
+  both_leaves : (k : Connector) (l : L) {s u : Simple L} {x y : Sort} → Sorted s x → Sorted u y → LeafIn l (as_tree (both_by k x y s u))
+      → LeafIn l (as_tree s) ⊎ LeafIn l (as_tree u)
   both_leaves k l is_nothing e i = inl i
   both_leaves k l is_blank e i = inr i
   both_leaves k l (is_proper p) is_nothing i = inr i
@@ -121,7 +126,8 @@ module _ {L : Type 0} where
   join_leaves group l s u = both_leaves group l (sorted s) (sorted u)
   join_leaves interleave l s u = both_leaves interleave l (sorted s) (sorted u)
 
-  choice_keeps : (l : L) {s u : Simple L} {x y : Sort} → Sorted s x → Sorted u y → LeafIn l (as_tree s) ⊎ LeafIn l (as_tree u) → LeafIn l (as_tree (choice_by x y s u))
+  choice_keeps : (l : L) {s u : Simple L} {x y : Sort} → Sorted s x → Sorted u y → LeafIn l (as_tree s) ⊎ LeafIn l (as_tree u)
+      → LeafIn l (as_tree (choice_by x y s u))
   choice_keeps l is_nothing e (inl i) = elim i [ ]
   choice_keeps l is_nothing e (inr i) = i
   choice_keeps l is_blank e (inl i) = elim i [ ]
@@ -135,7 +141,8 @@ module _ {L : Type 0} where
   choice_keeps l (is_proper p) (is_proper q) (inl i) = f.of_first i
   choice_keeps l (is_proper p) (is_proper q) (inr i) = f.of_second i
 
-  both_keeps : (k : Connector) (l : L) {s u : Simple L} {x y : Sort} → Sorted s x → Sorted u y → (sort_of (both_by k x y s u) ≡ nothing → ⊥) → LeafIn l (as_tree s) ⊎ LeafIn l (as_tree u) → LeafIn l (as_tree (both_by k x y s u))
+  both_keeps : (k : Connector) (l : L) {s u : Simple L} {x y : Sort} → Sorted s x → Sorted u y → (sort_of (both_by k x y s u) ≡ nothing → ⊥)
+      → LeafIn l (as_tree s) ⊎ LeafIn l (as_tree u) → LeafIn l (as_tree (both_by k x y s u))
   both_keeps k l is_nothing e n (inl i) = elim i [ ]
   both_keeps k l is_nothing e n (inr i) = absurd (n refl)
   both_keeps k l is_blank e n (inl i) = elim i [ ]
@@ -163,6 +170,7 @@ reached_more a b n (f.from_tree i) = f.from_tree (n _ i)
 reached_more a b n (f.from_body r e i) = f.from_body (reached_more a b n r) e i
 
 -- what an element's body reaches, the element reaches
-pub reached_through : (m : Leaf) (a : Tree Leaf) → IsReached a m → {b : Tree Leaf} {l : Leaf} → IsReached b l → b ≡ as_tree (simple_of (body_of m)) → IsReached a l
+pub reached_through : (m : Leaf) (a : Tree Leaf) → IsReached a m → {b : Tree Leaf} {l : Leaf} → IsReached b l → b ≡ as_tree (simple_of (body_of m))
+    → IsReached a l
 reached_through m a n (f.from_tree {l = l} i) e = f.from_body n (has_simple_form (body_of m)) (subst (λ b. LeafIn l b) e i)
 reached_through m a n (f.from_body r g i) e = f.from_body (reached_through m a n r e) g i

@@ -1,28 +1,29 @@
--- What a tree matches by one reading of its leaves, each tree that is alike matches by another.
+-- What a tree matches by one reading of its leaves, each tree that corresponds to it matches by another.
 use Rattle.std.proofs.Common.{List, ℕ}
 use Rattle.rng_model.specs.Names.{Name, NameClass}
 use Rattle.rng_model.specs.Tree.{Connector, Tree, Trees}
 use Rattle.rng_model.specs.Document.{Attribute, Item}
 use Rattle.rng_model.specs.Matching.{Texts, Leaves, Matches, MatchesOne, MatchesAll, Weakly}
 use Rattle.rng_model.specs.Matching as m
-use Rattle.rng_simple.proofs.Alike.{Alike, AllAlike}
-use Rattle.rng_simple.proofs.Alike as s
+use Rattle.rng_simple.proofs.Correspondence.{Corresponds, AllCorrespond}
+use Rattle.rng_simple.proofs.Correspondence as s
 
 module _ {K L : Type 0} (R : K → L → Type 0) (A : Leaves (Unit {0}) K) (B : Leaves (Unit {0}) L) (In : NameClass → Name → Type 0) (texts : Texts) where
   -- a body for the other reading, and what makes an element of it
   pub record Body (x : Unit {0}) (l : L) (c : NameClass) (a : Tree K) : Type 0 where
     pub place : Unit {0}
     pub other : Tree L
-    pub alike : Alike R a other
+    pub corresponds : Corresponds R a other
     pub read : (q : Name) → In c q → (xs : List Attribute) (ns : List Item) → Weakly B In texts place other xs ns →
         (z : Unit {0}) × (d : NameClass) × (b : Tree L) × B.IsElement x l d z b × In d q × Weakly B In texts z b xs ns
 
-  module _ (excepts : (x : Unit {0}) (a : Tree K) (b : Tree L) → Alike R a b → (w : List ℕ) → B.Excepts x b w → A.Excepts x a w)
+  module _ (excepts : (x : Unit {0}) (a : Tree K) (b : Tree L) → Corresponds R a b → (w : List ℕ) → B.Excepts x b w → A.Excepts x a w)
       (stands : (x : Unit {0}) (k : K) (y : Unit {0}) (a : Tree K) → A.StandsFor x k y a → ⊥)
       (is_element : (x : Unit {0}) (k : K) (l : L) (c : NameClass) (y : Unit {0}) (a : Tree K) → R k l → A.IsElement x k c y a → Body x l c a)
     where
       mutual
-        pub reread : {x : Unit {0}} {a : Tree K} {xs : List Attribute} {ns : List Item} → Matches A In texts x a xs ns → (b : Tree L) → Alike R a b → Matches B In texts x b xs ns
+        pub reread : {x : Unit {0}} {a : Tree K} {xs : List Attribute} {ns : List Item} → Matches A In texts x a xs ns → (b : Tree L) → Corresponds R a b
+            → Matches B In texts x b xs ns
         reread m.empty_is b s.empties = m.empty_is
         reread (m.text_is h) b s.both_text = m.text_is h
         reread (m.first d) b (s.both_joined e f fs) = m.first (reread d _ e)
@@ -39,7 +40,7 @@ module _ {K L : Type 0} (R : K → L → Type 0) (A : Leaves (Unit {0}) K) (B : 
         reread (m.attribute_is i w) b (s.attributes e) = m.attribute_is i (reread_weakly w _ e)
         reread (m.element_is e i k w h) b (s.leaves r) =
             let t = is_element _ _ _ _ _ _ r e in
-            let u = t.read _ i _ _ (reread_weakly w t.other t.alike) in
+            let u = t.read _ i _ _ (reread_weakly w t.other t.corresponds) in
             m.element_is u.3 u.4 k u.5 h
         reread (m.data_is h) b s.datas = m.data_is h
         reread (m.data_but h n) b (s.excepts e) = m.data_but h (λ z. n (excepts _ _ _ e _ z))
@@ -47,15 +48,18 @@ module _ {K L : Type 0} (R : K → L → Type 0) (A : Leaves (Unit {0}) K) (B : 
         reread (m.list_is h d) b (s.lists e) = m.list_is h (reread d _ e)
         reread (m.stands_for g d) b e = absurd (stands _ _ _ _ g)
 
-        reread_one : {x : Unit {0}} {ts : Trees K} {xs : List Attribute} {ns : List Item} → MatchesOne A In texts x ts xs ns → (us : Trees L) → AllAlike R ts us → MatchesOne B In texts x us xs ns
+        reread_one : {x : Unit {0}} {ts : Trees K} {xs : List Attribute} {ns : List Item} → MatchesOne A In texts x ts xs ns → (us : Trees L)
+            → AllCorrespond R ts us → MatchesOne B In texts x us xs ns
         reread_one (m.this d) us (s.and_more e es) = m.this (reread d _ e)
         reread_one (m.later d) us (s.and_more e es) = m.later (reread_one d _ es)
 
-        reread_all : {x : Unit {0}} {k : Connector} {ts : Trees K} {xs : List Attribute} {ns : List Item} → MatchesAll A In texts x k ts xs ns → (us : Trees L) → AllAlike R ts us → MatchesAll B In texts x k us xs ns
+        reread_all : {x : Unit {0}} {k : Connector} {ts : Trees K} {xs : List Attribute} {ns : List Item} → MatchesAll A In texts x k ts xs ns → (us : Trees L)
+            → AllCorrespond R ts us → MatchesAll B In texts x k us xs ns
         reread_all m.none us s.no_more = m.none
         reread_all (m.and d ds i h) us (s.and_more e es) = m.and (reread d _ e) (reread_all ds _ es) i h
 
-        reread_weakly : {x : Unit {0}} {a : Tree K} {xs : List Attribute} {ns : List Item} → Weakly A In texts x a xs ns → (b : Tree L) → Alike R a b → Weakly B In texts x b xs ns
+        reread_weakly : {x : Unit {0}} {a : Tree K} {xs : List Attribute} {ns : List Item} → Weakly A In texts x a xs ns → (b : Tree L) → Corresponds R a b
+            → Weakly B In texts x b xs ns
         reread_weakly (m.as_is d) b e = m.as_is (reread d b e)
         reread_weakly (m.blank_text d h) b e = m.blank_text (reread d b e) h
         reread_weakly (m.nothing_there d) b e = m.nothing_there (reread d b e)

@@ -1,23 +1,8 @@
--- Interleavings and cuts: nothing on one side, and three parts in twos from either end.
+-- Interleavings and cuts of three parts, in twos from either end; and a connector with nothing on one side.
 use Rattle.std.proofs.Common.{◌≡◌, refl, ap, ◌∙◌, sym, List, [], ◌∷◌, ◌++◌, append_assoc, append-nil}
 use Rattle.rng_model.specs.Tree.{Connector, choice, group, interleave}
+use Rattle.rng_model.proofs.Interleaving.{left_alone, right_alone, left_is_all, right_is_all}
 use Rattle.rng_model.specs.Document.{Interleaves, done, left, right, Shares, in_order, in_any_order}
-
-pub left_alone : {A : Type 0} (xs : List A) → Interleaves xs [] xs
-left_alone [] = done
-left_alone (x ∷ xs) = left (left_alone xs)
-
-pub right_alone : {A : Type 0} (xs : List A) → Interleaves [] xs xs
-right_alone [] = done
-right_alone (x ∷ xs) = right (right_alone xs)
-
-pub left_is_all : {A : Type 0} {xs zs : List A} → Interleaves xs [] zs → xs ≡ zs
-left_is_all done = refl
-left_is_all (left {x} i) = ap (λ zs. x ∷ zs) (left_is_all i)
-
-pub right_is_all : {A : Type 0} {xs zs : List A} → Interleaves [] xs zs → xs ≡ zs
-right_is_all done = refl
-right_is_all (right {y} i) = ap (λ zs. y ∷ zs) (right_is_all i)
 
 pub record Regrouped {A : Type 0} (xs ys zs os : List A) : Type 0 where
   pub two : List A
@@ -48,7 +33,8 @@ pub record SharesLeft {A : Type 0} (k : Connector) (xs ys zs os : List A) : Type
   pub outer : Shares k two zs os
 
 pub shares_left : {A : Type 0} {k : Connector} {xs ys zs ws os : List A} → Shares k xs ws os → Shares k ys zs ws → SharesLeft k xs ys zs os
-shares_left {xs = xs} {ys = ys} {zs = zs} (in_order e) (in_order f) = record { two = xs ++ ys; inner = in_order refl; outer = in_order (append_assoc xs ys zs ∙ ap (λ ws. xs ++ ws) f ∙ e) }
+shares_left {xs = xs} {ys = ys} {zs = zs} (in_order e) (in_order f) =
+    record { two = xs ++ ys; inner = in_order refl; outer = in_order (append_assoc xs ys zs ∙ ap (λ ws. xs ++ ws) f ∙ e) }
 shares_left (in_any_order i) (in_any_order j) = let r = to_left i j in record { two = _; inner = in_any_order r.inner; outer = in_any_order r.outer }
 
 pub record SharesRight {A : Type 0} (k : Connector) (xs ys zs os : List A) : Type 0 where
@@ -57,7 +43,8 @@ pub record SharesRight {A : Type 0} (k : Connector) (xs ys zs os : List A) : Typ
   pub outer : Shares k xs two os
 
 pub shares_right : {A : Type 0} {k : Connector} {xs ys zs ws os : List A} → Shares k ws zs os → Shares k xs ys ws → SharesRight k xs ys zs os
-shares_right {xs = xs} {ys = ys} {zs = zs} (in_order e) (in_order f) = record { two = ys ++ zs; inner = in_order refl; outer = in_order (sym (append_assoc xs ys zs) ∙ ap (λ ws. ws ++ zs) f ∙ e) }
+shares_right {xs = xs} {ys = ys} {zs = zs} (in_order e) (in_order f) =
+    record { two = ys ++ zs; inner = in_order refl; outer = in_order (sym (append_assoc xs ys zs) ∙ ap (λ ws. ws ++ zs) f ∙ e) }
 shares_right (in_any_order i) (in_any_order j) = let r = to_right i j in record { two = _; inner = in_any_order r.inner; outer = in_any_order r.outer }
 
 pub nothing_right : {A : Type 0} {k : Connector} {xs os : List A} → Shares k xs [] os → xs ≡ os

@@ -25,17 +25,19 @@ class_steps_keep (step.class_step_and s d) = class_keeps s ∙ class_steps_keep 
 
 -- a class in which no rule applies is nested
 mutual
-  pub class_own : (c : NameClass) → ((d : NameClass) → ClassStep c d → ⊥) → nested c ≡ c
-  class_own any_name n = refl
-  class_own (any_except c) n = ap any_except (class_own c (λ d s. n _ (step.in_any_except s)))
-  class_own (ns_name u) n = refl
-  class_own (ns_except u c) n = ap (ns_except u) (class_own c (λ d s. n _ (step.in_ns_except s)))
-  class_own (name_is x) n = refl
-  class_own (one_of c d no_classes) n = rw (class_own c (λ e s. n _ (step.in_first_class s)), class_own d (λ e s. n _ (step.in_second_class s))) refl
-  class_own (one_of c d (class_and e cs)) n = absurd (n _ step.nest_class)
+  pub class_unchanged : (c : NameClass) → ((d : NameClass) → ClassStep c d → ⊥) → nested c ≡ c
+  class_unchanged any_name n = refl
+  class_unchanged (any_except c) n = ap any_except (class_unchanged c (λ d s. n _ (step.in_any_except s)))
+  class_unchanged (ns_name u) n = refl
+  class_unchanged (ns_except u c) n = ap (ns_except u) (class_unchanged c (λ d s. n _ (step.in_ns_except s)))
+  class_unchanged (name_is x) n = refl
+  class_unchanged (one_of c d no_classes) n =
+      rw (class_unchanged c (λ e s. n _ (step.in_first_class s)), class_unchanged d (λ e s. n _ (step.in_second_class s))) refl
+  class_unchanged (one_of c d (class_and e cs)) n = absurd (n _ step.nest_class)
 
 -- no rule applies in a nested class
-pair_normal : (c d : NameClass) → ((e : NameClass) → ClassStep c e → ⊥) → ((e : NameClass) → ClassStep d e → ⊥) → (e : NameClass) → ClassStep (one_of c d no_classes) e → ⊥
+pair_normal : (c d : NameClass) → ((e : NameClass) → ClassStep c e → ⊥) → ((e : NameClass) → ClassStep d e → ⊥) → (e : NameClass)
+    → ClassStep (one_of c d no_classes) e → ⊥
 pair_normal c d m n e (step.in_first_class s) = m _ s
 pair_normal c d m n e (step.in_second_class s) = n _ s
 pair_normal c d m n e (step.in_other_classes s) = elim s [ ]
@@ -49,7 +51,8 @@ mutual
   class_normal (name_is x) d s = elim s [ ]
   class_normal (one_of c d cs) e s = after_normal cs (nested c) (nested d) (class_normal c) (class_normal d) e s
 
-  after_normal : (cs : NameClasses) (c d : NameClass) → ((e : NameClass) → ClassStep c e → ⊥) → ((e : NameClass) → ClassStep d e → ⊥) → (e : NameClass) → ClassStep (nested_after (one_of c d no_classes) cs) e → ⊥
+  after_normal : (cs : NameClasses) (c d : NameClass) → ((e : NameClass) → ClassStep c e → ⊥) → ((e : NameClass) → ClassStep d e → ⊥) → (e : NameClass)
+      → ClassStep (nested_after (one_of c d no_classes) cs) e → ⊥
   after_normal no_classes c d m n e s = pair_normal c d m n e s
   after_normal (class_and f fs) c d m n e s = after_normal fs (one_of c d no_classes) (nested f) (pair_normal c d m n) (class_normal f) e s
 
@@ -89,4 +92,4 @@ pub has_simple_class : (c : NameClass) → IsSimpleClassOf c (nested c)
 has_simple_class c = record { reached = class_reached c; simple = class_normal c }
 
 pub is_only_simple_class : (c d : NameClass) → IsSimpleClassOf c d → d ≡ nested c
-is_only_simple_class c d f = sym (class_own d f.simple) ∙ sym (class_steps_keep f.reached)
+is_only_simple_class c d f = sym (class_unchanged d f.simple) ∙ sym (class_steps_keep f.reached)

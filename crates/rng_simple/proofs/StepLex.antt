@@ -28,29 +28,35 @@ module _ (L : Type 0) (texts : Texts) where
   Under a b = (ws : List (List ℕ)) → Has a ws → Has b ws
 
   -- `,` and `&` as one: this is what `Lex` says of them
-  from_all : (k : Connector) → (k ≡ choice → ⊥) → (a b : Tree L) (ts : Trees L) (ws : List (List ℕ)) → LexAll texts k (tree_and a (tree_and b ts)) ws → Has (joined k a b ts) ws
+  from_all : (k : Connector) → (k ≡ choice → ⊥) → (a b : Tree L) (ts : Trees L) (ws : List (List ℕ)) → LexAll texts k (tree_and a (tree_and b ts)) ws
+      → Has (joined k a b ts) ws
   from_all choice n a b ts ws h = absurd (n refl)
   from_all group n a b ts ws h = h
   from_all interleave n a b ts ws h = h
 
-  as_all : (k : Connector) → (k ≡ choice → ⊥) → (a b : Tree L) (ts : Trees L) (ws : List (List ℕ)) → Has (joined k a b ts) ws → LexAll texts k (tree_and a (tree_and b ts)) ws
+  as_all : (k : Connector) → (k ≡ choice → ⊥) → (a b : Tree L) (ts : Trees L) (ws : List (List ℕ)) → Has (joined k a b ts) ws
+      → LexAll texts k (tree_and a (tree_and b ts)) ws
   as_all choice n a b ts ws h = absurd (n refl)
   as_all group n a b ts ws h = h
   as_all interleave n a b ts ws h = h
 
-  pair : (k : Connector) → (k ≡ choice → ⊥) → (a b : Tree L) (us vs ws : List (List ℕ)) → Has a us → Has b vs → Shares k us vs ws → Has (joined k a b no_trees) ws
+  pair : (k : Connector) → (k ≡ choice → ⊥) → (a b : Tree L) (us vs ws : List (List ℕ)) → Has a us → Has b vs → Shares k us vs ws
+      → Has (joined k a b no_trees) ws
   pair k n a b us vs ws d e h = from_all k n a b no_trees ws (us, vs, d, (vs, [], e, refl, with_nothing k n vs), h)
 
-  unpair : (k : Connector) → (k ≡ choice → ⊥) → (a b : Tree L) (ws : List (List ℕ)) → Has (joined k a b no_trees) ws → (us : List (List ℕ)) × (vs : List (List ℕ)) × Has a us × Has b vs × Shares k us vs ws
+  unpair : (k : Connector) → (k ≡ choice → ⊥) → (a b : Tree L) (ws : List (List ℕ)) → Has (joined k a b no_trees) ws
+      → (us : List (List ℕ)) × (vs : List (List ℕ)) × Has a us × Has b vs × Shares k us vs ws
   unpair k n a b ws h =
       let g = as_all k n a b no_trees ws h in
       let e : g.3.0 ≡ g.1 = nothing_right (subst (λ zs. Shares k g.3.0 zs g.1) g.3.3 g.3.4) in
       (g.0, g.1, g.2, subst (λ zs. Has b zs) e g.3.2, g.4)
 
-  nest_all_in : (k : Connector) → (k ≡ choice → ⊥) → (a b c : Tree L) (cs : Trees L) (ws : List (List ℕ)) → LexAll texts k (tree_and a (tree_and b (tree_and c cs))) ws → LexAll texts k (tree_and (joined k a b no_trees) (tree_and c cs)) ws
+  nest_all_in : (k : Connector) → (k ≡ choice → ⊥) → (a b c : Tree L) (cs : Trees L) (ws : List (List ℕ))
+      → LexAll texts k (tree_and a (tree_and b (tree_and c cs))) ws → LexAll texts k (tree_and (joined k a b no_trees) (tree_and c cs)) ws
   nest_all_in k n a b c cs ws h = let r = shares_left h.4 h.3.4 in (r.two, h.3.1, pair k n a b h.0 h.3.0 r.two h.2 h.3.2 r.inner, h.3.3, r.outer)
 
-  nest_all_out : (k : Connector) → (k ≡ choice → ⊥) → (a b c : Tree L) (cs : Trees L) (ws : List (List ℕ)) → LexAll texts k (tree_and (joined k a b no_trees) (tree_and c cs)) ws → LexAll texts k (tree_and a (tree_and b (tree_and c cs))) ws
+  nest_all_out : (k : Connector) → (k ≡ choice → ⊥) → (a b c : Tree L) (cs : Trees L) (ws : List (List ℕ))
+      → LexAll texts k (tree_and (joined k a b no_trees) (tree_and c cs)) ws → LexAll texts k (tree_and a (tree_and b (tree_and c cs))) ws
   nest_all_out k n a b c cs ws h = let p = unpair k n a b h.0 h.2 in let r = shares_right h.4 p.4 in (p.0, r.two, p.2, (p.1, h.1, p.3, h.3, r.inner), r.outer)
 
   nest_in : (k : Connector) (a b c : Tree L) (cs : Trees L) → Under (joined k a b (tree_and c cs)) (joined k (joined k a b no_trees) c cs)
@@ -74,7 +80,8 @@ module _ (L : Type 0) (texts : Texts) where
   in_second group a b c ts f ws h = (h.0, h.1, h.2, (h.3.0, h.3.1, f h.3.0 h.3.2, h.3.3, h.3.4), h.4)
   in_second interleave a b c ts f ws h = (h.0, h.1, h.2, (h.3.0, h.3.1, f h.3.0 h.3.2, h.3.3, h.3.4), h.4)
 
-  in_others : (k : Connector) (a b : Tree L) (ts us : Trees L) → ((ws : List (List ℕ)) → LexOne texts ts ws → LexOne texts us ws) → ((k : Connector) (ws : List (List ℕ)) → LexAll texts k ts ws → LexAll texts k us ws) → Under (joined k a b ts) (joined k a b us)
+  in_others : (k : Connector) (a b : Tree L) (ts us : Trees L) → ((ws : List (List ℕ)) → LexOne texts ts ws → LexOne texts us ws)
+      → ((k : Connector) (ws : List (List ℕ)) → LexAll texts k ts ws → LexAll texts k us ws) → Under (joined k a b ts) (joined k a b us)
   in_others choice a b ts us f g ws h = either (λ e. e) (λ i. either (λ e. e) (f ws) i) h
   in_others group a b ts us f g ws h = (h.0, h.1, h.2, (h.3.0, h.3.1, h.3.2, g group h.3.1 h.3.3, h.3.4), h.4)
   in_others interleave a b ts us f g ws h = (h.0, h.1, h.2, (h.3.0, h.3.1, h.3.2, g interleave h.3.1 h.3.3, h.3.4), h.4)

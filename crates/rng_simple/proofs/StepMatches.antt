@@ -1,13 +1,15 @@
 -- A step changes nothing that a tree matches, however its leaves are read.
 use Rattle.std.proofs.Common.{◌≡◌, refl, subst, List, ◌++◌, ℕ}
 use Rattle.rng_model.specs.Names.{Name, NameClass}
-use Rattle.rng_model.specs.Tree.{Datatype, Connector, choice, group, interleave, Tree, not_allowed, empty, text, attribute, list, data_of, data_except, mixed, optional, zero_or_more, one_or_more, joined, Trees, no_trees, tree_and}
+use Rattle.rng_model.specs.Tree.{Datatype, Connector, choice, group, interleave, Tree, not_allowed, empty, text, attribute, list, data_of, data_except, mixed}
+use Rattle.rng_model.specs.Tree.{optional, zero_or_more, one_or_more, joined, Trees, no_trees, tree_and}
 use Rattle.rng_model.specs.Step.{ClassStep, HasNotAllowed, Step, StepAmong, Steps}
 use Rattle.rng_model.specs.Step as step
 use Rattle.rng_model.specs.Document.{Attribute, Item, Interleaves, done, Shares, in_order, in_any_order}
 use Rattle.rng_model.specs.Matching.{Texts, Leaves, Matches, MatchesOne, MatchesAll, Weakly}
 use Rattle.rng_model.specs.Matching as m
-use Rattle.rng_simple.proofs.Sharing.{left_alone, right_alone, left_is_all, right_is_all, to_left, to_right, shares_left, shares_right, nothing_right, nothing_left, with_nothing, after_nothing, not_by_choice}
+use Rattle.rng_model.proofs.Interleaving.{left_alone, right_alone, left_is_all, right_is_all}
+use Rattle.rng_simple.proofs.Sharing.{to_left, to_right, shares_left, shares_right, nothing_right, nothing_left, with_nothing, after_nothing, not_by_choice}
 
 module _ {X L : Type 0} (leaves : Leaves X L) (In : NameClass → Name → Type 0) (texts : Texts) where
   abbrev M : X → Tree L → List Attribute → List Item → Type 0
@@ -18,7 +20,8 @@ module _ {X L : Type 0} (leaves : Leaves X L) (In : NameClass → Name → Type 
   Under x a b = (xs : List Attribute) (ns : List Item) → M x a xs ns → M x b xs ns
 
   -- two members
-  pair : {x : X} {k : Connector} {a b : Tree L} {xs ys zs : List Attribute} {ms ns os : List Item} → M x a xs ms → M x b ys ns → Interleaves xs ys zs → Shares k ms ns os → M x (joined k a b no_trees) zs os
+  pair : {x : X} {k : Connector} {a b : Tree L} {xs ys zs : List Attribute} {ms ns os : List Item} → M x a xs ms → M x b ys ns → Interleaves xs ys zs
+      → Shares k ms ns os → M x (joined k a b no_trees) zs os
   pair {k = k} {ys = ys} {ns = ns} d e i h = m.all d (m.and e m.none (left_alone ys) (with_nothing k (not_by_choice h) ns)) i h
 
   record Pair (x : X) (k : Connector) (a b : Tree L) (zs : List Attribute) (os : List Item) : Type 0 where
@@ -31,7 +34,8 @@ module _ {X L : Type 0} (leaves : Leaves X L) (In : NameClass → Name → Type 
     pub attributes : Interleaves xs ys zs
     pub items : Shares k ms ns os
 
-  unpair : {x : X} {k : Connector} {a b : Tree L} {zs : List Attribute} {os : List Item} → (k ≡ choice → ⊥) → M x (joined k a b no_trees) zs os → Pair x k a b zs os
+  unpair : {x : X} {k : Connector} {a b : Tree L} {zs : List Attribute} {os : List Item} → (k ≡ choice → ⊥) → M x (joined k a b no_trees) zs os
+      → Pair x k a b zs os
   unpair n (m.first d) = absurd (n refl)
   unpair n (m.second d) = absurd (n refl)
   unpair n (m.another d) = absurd (n refl)
@@ -43,7 +47,8 @@ module _ {X L : Type 0} (leaves : Leaves X L) (In : NameClass → Name → Type 
   moved {x} {a} {xs} {ys} {ns} {os} e f d = subst (λ ys. M x a ys os) e (subst (λ os. M x a xs os) f d)
 
   -- inside a tree
-  pub weakly : {x : X} {a b : Tree L} → Under x a b → {xs : List Attribute} {ns : List Item} → Weakly leaves In texts x a xs ns → Weakly leaves In texts x b xs ns
+  pub weakly : {x : X} {a b : Tree L} → Under x a b → {xs : List Attribute} {ns : List Item} → Weakly leaves In texts x a xs ns
+      → Weakly leaves In texts x b xs ns
   weakly f (m.as_is d) = m.as_is (f _ _ d)
   weakly f (m.blank_text d h) = m.blank_text (f _ _ d) h
   weakly f (m.nothing_there d) = m.nothing_there (f _ _ d)
@@ -125,7 +130,8 @@ module _ {X L : Type 0} (leaves : Leaves X L) (In : NameClass → Name → Type 
       let p = unpair (not_by_choice h) d in let r = to_right i p.attributes in let s = shares_right h p.items in
       m.all p.one (m.and p.other es r.inner s.inner) r.outer s.outer
 
-  no_member : {A : Type 0} {x : X} {k : Connector} {ts : Trees L} {xs : List Attribute} {ns : List Item} → HasNotAllowed ts → MatchesAll leaves In texts x k ts xs ns → A
+  no_member : {A : Type 0} {x : X} {k : Connector} {ts : Trees L} {xs : List Attribute} {ns : List Item} → HasNotAllowed ts
+      → MatchesAll leaves In texts x k ts xs ns → A
   no_member step.this_one (m.and d es i h) = elim d [ ]
   no_member (step.later_one p) (m.and d es i h) = no_member p es
 
@@ -138,14 +144,16 @@ module _ {X L : Type 0} (leaves : Leaves X L) (In : NameClass → Name → Type 
   empty_first_in n _ _ d = from_pair (unpair n d) where
     from_pair : {x : X} {k : Connector} {b : Tree L} {zs : List Attribute} {os : List Item} → Pair x k empty b zs os → M x b zs os
     from_pair p = empty_with p.one p.other p.attributes p.items where
-      empty_with : {x : X} {k : Connector} {b : Tree L} {xs ys zs : List Attribute} {ms ns os : List Item} → M x empty xs ms → M x b ys ns → Interleaves xs ys zs → Shares k ms ns os → M x b zs os
+      empty_with : {x : X} {k : Connector} {b : Tree L} {xs ys zs : List Attribute} {ms ns os : List Item} → M x empty xs ms → M x b ys ns
+          → Interleaves xs ys zs → Shares k ms ns os → M x b zs os
       empty_with m.empty_is e i h = moved (right_is_all i) (nothing_left h) e
 
   empty_second_in : {x : X} {k : Connector} {b : Tree L} → (k ≡ choice → ⊥) → Under x (joined k b empty no_trees) b
   empty_second_in n _ _ d = from_pair (unpair n d) where
     from_pair : {x : X} {k : Connector} {b : Tree L} {zs : List Attribute} {os : List Item} → Pair x k b empty zs os → M x b zs os
     from_pair p = with_empty p.other p.one p.attributes p.items where
-      with_empty : {x : X} {k : Connector} {b : Tree L} {xs ys zs : List Attribute} {ms ns os : List Item} → M x empty ys ns → M x b xs ms → Interleaves xs ys zs → Shares k ms ns os → M x b zs os
+      with_empty : {x : X} {k : Connector} {b : Tree L} {xs ys zs : List Attribute} {ms ns os : List Item} → M x empty ys ns → M x b xs ms
+          → Interleaves xs ys zs → Shares k ms ns os → M x b zs os
       with_empty m.empty_is e i h = moved (left_is_all i) (nothing_right h) e
 
   empties_in : {x : X} {k : Connector} → Under x (joined k empty empty no_trees) empty
@@ -162,7 +170,8 @@ module _ {X L : Type 0} (leaves : Leaves X L) (In : NameClass → Name → Type 
   mixed_in : {x : X} {a : Tree L} → Under x (mixed a) (joined interleave a text no_trees)
   mixed_in xs _ (m.mixed_with d h i) = pair d (m.text_is h) (left_alone xs) (in_any_order i)
 
-  texts_with : {x : X} {a : Tree L} {xs ys zs : List Attribute} {ms ns os : List Item} → M x text ys ns → M x a xs ms → Interleaves xs ys zs → Shares interleave ms ns os → M x (mixed a) zs os
+  texts_with : {x : X} {a : Tree L} {xs ys zs : List Attribute} {ms ns os : List Item} → M x text ys ns → M x a xs ms → Interleaves xs ys zs
+      → Shares interleave ms ns os → M x (mixed a) zs os
   texts_with (m.text_is h) d i (in_any_order j) = moved (left_is_all i) refl (m.mixed_with d h j)
 
   mixed_out : {x : X} {a : Tree L} → Under x (joined interleave a text no_trees) (mixed a)
@@ -171,7 +180,8 @@ module _ {X L : Type 0} (leaves : Leaves X L) (In : NameClass → Name → Type 
   empty_more : {x : X} → Under x (one_or_more empty) empty
   empty_more _ _ (m.once d) = d
   empty_more _ _ (m.more d e n i h) = both d (empty_more _ _ e) i h where
-    both : {x : X} {xs ys zs : List Attribute} {ms ns os : List Item} → M x empty xs ms → M x empty ys ns → Interleaves xs ys zs → ms ++ ns ≡ os → M x empty zs os
+    both : {x : X} {xs ys zs : List Attribute} {ms ns os : List Item} → M x empty xs ms → M x empty ys ns → Interleaves xs ys zs → ms ++ ns ≡ os
+        → M x empty zs os
     both m.empty_is m.empty_is i h = moved (right_is_all i) h m.empty_is
 
   optional_in : {x : X} {a : Tree L} → Under x (optional a) (joined choice a empty no_trees)
@@ -257,7 +267,8 @@ module _ {X L : Type 0} (leaves : Leaves X L) (In : NameClass → Name → Type 
   all_later : {x : X} {a : Tree L} (ts us : Trees L) → AllUnder x ts us → AllUnder x (tree_and a ts) (tree_and a us)
   all_later ts us f k _ _ (m.and d es i h) = m.and d (f k _ _ es) i h
 
-  module _ (class_in : (c d : NameClass) → ClassStep c d → (q : Name) → In c q → In d q) (class_out : (c d : NameClass) → ClassStep c d → (q : Name) → In d q → In c q)
+  module _ (class_in : (c d : NameClass) → ClassStep c d → (q : Name) → In c q → In d q)
+      (class_out : (c d : NameClass) → ClassStep c d → (q : Name) → In d q → In c q)
       (excepts_in : (x : X) (a b : Tree L) → Step a b → (w : List ℕ) → leaves.Excepts x a w → leaves.Excepts x b w)
       (excepts_out : (x : X) (a b : Tree L) → Step a b → (w : List ℕ) → leaves.Excepts x b w → leaves.Excepts x a w)
       (excepts_none : (x : X) (w : List ℕ) → leaves.Excepts x not_allowed w → ⊥) where

@@ -4,8 +4,8 @@ use Rattle.rng_model.specs.Tree.{Tree}
 use Rattle.rng_model.specs.Tree.{as_tree}
 use Rattle.rng_model.specs.Step.{IsSimpleFormOf}
 use Rattle.rng_simple.specs.SimpleOf.{simple_of}
-use Rattle.rng_simple.proofs.Kept.{steps_keep}
-use Rattle.rng_simple.proofs.Own.{own}
+use Rattle.rng_simple.proofs.StepSimpleOf.{steps_keep}
+use Rattle.rng_simple.proofs.NoStep.{unchanged}
 use Rattle.rng_simple.proofs.Reached.{reached}
 use Rattle.rng_simple.proofs.Normal.{normal}
 
@@ -14,4 +14,4 @@ module _ {L : Type 0} where
   has_simple_form a = record { reached = reached a; simple = normal a }
 
   pub is_only_simple_form : (a b : Tree L) → IsSimpleFormOf a b → b ≡ as_tree (simple_of a)
-  is_only_simple_form a b f = sym (own b f.simple) ∙ ap as_tree (sym (steps_keep f.reached))
+  is_only_simple_form a b f = sym (unchanged b f.simple) ∙ ap as_tree (sym (steps_keep f.reached))

@@ -1,5 +1,5 @@
 pub mod Schema
-pub mod Draft
-pub mod Part
+pub mod GrammarBuilder
+pub mod Simplified
 pub mod SimpleOf
-pub mod Made
+pub mod Representation

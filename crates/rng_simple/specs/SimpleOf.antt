@@ -2,7 +2,8 @@
 -- 4.21). Private contracts cite it; `Step` and `SimpleForm` of `rng_model` say what it has to give.
 use Rattle.rng_model.specs.Names.{NameClass, any_name, any_except, ns_name, ns_except, name_is, one_of, NameClasses, no_classes, class_and}
 use Rattle.rng_model.specs.Tree.{Datatype, Connector, choice, group, interleave}
-use Rattle.rng_model.specs.Tree.{Tree, not_allowed, empty, text, leaf, attribute, list, data_of, data_except, value, mixed, optional, zero_or_more, one_or_more, joined, Trees, no_trees, tree_and}
+use Rattle.rng_model.specs.Tree.{Tree, not_allowed, empty, text, leaf, attribute, list, data_of, data_except, value, mixed, optional, zero_or_more, one_or_more}
+use Rattle.rng_model.specs.Tree.{joined, Trees, no_trees, tree_and}
 use Rattle.rng_model.specs.Tree.{Simple, s_not_allowed, s_empty, s_text, s_leaf, s_attribute, s_list, s_data, s_data_except, s_value, s_one_or_more, s_joined}
 
 -- a name class with its members nested in twos from the left (4.12)

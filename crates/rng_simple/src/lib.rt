@@ -5,12 +5,10 @@
 //! is a fault.
 #![tactic(auto)]
 
-mod draft;
+mod grammar_builder;
 mod name_class;
 mod schema;
 mod simplification;
-#[cfg(test)]
-mod tests;
 
 pub use schema::Schema;
 pub use simplification::simplify;

@@ -10,13 +10,13 @@ ghost use Rattle.rng_model.specs.Table.{IsInSimpleSyntax, grammar_of, tree_at};
 ghost use Rattle.rng_model.specs.Tree.{IsSimpleBody, choice, group, s_empty, s_joined};
 ghost use Rattle.rng_model.specs.View.{pattern_of};
 ghost use Rattle.rng_model.specs.Written.{members};
-ghost use Rattle.rng_simple.specs.Draft.{Extends, IsDraft, cut};
-ghost use Rattle.rng_simple.specs.Made.{Makes};
+ghost use Rattle.rng_simple.specs.GrammarBuilder.{Extends, AreTables, cut};
+ghost use Rattle.rng_simple.specs.Representation.{Represents};
 ghost use Rattle.rng_simple.specs.Schema.{start_of};
-ghost use Rattle.rng_simple.specs.Part.{IsCutOrKept, IsPart, Keeps, part_tree};
+ghost use Rattle.rng_simple.specs.Simplified.{IsCutOrKept, IsSimplified, Keeps, simplified_tree};
 ghost use Rattle.rng_simple.specs.SimpleOf.{join};
 
-use crate::draft::{Draft, Mark};
+use crate::grammar_builder::{GrammarBuilder, Mark};
 use crate::name_class::nested;
 use crate::schema::Schema;
 use rng_model::{Pattern, PatternId, SchemaFault, Simple, SimpleGrammar};
@@ -24,8 +24,8 @@ use std::alloc::Global;
 
 /// What a pattern has become. `NotAllowed` and `Empty` have no place in the table yet, since the pattern around them
 /// may vanish with them.
-#[derive(Clone, Copy, Debug, PartialEq, Eq)]
-pub enum Part {
+#[derive(Clone, Copy, PartialEq)]
+pub enum Simplified {
     NotAllowed,
     Empty,
     Pattern(PatternId),
@@ -43,140 +43,161 @@ pub fn simplify(alloc: Global, schema: &Schema) -> Result<SimpleGrammar, SchemaF
     ensures only { IfOk result (λ g. IsOnlySimpleGrammarOf (start_of schema.now) (grammar_of g)) }
     ensures documents { IfOk result (λ g. AreSameDocuments (start_of schema.now) (grammar_of g)) }
 {
-    let mut draft = Draft::new(alloc);
-    let start = part_of(alloc, &mut draft, schema.pattern())?;
-    let start = placed(&mut draft, start)?;
-    Ok(draft.finish(start))
+    let mut builder = GrammarBuilder::new(alloc);
+    let start = simplify_pattern(alloc, &mut builder, schema.pattern())?;
+    let start = placed(&mut builder, start)?;
+    Ok(builder.finish(start))
 }
 
 /// The simple form of a pattern.
-#[cycle(parts)]
-fn part_of(alloc: Global, draft: &mut Draft, pattern: &Pattern) -> Result<Part, SchemaFault>
-    ensures extends { OnOk result (Extends draft.old draft.new) }
-    ensures part { IfOk result (IsPart draft.new.patterns) }
-    ensures makes { IfOk result (λ part. Makes draft.old draft.new (part_tree draft.new.patterns part) (pattern_of pattern.now)) }
+#[cycle(patterns)]
+fn simplify_pattern(
+    alloc: Global,
+    builder: &mut GrammarBuilder,
+    pattern: &Pattern,
+) -> Result<Simplified, SchemaFault>
+    ensures extends { OnOk result (Extends builder.old builder.new) }
+    ensures simplified { IfOk result (IsSimplified builder.new.patterns) }
+    ensures represents { IfOk result (λ simplified. Represents builder.old builder.new (simplified_tree builder.new.patterns simplified) (pattern_of pattern.now)) }
 {
     match pattern {
-        Pattern::NotAllowed => Ok(Part::NotAllowed),
-        Pattern::Empty => Ok(Part::Empty),
-        Pattern::Text => Ok(Part::Pattern(draft.push(Simple::Text)?)),
+        Pattern::NotAllowed => Ok(Simplified::NotAllowed),
+        Pattern::Empty => Ok(Simplified::Empty),
+        Pattern::Text => Ok(Simplified::Pattern(builder.push(Simple::Text)?)),
         Pattern::Element(class, body) => {
-            let body = part_of(alloc, draft, body)?;
-            let body = placed(draft, body)?;
-            let element = draft.push_element(nested(alloc, class)?, body)?;
-            Ok(Part::Pattern(draft.push(Simple::Element(element))?))
+            let body = simplify_pattern(alloc, builder, body)?;
+            let body = placed(builder, body)?;
+            let element = builder.push_element(nested(alloc, class)?, body)?;
+            Ok(Simplified::Pattern(builder.push(Simple::Element(element))?))
         }
         Pattern::Attribute(class, body) => {
-            let body = part_of(alloc, draft, body)?;
-            if body == Part::NotAllowed {
-                return Ok(Part::NotAllowed);
+            let body = simplify_pattern(alloc, builder, body)?;
+            if body == Simplified::NotAllowed {
+                return Ok(Simplified::NotAllowed);
             }
-            let body = placed(draft, body)?;
+            let body = placed(builder, body)?;
             let class = nested(alloc, class)?;
-            Ok(Part::Pattern(draft.push(Simple::Attribute(class, body))?))
+            Ok(Simplified::Pattern(builder.push(Simple::Attribute(class, body))?))
         }
-        Pattern::Group(all) => group_of(alloc, draft, all),
-        Pattern::Choice(all) => choice_of(alloc, draft, all),
+        Pattern::Group(all) => simplify_group(alloc, builder, all),
+        Pattern::Choice(all) => simplify_choice(alloc, builder, all),
     }
 }
 
 /// The members of a group, nested in twos from the left.
-#[cycle(parts)]
-fn group_of(alloc: Global, draft: &mut Draft, all: &[Pattern]) -> Result<Part, SchemaFault>
-    ensures extends { OnOk result (Extends draft.old draft.new) }
-    ensures part { IfOk result (IsPart draft.new.patterns) }
-    ensures makes { IfOk result (λ part. Makes draft.old draft.new (part_tree draft.new.patterns part) (members group (map pattern_of all.now))) }
+#[cycle(patterns)]
+fn simplify_group(
+    alloc: Global,
+    builder: &mut GrammarBuilder,
+    all: &[Pattern],
+) -> Result<Simplified, SchemaFault>
+    ensures extends { OnOk result (Extends builder.old builder.new) }
+    ensures simplified { IfOk result (IsSimplified builder.new.patterns) }
+    ensures represents { IfOk result (λ simplified. Represents builder.old builder.new (simplified_tree builder.new.patterns simplified) (members group (map pattern_of all.now))) }
 {
-    let mark = draft.mark();
-    let mut joined = Part::Empty;
+    let mark = builder.mark();
+    let mut joined = Simplified::Empty;
     for member in all {
-        let next = part_of(alloc, draft, member)?;
-        joined = group(draft, mark, joined, next)?;
+        let next = simplify_pattern(alloc, builder, member)?;
+        joined = group(builder, mark, joined, next)?;
     }
     Ok(joined)
 }
 
 /// The members of a choice, nested in twos from the left.
-#[cycle(parts)]
-fn choice_of(alloc: Global, draft: &mut Draft, all: &[Pattern]) -> Result<Part, SchemaFault>
-    ensures extends { OnOk result (Extends draft.old draft.new) }
-    ensures part { IfOk result (IsPart draft.new.patterns) }
-    ensures makes { IfOk result (λ part. Makes draft.old draft.new (part_tree draft.new.patterns part) (members choice (map pattern_of all.now))) }
+#[cycle(patterns)]
+fn simplify_choice(
+    alloc: Global,
+    builder: &mut GrammarBuilder,
+    all: &[Pattern],
+) -> Result<Simplified, SchemaFault>
+    ensures extends { OnOk result (Extends builder.old builder.new) }
+    ensures simplified { IfOk result (IsSimplified builder.new.patterns) }
+    ensures represents { IfOk result (λ simplified. Represents builder.old builder.new (simplified_tree builder.new.patterns simplified) (members choice (map pattern_of all.now))) }
 {
-    let mut joined = Part::NotAllowed;
+    let mut joined = Simplified::NotAllowed;
     for member in all {
-        let next = part_of(alloc, draft, member)?;
-        joined = choice(draft, joined, next)?;
+        let next = simplify_pattern(alloc, builder, member)?;
+        joined = choice(builder, joined, next)?;
     }
     Ok(joined)
 }
 
 /// A group of two, which is notAllowed where one of them is: then nothing that was added since the mark is left.
-fn group(draft: &mut Draft, mark: Mark, a: Part, b: Part) -> Result<Part, SchemaFault>
-    requires draft { IsDraft (cut mark draft.old) }
-    requires first { IsPart draft.old.patterns a }
-    requires second { IsPart draft.old.patterns b }
-    ensures extends { OnOk result (Extends (cut mark draft.old) draft.new) }
-    ensures part { IfOk result (IsPart draft.new.patterns) }
-    ensures kept { IfOk result (IsCutOrKept mark draft.old draft.new) }
-    ensures tree { IfOk result (λ part. part_tree draft.new.patterns part
-        ≡ join group (part_tree draft.old.patterns a) (part_tree draft.old.patterns b)) }
+fn group(
+    builder: &mut GrammarBuilder,
+    mark: Mark,
+    a: Simplified,
+    b: Simplified,
+) -> Result<Simplified, SchemaFault>
+    requires builder { AreTables (cut mark builder.old) }
+    requires first { IsSimplified builder.old.patterns a }
+    requires second { IsSimplified builder.old.patterns b }
+    ensures extends { OnOk result (Extends (cut mark builder.old) builder.new) }
+    ensures simplified { IfOk result (IsSimplified builder.new.patterns) }
+    ensures kept { IfOk result (IsCutOrKept mark builder.old builder.new) }
+    ensures tree { IfOk result (λ simplified. simplified_tree builder.new.patterns simplified
+        ≡ join group (simplified_tree builder.old.patterns a) (simplified_tree builder.old.patterns b)) }
 {
     match (a, b) {
-        (Part::NotAllowed, _) | (_, Part::NotAllowed) => {
-            draft.restore(mark);
-            Ok(Part::NotAllowed)
+        (Simplified::NotAllowed, _) | (_, Simplified::NotAllowed) => {
+            builder.restore(mark);
+            Ok(Simplified::NotAllowed)
         }
-        (Part::Empty, other) | (other, Part::Empty) => Ok(other),
-        (Part::Pattern(a), Part::Pattern(b)) => {
-            Ok(Part::Pattern(draft.push(Simple::Group(a, b))?))
+        (Simplified::Empty, other) | (other, Simplified::Empty) => Ok(other),
+        (Simplified::Pattern(a), Simplified::Pattern(b)) => {
+            Ok(Simplified::Pattern(builder.push(Simple::Group(a, b))?))
         }
     }
 }
 
 /// A choice of two, with empty on its first side.
-fn choice(draft: &mut Draft, a: Part, b: Part) -> Result<Part, SchemaFault>
-    requires first { IsPart draft.old.patterns a }
-    requires second { IsPart draft.old.patterns b }
-    ensures kept { OnOk result (Keeps draft.old draft.new) }
-    ensures part { IfOk result (IsPart draft.new.patterns) }
-    ensures tree { IfOk result (λ part. part_tree draft.new.patterns part
-        ≡ join choice (part_tree draft.old.patterns a) (part_tree draft.old.patterns b)) }
+fn choice(
+    builder: &mut GrammarBuilder,
+    a: Simplified,
+    b: Simplified,
+) -> Result<Simplified, SchemaFault>
+    requires first { IsSimplified builder.old.patterns a }
+    requires second { IsSimplified builder.old.patterns b }
+    ensures kept { OnOk result (Keeps builder.old builder.new) }
+    ensures simplified { IfOk result (IsSimplified builder.new.patterns) }
+    ensures tree { IfOk result (λ simplified. simplified_tree builder.new.patterns simplified
+        ≡ join choice (simplified_tree builder.old.patterns a) (simplified_tree builder.old.patterns b)) }
 {
     match (a, b) {
-        (Part::NotAllowed, other) | (other, Part::NotAllowed) => Ok(other),
-        (Part::Empty, Part::Empty) => Ok(Part::Empty),
-        (Part::Empty, Part::Pattern(b)) => empty_or(draft, b),
-        (Part::Pattern(a), Part::Empty) => empty_or(draft, a),
-        (Part::Pattern(a), Part::Pattern(b)) => {
-            Ok(Part::Pattern(draft.push(Simple::Choice(a, b))?))
+        (Simplified::NotAllowed, other) | (other, Simplified::NotAllowed) => Ok(other),
+        (Simplified::Empty, Simplified::Empty) => Ok(Simplified::Empty),
+        (Simplified::Empty, Simplified::Pattern(b)) => empty_or(builder, b),
+        (Simplified::Pattern(a), Simplified::Empty) => empty_or(builder, a),
+        (Simplified::Pattern(a), Simplified::Pattern(b)) => {
+            Ok(Simplified::Pattern(builder.push(Simple::Choice(a, b))?))
         }
     }
 }
 
 /// A choice of empty and a pattern of the table.
-fn empty_or(draft: &mut Draft, other: PatternId) -> Result<Part, SchemaFault>
-    requires { IsPart draft.old.patterns (Part.Pattern other) }
-    ensures kept { OnOk result (Keeps draft.old draft.new) }
-    ensures part { IfOk result (IsPart draft.new.patterns) }
-    ensures tree { IfOk result (λ part. part_tree draft.new.patterns part ≡ s_joined choice s_empty (tree_at draft.old.patterns other)) }
+fn empty_or(builder: &mut GrammarBuilder, other: PatternId) -> Result<Simplified, SchemaFault>
+    requires { IsSimplified builder.old.patterns (Simplified.Pattern other) }
+    ensures kept { OnOk result (Keeps builder.old builder.new) }
+    ensures simplified { IfOk result (IsSimplified builder.new.patterns) }
+    ensures tree { IfOk result (λ simplified. simplified_tree builder.new.patterns simplified ≡ s_joined choice s_empty (tree_at builder.old.patterns other)) }
 {
-    let empty = draft.push(Simple::Empty)?;
-    let choice = draft.push(Simple::Choice(empty, other))?;
-    Ok(Part::Pattern(choice))
+    let empty = builder.push(Simple::Empty)?;
+    let choice = builder.push(Simple::Choice(empty, other))?;
+    Ok(Simplified::Pattern(choice))
 }
 
-/// The place of a part in the table, where it may stand as a whole start or body.
-fn placed(draft: &mut Draft, part: Part) -> Result<PatternId, SchemaFault>
-    requires { IsPart draft.old.patterns part }
-    ensures kept { OnOk result (Keeps draft.old draft.new) }
-    ensures there { IfOk result (λ id. id.0 < length draft.new.patterns) }
-    ensures tree { IfOk result (λ id. tree_at draft.new.patterns id ≡ part_tree draft.old.patterns part) }
-    ensures simple { IfOk result (λ id. IsSimpleBody (tree_at draft.new.patterns id)) }
+/// The place of a simplified pattern in the table, where it may stand as a whole start or body.
+fn placed(builder: &mut GrammarBuilder, simplified: Simplified) -> Result<PatternId, SchemaFault>
+    requires { IsSimplified builder.old.patterns simplified }
+    ensures kept { OnOk result (Keeps builder.old builder.new) }
+    ensures there { IfOk result (λ id. id.0 < length builder.new.patterns) }
+    ensures tree { IfOk result (λ id. tree_at builder.new.patterns id ≡ simplified_tree builder.old.patterns simplified) }
+    ensures simple { IfOk result (λ id. IsSimpleBody (tree_at builder.new.patterns id)) }
 {
-    match part {
-        Part::NotAllowed => Ok(draft.push(Simple::NotAllowed)?),
-        Part::Empty => Ok(draft.push(Simple::Empty)?),
-        Part::Pattern(id) => Ok(id),
+    match simplified {
+        Simplified::NotAllowed => Ok(builder.push(Simple::NotAllowed)?),
+        Simplified::Empty => Ok(builder.push(Simple::Empty)?),
+        Simplified::Pattern(id) => Ok(id),
     }
 }

@@ -1,6 +1,6 @@
 use Rattle.std.proofs.Common.{ℕ, ◌+◌, ◌*◌, length, vec_len}
-use Rattle.rng_deriv.specs.Residual.{AreCopied, Longer}
-use Rattle.rng_deriv.specs.Derivative.{IsAfter, IsSpine, Knows, rank}
+use Rattle.rng_deriv.specs.PatternTable.{AreCopied, Longer}
+use Rattle.rng_deriv.specs.Derivative.{IsAfter, AreFirstSides, Knows, rank}
 use Rattle.rng_deriv.proofs.derivative.+derivative.Given as goal
 
 abbrev pub decreases-after : goal.decreases-after
@@ -26,10 +26,10 @@ decreases-takes_text l = 4 * l.number + 4
 
 abbrev pub invariant-after-parents : goal.invariant-after-parents
 invariant-after-parents l = record {
-  longer : Longer l.fn.residuals l.residuals;
-  copied : AreCopied l.grammar l.residuals;
-  known : Knows l.grammar l.residuals l.symbol l.memo;
-  bottom : (bottom : ℕ) × IsSpine l.fn.residuals l.number l.parents.items bottom × IsAfter l.grammar l.residuals l.symbol bottom l.left;
+  longer : Longer l.fn.table l.table;
+  copied : AreCopied l.grammar l.table;
+  known : Knows l.grammar l.table l.symbol l.memo;
+  bottom : (bottom : ℕ) × AreFirstSides l.fn.table l.number l.parents.items bottom × IsAfter l.grammar l.table l.symbol bottom l.left;
 }
 
 abbrev pub decreases-after-parents : goal.decreases-after-parents

@@ -4,9 +4,10 @@ use Rattle.std.specs.HashSet.{contains}
 use Rattle.rng_model.specs.Table.{grammar_of}
 use Rattle.rng_model.specs.View.{attribute_of, name_of}
 use Rattle.rng_deriv.specs.Named.{has_number}
-use Rattle.rng_deriv.specs.Taken.{TakesNode}
+use Rattle.rng_deriv.specs.Content.{TakesNode}
 use Rattle.rng_deriv.proofs.Follows.{AreCopied-longer, Longer-trans}
-use Rattle.rng_deriv.proofs.Loops.{candidate_in, candidate_out, taken_more}
+use Rattle.rng_deriv.proofs.Candidates.{candidate_in, candidate_out}
+use Rattle.rng_deriv.proofs.DerivativeSequence.{taken_more}
 use Rattle.rng_deriv.proofs.valid.add_elements.Goals as goal
 use Rattle.rng_deriv.proofs.valid.add_elements.Goals.{then-branch+in_ok-insert, else-branch}
 
@@ -28,11 +29,17 @@ elements-preserved c =
           let inv = c.elements.invariant.found ns stand tests in
           elim c.if-branch.branch [
             | then-branch+in_ok-insert w ↦
-                let grown = candidate_in S P (λ j. contains nat_eq c.elements.found j) (λ j. contains nat_eq w.insert.new.self j) (take i items) element (answer.0 w.if-branch.true) w.in_ok-insert.ensures.updates.0 inv k in
-                subst (λ s. IsTrue (contains nat_eq s k) ↔ (S k ⊎ ((has_number (take (i + 1) items) k ≡ true) × P k))) (sym w.found-is) (subst (λ l. IsTrue (contains nat_eq w.insert.new.self k) ↔ (S k ⊎ ((has_number l k ≡ true) × P k))) (sym more) grown)
+                let grown =
+                candidate_in S P (λ j. contains nat_eq c.elements.found j) (λ j. contains nat_eq w.insert.new.self j) (take i items) element
+                (answer.0 w.if-branch.true) w.in_ok-insert.ensures.updates.0 inv k in
+                subst (λ s. IsTrue (contains nat_eq s k) ↔ (S k ⊎ ((has_number (take (i + 1) items) k ≡ true) × P k))) (sym w.found-is)
+                (subst (λ l. IsTrue (contains nat_eq w.insert.new.self k) ↔ (S k ⊎ ((has_number l k ≡ true) × P k))) (sym more) grown)
             | else-branch w ↦
-                let same = candidate_out S P (λ j. contains nat_eq c.elements.found j) (take i items) element (λ h. let e = answer.1 h in let f = w.if-branch.false in absurd (cc)) inv k in
-                subst (λ s. IsTrue (contains nat_eq s k) ↔ (S k ⊎ ((has_number (take (i + 1) items) k ≡ true) × P k))) (sym w.found-is) (subst (λ l. IsTrue (contains nat_eq c.elements.found k) ↔ (S k ⊎ ((has_number l k ≡ true) × P k))) (sym more) same)
+                let same =
+                candidate_out S P (λ j. contains nat_eq c.elements.found j) (take i items) element
+                (λ h. let e = answer.1 h in let f = w.if-branch.false in absurd (cc)) inv k in
+                subst (λ s. IsTrue (contains nat_eq s k) ↔ (S k ⊎ ((has_number (take (i + 1) items) k ≡ true) × P k))) (sym w.found-is)
+                (subst (λ l. IsTrue (contains nat_eq c.elements.found k) ↔ (S k ⊎ ((has_number l k ≡ true) × P k))) (sym more) same)
           ];
     }
 
@@ -41,4 +48,5 @@ returns-clause-found c = λ ns stand tests k.
     let items = c.args.candidates.now in
     let all : take c.elements.element-index items ≡ items = take_all _ _ (omega arith) in
     let P : ℕ → Type 0 = λ j. TakesNode (grammar_of c.args.grammar.now) tests j (name_of c.args.name.now) (map attribute_of c.args.attrs.now) ns in
-    subst (λ l. IsTrue (contains nat_eq c.elements.found k) ↔ (IsTrue (contains nat_eq c.args.found.now k) ⊎ ((has_number l k ≡ true) × P k))) all (c.elements.invariant.found ns stand tests k)
+    subst (λ l. IsTrue (contains nat_eq c.elements.found k) ↔ (IsTrue (contains nat_eq c.args.found.now k) ⊎ ((has_number l k ≡ true) × P k))) all
+    (c.elements.invariant.found ns stand tests k)

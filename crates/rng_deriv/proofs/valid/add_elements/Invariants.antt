@@ -5,14 +5,17 @@ use Rattle.rng_model.specs.Table.{grammar_of}
 use Rattle.rng_model.specs.View.{attribute_of, name_of}
 use Rattle.rng_model.specs.Texts.{TextTests}
 use Rattle.rng_deriv.specs.Named.{has_number}
-use Rattle.rng_deriv.specs.Residual.{AreCopied, Longer}
-use Rattle.rng_deriv.specs.Taken.{StandForItems, TakesNode}
+use Rattle.rng_deriv.specs.PatternTable.{AreCopied, Longer}
+use Rattle.rng_deriv.specs.Content.{StandForItems, TakesNode}
 use Rattle.rng_deriv.proofs.valid.add_elements.Given as goal
 
 abbrev pub invariant-elements : goal.invariant-elements
 invariant-elements l = record {
-  longer : Longer l.fn.residuals l.residuals;
-  copied : AreCopied l.grammar l.residuals;
+  longer : Longer l.fn.table l.table;
+  copied : AreCopied l.grammar l.table;
   found : (ns : List Item) → StandForItems (grammar_of l.grammar) l.content ns → (tests : TextTests) (k : ℕ) →
-      IsTrue (contains nat_eq l.found k) ↔ (IsTrue (contains nat_eq l.fn.found k) ⊎ ((has_number (take l.element-index l.candidates) k ≡ true) × TakesNode (grammar_of l.grammar) tests k (name_of l.name) (map attribute_of l.attrs) ns));
+      IsTrue (contains nat_eq l.found k) ↔
+      (IsTrue (contains nat_eq l.fn.found k)
+      ⊎ ((has_number (take l.element-index l.candidates) k ≡ true)
+      × TakesNode (grammar_of l.grammar) tests k (name_of l.name) (map attribute_of l.attrs) ns));
 }

@@ -7,13 +7,13 @@ use Rattle.rng_deriv.proofs.Children.{root_answer}
 use Rattle.rng_deriv.proofs.valid.is_valid.Goals as goal
 
 pub after_one-requires-clause-copied : goal.after_one-requires-clause-copied
-after_one-requires-clause-copied c = AreCopied-longer c.args.grammar.now _ _ c.in_ok-symbol.ensures.longer c.in_ok-residuals.ensures
+after_one-requires-clause-copied c = AreCopied-longer c.args.grammar.now _ _ c.in_ok-symbol.ensures.longer c.in_ok-table.ensures
 
 pub returns : goal.returns
 returns c =
     let t = c.args.grammar.now in
-    let rs = c.after_one.new.residuals in
+    let rs = c.after_one.new.table in
     let s = c.in_ok-symbol.symbol in
-    let copied = AreCopied-longer t _ rs c.in_ok-left.ensures.longer (AreCopied-longer t _ _ c.in_ok-symbol.ensures.longer c.in_ok-residuals.ensures) in
+    let copied = AreCopied-longer t _ rs c.in_ok-left.ensures.longer (AreCopied-longer t _ _ c.in_ok-symbol.ensures.longer c.in_ok-table.ensures) in
     let after = subst (λ (n : PatternId). IsAfter t rs s n.0 c.in_ok-left.left) c.start-start.ensures.start c.in_ok-left.ensures.after in
     root_answer t rs s (item_of c.args.root.now) c.in_ok-left.left c.at.result.nullable copied c.in_ok-symbol.ensures.stands after (c.at.ensures.flag t)

@@ -13,4 +13,5 @@ returns-then-is_ncname_start c =
     let all = all_from_yields_List (λ d. is_name_char d && not (is_colon d)) _ _ c.all.result c.all.ensures.ran
     (YieldsList-from_chars c.next.new.self.rest.now (IsUtf8-past_char _ _ _ c.utf8.text parts) refl) (λ x b q k. search (rules, tests)) in
     let starts = sym c.is_ncname_start.ensures ∙ c.if-is_ncname_start.true in
-    all ∙ ap (λ b. b && list_all (λ d. is_name_char d && not (is_colon d)) (chars c.next.new.self.rest.now)) (sym starts) ∙ ap is_ncname (sym (chars_past_char _ _ _ c.utf8.text parts))
+    all ∙ ap (λ b. b && list_all (λ d. is_name_char d && not (is_colon d)) (chars c.next.new.self.rest.now)) (sym starts)
+    ∙ ap is_ncname (sym (chars_past_char _ _ _ c.utf8.text parts))

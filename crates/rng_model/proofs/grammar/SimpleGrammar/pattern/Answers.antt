@@ -1,6 +1,6 @@
 use Rattle.std.proofs.Common.{◌≡◌, option_copied, slice_get, rules, subst}
 use Rattle.rng_model.specs.Table.{IsTable}
-use Rattle.rng_model.proofs.TableLemmas.{tree_of_found}
+use Rattle.rng_model.proofs.Table.{tree_of_found}
 use Rattle.rng_model.proofs.grammar.SimpleGrammar.pattern.Goals as goal
 
 pub returns-clause-tree : goal.returns-clause-tree
