@@ -2,7 +2,7 @@
 ghost use Rattle.std.specs.Prelude.{◌≡◌};
 ghost use Rattle.rnc_text.specs.declared.fault.TextFault.TheVariants as faults;
 
-use std::alloc::{AllocError, AllocFailed};
+use rng_model::OutOfMemory;
 
 /// Why a text was not read, or not cut into tokens.
 #[derive(Clone, Copy, Debug, PartialEq, Eq)]
@@ -17,18 +17,13 @@ pub enum TextFault {
     Memory,
 }
 
-impl From<AllocError> for TextFault {
+impl<E: Drop> From<E> for TextFault
+where
+    OutOfMemory: From<E>,
+{
     ghost from_gives = { λ _ e. e ≡ faults.Memory };
 
-    fn from(_e: AllocError) -> TextFault {
-        TextFault::Memory
-    }
-}
-
-impl<T: Drop> From<AllocFailed<T>> for TextFault {
-    ghost from_gives = { λ _ e. e ≡ faults.Memory };
-
-    fn from(_e: AllocFailed<T>) -> TextFault {
+    fn from(_e: E) -> TextFault {
         TextFault::Memory
     }
 }
