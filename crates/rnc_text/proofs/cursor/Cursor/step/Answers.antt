@@ -23,7 +23,9 @@ returns-in-None c =
     let u : IsUtf8 c.args.self.rest.now = search rules in
     let e = c.unmarked.ensures in
     record {
-      rest = steps_plain _ _ _ _ _ u c.in_ok-first.ensures.chars c.in-None.ensures ∙ ap (λ (d : Character). d ∷ marked c.args.self.length c.args.self.escaped.now (chars c.in_ok-first.rest.now)) (sym e);
-      bytes = bytes_first _ c.in_ok-first.rest.now c.in_ok-first.first c.unmarked.result (rw e (number_unmarked c.in_ok-first.first)) c.in_ok-first.ensures.bytes;
+      rest = steps_plain _ _ _ _ _ u c.in_ok-first.ensures.chars c.in-None.ensures
+          ∙ ap (λ (d : Character). d ∷ marked c.args.self.length c.args.self.escaped.now (chars c.in_ok-first.rest.now)) (sym e);
+      bytes = bytes_first _ c.in_ok-first.rest.now c.in_ok-first.first c.unmarked.result
+          (rw e (number_unmarked c.in_ok-first.first)) c.in_ok-first.ensures.bytes;
       whole = refl;
     }
