@@ -9,15 +9,20 @@ use rnc_text::{Text, TextFault, read_text, tokens};
 use std::io;
 
 fn main(rt: HostRuntime) -> io::Result<()> {
-    for row in rows(&rt, "cases.txt")? {
-        let call = row.text(0)?;
-        match read_text(rt.alloc(), row.bytes(1)?) {
-            Ok(text) if call == "cut" => print_tokens(&rt, &text)?,
-            Ok(text) => println!(rt; "{text:?}")?,
-            Err(fault) => print_fault(&rt, fault)?,
-        }
+    let rows = rows(&rt, "cases.txt")?;
+    for row in rows.iter() {
+        print_answer(&rt, row.text(0)?, row.bytes(1)?)?;
     }
     Ok(())
+}
+
+/// Prints what a call answers for bytes.
+fn print_answer(rt: &(impl Print + AllocGlobal), call: &str, bytes: &[u8]) -> io::Result<()> {
+    match read_text(rt.alloc(), bytes) {
+        Ok(text) if call == "cut" => print_tokens(rt, &text),
+        Ok(text) => println!(rt; "{text:?}"),
+        Err(fault) => print_fault(rt, fault),
+    }
 }
 
 /// Prints the tokens of a text in order, each with its kind, its text and its span.
@@ -27,7 +32,10 @@ fn print_tokens(rt: &(impl Print + AllocGlobal), text: &Text) -> io::Result<()> 
             let count = tokens.len();
             print!(rt; "{count} tokens:")?;
             for token in tokens {
-                print!(rt; " {:?} {:?} {}..{};", token.kind, token.text, token.start, token.end)?;
+                print!(rt;
+                    " {:?} {:?} {}..{};",
+                    token.kind, token.text, token.start, token.end
+                )?;
             }
             println!(rt;)
         }

@@ -26,19 +26,30 @@ pub fn name_in(alloc: Global, word: &str) -> io::Result<Name> {
 pub fn class_in(alloc: Global, text: &str) -> io::Result<NameClass> {
     let mut made = Vec::new(alloc);
     for word in text.split(' ') {
-        let class = match word {
-            "*" => NameClass::Any,
-            "none" => NameClass::Choice(Vec::new(alloc)),
-            "-" => NameClass::AnyExcept(Box::new(alloc, last(&mut made)?)?),
-            "|" => choice(alloc, &mut made)?,
-            _ => in_namespace(alloc, name_in(alloc, word)?, &mut made)?,
-        };
-        made.push(class)?;
+        push_class(alloc, word, &mut made)?;
     }
     last(&mut made)
 }
 
-/// The last class of these, taken from them.
+/// Adds the class that a word makes of those before it.
+fn push_class(alloc: Global, word: &str, made: &mut Vec<NameClass>) -> io::Result<()> {
+    let class = class_by(alloc, word, made)?;
+    made.push(class)?;
+    Ok(())
+}
+
+/// The class that a word makes of those before it, which are taken from them.
+fn class_by(alloc: Global, word: &str, made: &mut Vec<NameClass>) -> io::Result<NameClass> {
+    match word {
+        "*" => Ok(NameClass::Any),
+        "none" => Ok(NameClass::Choice(Vec::new(alloc))),
+        "-" => Ok(NameClass::AnyExcept(Box::new(alloc, last(made)?)?)),
+        "|" => choice(alloc, made),
+        _ => in_namespace(alloc, name_in(alloc, word)?, made),
+    }
+}
+
+/// The last of some classes, taken from them.
 fn last(made: &mut Vec<NameClass>) -> io::Result<NameClass> {
     match made.pop() {
         Some(class) => Ok(class),

@@ -7,32 +7,49 @@ mod classes;
 
 use case_rows::{Row, rows};
 use classes::{class_in, name_in};
+use rng_model::NameClass;
 use rng_names::{contains, overlap};
 use std::io;
 
 fn main(rt: HostRuntime) -> io::Result<()> {
-    for row in rows(&rt, "cases.txt")? {
-        match row.text(0)? {
-            "contains" => print_contains(&rt, &row)?,
-            _ => print_overlap(&rt, &row)?,
-        }
+    let rows = rows(&rt, "cases.txt")?;
+    for row in rows.iter() {
+        print_answer(&rt, row)?;
     }
     Ok(())
 }
 
-/// Prints whether the class of a row holds its name.
-fn print_contains(rt: &(impl Print + AllocGlobal), row: &Row) -> io::Result<()> {
+/// Prints what is answered for a row.
+fn print_answer(rt: &(impl Print + AllocGlobal), row: &Row) -> io::Result<()> {
+    let call = row.text(0)?;
+    let other = row.text(2)?;
     let class = class_in(rt.alloc(), row.text(1)?)?;
-    let name = name_in(rt.alloc(), row.text(2)?)?;
-    let holds = contains(&class, &name);
+    match call {
+        "contains" => print_contains(rt, &class, other),
+        _ => print_overlap(rt, &class, other),
+    }
+}
+
+/// Prints whether a class holds the name that is written so.
+fn print_contains(
+    rt: &(impl Print + AllocGlobal),
+    class: &NameClass,
+    name: &str,
+) -> io::Result<()> {
+    let name = name_in(rt.alloc(), name)?;
+    let holds = contains(class, &name);
     println!(rt; "{holds}")
 }
 
-/// Prints whether the classes of a row overlap, by the first with the second and by the second with the first.
-fn print_overlap(rt: &(impl Print + AllocGlobal), row: &Row) -> io::Result<()> {
-    let first = class_in(rt.alloc(), row.text(1)?)?;
-    let second = class_in(rt.alloc(), row.text(2)?)?;
-    let there = overlap(rt.alloc(), &first, &second);
-    let back = overlap(rt.alloc(), &second, &first);
+/// Prints whether a class and the one that is written so overlap, by the first with the second and by the second with
+/// the first.
+fn print_overlap(
+    rt: &(impl Print + AllocGlobal),
+    first: &NameClass,
+    second: &str,
+) -> io::Result<()> {
+    let second = class_in(rt.alloc(), second)?;
+    let there = overlap(rt.alloc(), first, &second);
+    let back = overlap(rt.alloc(), &second, first);
     println!(rt; "{there:?} {back:?}")
 }

@@ -6,19 +6,33 @@
 #![tactic(auto)]
 
 use case_rows::{Row, rows};
-use rng_types::{Builtin, Datatype, are_all_equal};
-use std::alloc::Global;
+use rng_types::{Builtin, Datatype, TypeFault, are_all_equal};
+use std::alloc::{AllocError, Global};
 use std::io;
 
 fn main(rt: HostRuntime) -> io::Result<()> {
-    for row in rows(&rt, "cases.txt")? {
-        let parameters = parameters(rt.alloc(), &row, text_count(row.text(0)?))?;
-        match Builtin::find(row.text(1)?, row.text(2)?, parameters.as_slice()) {
-            Ok(datatype) => print_answer(&rt, &row, datatype)?,
-            Err(fault) => println!(rt; "{fault:?}")?,
-        }
+    let rows = rows(&rt, "cases.txt")?;
+    for row in rows.iter() {
+        print_row(&rt, row)?;
     }
     Ok(())
+}
+
+/// Prints what is answered for a row.
+fn print_row(rt: &(impl Print + AllocGlobal), row: &Row) -> io::Result<()> {
+    match found(rt.alloc(), row)? {
+        Ok(datatype) => print_answer(rt, row, datatype),
+        Err(fault) => println!(rt; "{fault:?}"),
+    }
+}
+
+/// The datatype of a row, or the fault.
+fn found(alloc: Global, row: &Row) -> io::Result<Result<Builtin, TypeFault>> {
+    let texts = text_count(row.text(0)?);
+    let library = row.text(1)?;
+    let name = row.text(2)?;
+    let parameters = parameters(alloc, row, texts.saturating_add(3))?;
+    Ok(Builtin::find(library, name, parameters.as_slice()))
 }
 
 /// How many texts a call takes.
@@ -31,17 +45,21 @@ fn text_count(call: &str) -> usize {
     }
 }
 
-/// The parameters of a row, which stand behind its texts.
-fn parameters(alloc: Global, row: &Row, texts: usize) -> io::Result<Vec<(String, String)>> {
+/// The parameters of a row, which stand from a field on.
+fn parameters(alloc: Global, row: &Row, first: usize) -> io::Result<Vec<(String, String)>> {
     let mut all = Vec::new(alloc);
-    for name in (texts.saturating_add(3)..row.field_count()).step_by(2) {
-        let value = row.text(name.saturating_add(1))?;
-        all.push((
-            String::from_str(alloc, row.text(name)?)?,
-            String::from_str(alloc, value)?,
-        ))?;
+    for field in (first..row.field_count()).step_by(2) {
+        all.push(parameter(alloc, row.text(field)?, row.text(field.saturating_add(1))?)?)?;
     }
     Ok(all)
+}
+
+/// A parameter of this name and value.
+fn parameter(alloc: Global, name: &str, value: &str) -> Result<(String, String), AllocError> {
+    Ok((
+        String::from_str(alloc, name)?,
+        String::from_str(alloc, value)?,
+    ))
 }
 
 /// Prints what a datatype answers for the texts of a row.
