@@ -8,7 +8,8 @@ use Rattle.rnc_syntax.specs.Lexeme.{Lexeme, Spelling, keyword, identifier, segme
 use Rattle.rnc_syntax.specs.Grammar as grammar
 use Rattle.rnc_syntax.specs.Grammar.{word_of, IsLiteral, AreParameters, MayBeParameters, MayInherit}
 use Rattle.rnc_syntax.specs.Combinators.{Outcome, follow, follow_keyword, after, word_at, segment_at, many_with, many}
-use Rattle.rnc_syntax.proofs.ByCases.{joined_text, literal_at, parameter_at, word_front, in_braces_at, parameters_at, word_after_equal, inherit_at, mention_at}
+use Rattle.rnc_syntax.specs.Productions.{literal_at, parameter_at, word_front, in_braces_at, parameters_at, word_after_equal, inherit_at, mention_at}
+use Rattle.rnc_syntax.specs.Syntax.{joined_text}
 
 -- ---- items one after another
 

@@ -8,7 +8,7 @@ use Rattle.rnc_syntax.specs.Syntax.{NameClass}
 use Rattle.rnc_syntax.specs.Grammar as grammar
 use Rattle.rnc_syntax.specs.Grammar.{word_of, IsClass, AreMoreClasses, IsBasic}
 use Rattle.rnc_syntax.specs.Combinators.{Outcome, follow, after, many}
-use Rattle.rnc_syntax.proofs.ByCases.{class_in_parens, basic_with, choice_with, except_front, class_with, inside_at}
+use Rattle.rnc_syntax.specs.Productions.{class_in_parens, basic_with, choice_with, except_front, class_with, inside_at}
 use Rattle.rnc_syntax.specs.Sentence.{NestsWithin}
 use Rattle.rnc_syntax.proofs.Balance.{plain, parens, first_within, second_within, behind_within, inside_within, none_within, basic_even}
 use Rattle.rnc_syntax.proofs.Completeness.{Manys, manys_end, manys_more, manys_read}
@@ -48,12 +48,10 @@ word_no_except (keyword k s) w rest e = refl
 word_no_except _ w rest e = absurd cc
 
 star_no_except : (rest : List Lexeme) → follow Minus rest ≡ None → except_front (sign Star ∷ rest) ≡ None
-star_no_except (sign Minus ∷ ts) e = absurd cc
-star_no_except _ e = refl
+star_no_except rest e = rw e refl
 
 ns_no_except : (p : List ℕ) (rest : List Lexeme) → follow Minus rest ≡ None → except_front (ns_name p ∷ rest) ≡ None
-ns_no_except p (sign Minus ∷ ts) e = absurd cc
-ns_no_except p _ e = refl
+ns_no_except p rest e = rw e refl
 
 no_except : {ts : List Lexeme} {c : NameClass} → IsBasic ts c → (rest : List Lexeme) → follow Minus rest ≡ None → except_front (ts ++ rest) ≡ None
 no_except (grammar.word_class {x = x} {w = w} is e) rest m = rw e (word_no_except x w rest is)

@@ -1,6 +1,5 @@
 -- Each sentence that nests within a limit is read, so that it has one tree.
-use Rattle.std.proofs.Common.{◌≡◌, ℕ, ◌<◌, Bool, true, false, List, [], ◌∷◌, ◌++◌, length, Some, None, Result, Ok, refl, sym, ap, subst, ◌∙◌, append_assoc}
-use Rattle.std.proofs.Common.{arith}
+use Rattle.std.proofs.Common.{◌≡◌, ℕ, ◌<◌, true, false, List, [], ◌∷◌, ◌++◌, length, Some, None, Result, Ok, refl, sym, ap, subst, ◌∙◌, append_assoc, arith}
 use Rattle.std.proofs.lemmas.List.{length-append, append-nil}
 use Rattle.rng_model.specs.Tree.{Connector}
 use Rattle.rnc_text.specs.declared.token.Keyword.TheVariants as keywords
@@ -15,12 +14,12 @@ use Rattle.rnc_syntax.specs.Grammar as grammar
 use Rattle.rnc_syntax.specs.Grammar.{content, word_of, type_of, method_of, connector_of, IsLiteral, IsPattern, AreMore, IsParticle, IsPrimary, AreComponents}
 use Rattle.rnc_syntax.specs.Grammar.{IsComponent, IsUri, IsDeclaration, AreDeclarations, IsBody, IsFile}
 use Rattle.rnc_syntax.specs.Combinators.{follow, after, after_keyword, many}
-use Rattle.rnc_syntax.proofs.ByCases.{literal_at, parameter_at, pattern_with, components_with, inside_at, uri_at, prefix_at, default_at, declaration_at}
-use Rattle.rnc_syntax.proofs.ByCases.{declaration_front, is_grammar_body, body_with, file_with}
+use Rattle.rnc_syntax.specs.Productions.{literal_at, parameter_at, pattern_with, components_with, inside_at, uri_at, prefix_at, default_at, declaration_at}
+use Rattle.rnc_syntax.specs.Productions.{declaration_front, begins_method, is_grammar_body, body_with, declarations_at, file_with}
 use Rattle.rnc_syntax.specs.Sentence.{NestsWithin}
 use Rattle.rnc_syntax.proofs.Balance.{second_within, declarations_even, length_within}
 use Rattle.rnc_syntax.proofs.Completeness.{Manys, manys_end, manys_more, manys_read, word_read, literal_complete, literal_begins, parameter_read}
-use Rattle.rnc_syntax.proofs.CompletenessPatterns.{follows_end, ended, pattern_complete, components_complete, components_read}
+use Rattle.rnc_syntax.proofs.CompletenessPatterns.{follows_end, ended, more_begin, pattern_complete, components_complete, components_read}
 
 -- ---- declarations
 
@@ -209,12 +208,6 @@ body_begins (grammar.grammar_body p e) = components_body p
 
 -- ---- a grammar or a pattern
 
-abbrev begins_with_method : List Lexeme → Bool
-begins_with_method (sign Equal ∷ ts) = true
-begins_with_method (sign BarEqual ∷ ts) = true
-begins_with_method (sign AndEqual ∷ ts) = true
-begins_with_method _ = false
-
 typed_no_grammar : (x : Lexeme) (d : DatatypeName) (r : List Lexeme) → type_of x ≡ Some d → is_grammar_body (x ∷ r) ≡ false
 typed_no_grammar (cname p l) d r e = refl
 typed_no_grammar (keyword keywords.String s) d r e = refl
@@ -224,18 +217,12 @@ typed_no_grammar _ d r e = absurd cc
 segment_no_grammar : (w : List ℕ) (us ts r : List Lexeme) → ts ≡ segment w ∷ us → is_grammar_body (ts ++ r) ≡ false
 segment_no_grammar w us ts r e = rw e refl
 
-name_no_grammar : (n : List ℕ) (r : List Lexeme) → begins_with_method r ≡ false → is_grammar_body (identifier n ∷ r) ≡ false
-name_no_grammar n (sign Equal ∷ ts) e = absurd cc
-name_no_grammar n (sign BarEqual ∷ ts) e = absurd cc
-name_no_grammar n (sign AndEqual ∷ ts) e = absurd cc
-name_no_grammar n _ e = refl
-
-primary_no_grammar : {ts : List Lexeme} {t : Pattern} → IsPrimary ts t → (r : List Lexeme) → begins_with_method r ≡ false → is_grammar_body (ts ++ r) ≡ false
+primary_no_grammar : {ts : List Lexeme} {t : Pattern} → IsPrimary ts t → (r : List Lexeme) → begins_method r ≡ false → is_grammar_body (ts ++ r) ≡ false
 primary_no_grammar (grammar.element p q e) r f = rw e refl
 primary_no_grammar (grammar.attribute p q e) r f = rw e refl
 primary_no_grammar (grammar.list p e) r f = rw e refl
 primary_no_grammar (grammar.mixed p e) r f = rw e refl
-primary_no_grammar (grammar.ref {n = n} e) r f = rw e (name_no_grammar n r f)
+primary_no_grammar (grammar.ref e) r f = rw e f
 primary_no_grammar (grammar.parent_ref e) r f = rw e refl
 primary_no_grammar (grammar.empty e) r f = rw e refl
 primary_no_grammar (grammar.text e) r f = rw e refl
@@ -247,21 +234,17 @@ primary_no_grammar (grammar.external p q e g) r f = rw e refl
 primary_no_grammar (grammar.grammar p e g) r f = rw e refl
 primary_no_grammar (grammar.in_parens p e) r f = rw e refl
 
-particle_no_grammar : {ts : List Lexeme} {t : Pattern} → IsParticle ts t → (r : List Lexeme) → begins_with_method r ≡ false → is_grammar_body (ts ++ r) ≡ false
+particle_no_grammar : {ts : List Lexeme} {t : Pattern} → IsParticle ts t → (r : List Lexeme) → begins_method r ≡ false → is_grammar_body (ts ++ r) ≡ false
 particle_no_grammar (grammar.once p) r f = primary_no_grammar p r f
 particle_no_grammar (grammar.optional {a = a} p e) r f = rw (e, append_assoc a (sign Question ∷ []) r) (primary_no_grammar p (sign Question ∷ r) refl)
 particle_no_grammar (grammar.zero_or_more {a = a} p e) r f = rw (e, append_assoc a (sign Star ∷ []) r) (primary_no_grammar p (sign Star ∷ r) refl)
 particle_no_grammar (grammar.one_or_more {a = a} p e) r f = rw (e, append_assoc a (sign Plus ∷ []) r) (primary_no_grammar p (sign Plus ∷ r) refl)
 
-connector_no_method : (s : Sign) (k : Connector) (b c : List Lexeme) → connector_of s ≡ Some k → b ≡ sign s ∷ c → begins_with_method (b ++ []) ≡ false
+connector_no_method : (s : Sign) (k : Connector) (b c : List Lexeme) → connector_of s ≡ Some k → b ≡ sign s ∷ c → begins_method (b ++ []) ≡ false
 connector_no_method Comma k b c is e = rw e refl
 connector_no_method And k b c is e = rw e refl
 connector_no_method Bar k b c is e = rw e refl
 connector_no_method _ k b c is e = absurd cc
-
-more_begin : {s : Sign} {ts : List Lexeme} {us : List Pattern} → AreMore s ts us → (c : List Lexeme) × (ts ≡ sign s ∷ c)
-more_begin (grammar.last_particle {a = a} p e) = (a, e)
-more_begin (grammar.more_particles {a = a} {b = b} p q e) = (a ++ b, e)
 
 pattern_no_grammar : {ts : List Lexeme} {t : Pattern} → IsPattern ts t → is_grammar_body (ts ++ []) ≡ false
 pattern_no_grammar (grammar.one_particle p) = particle_no_grammar p [] refl
@@ -305,7 +288,7 @@ body_complete {ts} (grammar.grammar_body {cs = cs} p e) n nest =
 
 file_read : (n : ℕ) (ts rest : List Lexeme) (ds : List Declaration) (b : Body) → many declaration_front declaration_at ts ≡ Ok (ds, rest)
     → body_with (inside_at n) rest ≡ Ok (b, []) → file_with (inside_at n) ts ≡ Ok (record { declarations = ds; body = b })
-unfolding file_with
+unfolding file_with declarations_at
 file_read n ts rest ds b e g = rw (e, g) refl
 
 -- each sentence that nests within a limit is read with this tree

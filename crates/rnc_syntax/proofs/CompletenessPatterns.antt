@@ -9,16 +9,17 @@ use Rattle.rnc_text.specs.declared.token.Sign.TheVariants.{Equal, BarEqual, AndE
 use Rattle.rnc_text.specs.declared.token.Sign.TheVariants.{OpenParenthesis, CloseParenthesis, Tilde}
 use Rattle.rnc_syntax.specs.declared.syntax_tree.Method.{Method}
 use Rattle.rnc_syntax.specs.declared.syntax_tree.Method.TheVariants as methods
-use Rattle.rnc_syntax.specs.Lexeme.{Lexeme, Spelling, keyword, identifier, cname, ns_name, segment, sign}
+use Rattle.rnc_syntax.specs.Lexeme.{Lexeme, Spelling, keyword, identifier, cname, segment, sign}
 use Rattle.rnc_syntax.specs.Syntax as syntax
 use Rattle.rnc_syntax.specs.Syntax.{NameClass, DatatypeName, Mention, Pattern, Component}
 use Rattle.rnc_syntax.specs.Grammar as grammar
 use Rattle.rnc_syntax.specs.Grammar.{Setting, content, override, type_of, method_of, connector_of, IsLiteral, MayBeParameters, IsClass, IsPattern, AreMore}
 use Rattle.rnc_syntax.specs.Grammar.{IsParticle, IsPrimary, IsBraced, AreComponents, IsComponent, MayOverride}
 use Rattle.rnc_syntax.specs.Combinators.{follow, follow_keyword, after, identifier_at, many}
-use Rattle.rnc_syntax.proofs.ByCases.{literal_at, parameters_at, mention_at, braced_with, contents_with, named_with, typed_at, keyword_with, parens_with}
-use Rattle.rnc_syntax.proofs.ByCases.{primary_with, repeated, particle_with, separator_of, joined, rest_with, pattern_from, data_front, data_with, pattern_with}
-use Rattle.rnc_syntax.proofs.ByCases.{method_at, assigned_with, overrides_with, include_with, component_front, component_with, components_with, inside_at}
+use Rattle.rnc_syntax.specs.Productions.{literal_at, parameters_at, mention_at, braced_with, contents_with, named_with, begins_segment, typed_at, type_front}
+use Rattle.rnc_syntax.specs.Productions.{other_at, atom_at, parens_with, opened_with, primary_with, repeated, particle_with, separator_of, joined, rest_with}
+use Rattle.rnc_syntax.specs.Productions.{pattern_from, data_front, data_with, pattern_with, method_at, overrides_with, component_front, assigned_at}
+use Rattle.rnc_syntax.specs.Productions.{component_with, components_with, inside_at}
 use Rattle.rnc_syntax.specs.Sentence.{NestsWithin}
 use Rattle.rnc_syntax.proofs.Balance.{Plain, plain, braces, parens, first_within, second_within, behind_within, inside_within, none_within, plain_type}
 use Rattle.rnc_syntax.proofs.Balance.{plain_method, plain_connector, literal_even, may_parameters_even, may_inherit_even, class_even, particle_even}
@@ -29,16 +30,12 @@ use Rattle.rnc_syntax.proofs.CompletenessClasses.{classes, class_complete}
 
 -- ---- what may follow
 
-abbrev pub begins_with_segment : List Lexeme → Bool
-begins_with_segment (segment w ∷ ts) = true
-begins_with_segment _ = false
-
 -- what may follow a primary
 pub record FollowsPrimary (rest : List Lexeme) : Type 0 where
   pub tilde : follow Tilde rest ≡ None
   pub brace : follow OpenBrace rest ≡ None
   pub inherits : follow_keyword keywords.Inherit rest ≡ None
-  pub no_segment : begins_with_segment rest ≡ false
+  pub no_segment : begins_segment rest ≡ false
 
 -- what may follow a particle
 pub record FollowsParticle (rest : List Lexeme) : Type 0 where
@@ -163,16 +160,10 @@ no_front override (closed e) = rw e refl
 
 -- ---- steps
 
-type_read : (d : DatatypeName) (ts rest : List Lexeme) (ps : List (List ℕ × List ℕ)) → begins_with_segment ts ≡ false → parameters_at ts ≡ Ok (ps, rest)
+type_read : (d : DatatypeName) (ts rest : List Lexeme) (ps : List (List ℕ × List ℕ)) → begins_segment ts ≡ false → parameters_at ts ≡ Ok (ps, rest)
     → typed_at d ts ≡ Ok (syntax.data_of d ps, rest)
 unfolding typed_at
-type_read d (segment w ∷ ts) rest ps e p = absurd cc
-type_read d [] rest ps e p = rw p refl
-type_read d (keyword k s ∷ ts) rest ps e p = rw p refl
-type_read d (identifier w ∷ ts) rest ps e p = rw p refl
-type_read d (cname a l ∷ ts) rest ps e p = rw p refl
-type_read d (ns_name a ∷ ts) rest ps e p = rw p refl
-type_read d (sign s ∷ ts) rest ps e p = rw p refl
+type_read d ts rest ps e p = rw (e, p) refl
 
 value_read : (d : DatatypeName) (w : List ℕ) (ts us rest : List Lexeme) (v : List ℕ) → ts ≡ segment w ∷ us → literal_at ts ≡ Ok (v, rest)
     → typed_at d ts ≡ Ok (syntax.value d v, rest)
@@ -183,39 +174,40 @@ value_read d w ts us rest v e p =
 
 untyped_read : (n : ℕ) (w : List ℕ) (ts us rest : List Lexeme) (v : List ℕ) → ts ≡ segment w ∷ us → literal_at ts ≡ Ok (v, rest)
     → primary_with (inside_at n) ts ≡ Ok (syntax.value syntax.token_type v, rest)
-unfolding primary_with
+unfolding primary_with atom_at other_at
 untyped_read n w ts us rest v e p =
     let q : literal_at (segment w ∷ us) ≡ Ok (v, rest) = subst (λ (ts : List Lexeme). literal_at ts ≡ Ok (v, rest)) e p in
     subst (λ (ts : List Lexeme). primary_with (inside_at n) ts ≡ Ok (syntax.value syntax.token_type v, rest)) (sym e) (rw q refl)
 
 typed_read : (n : ℕ) (x : Lexeme) (d : DatatypeName) (ts rest : List Lexeme) (t : Pattern) → type_of x ≡ Some d → typed_at d ts ≡ Ok (t, rest)
     → primary_with (inside_at n) (x ∷ ts) ≡ Ok (t, rest)
-unfolding primary_with keyword_with
+unfolding primary_with atom_at
 typed_read n (cname p l) d ts rest t is e = let q : syntax.prefixed_type p l ≡ d = cc in ap (λ (d : DatatypeName). typed_at d ts) q ∙ e
 typed_read n (keyword keywords.String s) d ts rest t is e = let q : syntax.string_type ≡ d = cc in ap (λ (d : DatatypeName). typed_at d ts) q ∙ e
 typed_read n (keyword keywords.Token s) d ts rest t is e = let q : syntax.token_type ≡ d = cc in ap (λ (d : DatatypeName). typed_at d ts) q ∙ e
 typed_read n _ d ts rest t is e = absurd cc
 
 -- a datatype's name in front
-front_typed : (x : Lexeme) (d : DatatypeName) (ts : List Lexeme) → type_of x ≡ Some d → begins_with_segment ts ≡ false → data_front (x ∷ ts) ≡ Some (d, ts)
-front_typed x d (segment w ∷ ts) is e = absurd cc
-front_typed (cname p l) d ts is e = let q : syntax.prefixed_type p l ≡ d = cc in ap (λ (d : DatatypeName). Some (d, ts)) q
-front_typed (keyword keywords.String s) d ts is e = let q : syntax.string_type ≡ d = cc in ap (λ (d : DatatypeName). Some (d, ts)) q
-front_typed (keyword keywords.Token s) d ts is e = let q : syntax.token_type ≡ d = cc in ap (λ (d : DatatypeName). Some (d, ts)) q
-front_typed _ d ts is e = absurd cc
+type_fronts : (x : Lexeme) (d : DatatypeName) (ts : List Lexeme) → type_of x ≡ Some d → type_front (x ∷ ts) ≡ Some (d, ts)
+type_fronts (cname p l) d ts is = let q : syntax.prefixed_type p l ≡ d = cc in ap (λ (d : DatatypeName). Some (d, ts)) q
+type_fronts (keyword keywords.String s) d ts is = let q : syntax.string_type ≡ d = cc in ap (λ (d : DatatypeName). Some (d, ts)) q
+type_fronts (keyword keywords.Token s) d ts is = let q : syntax.token_type ≡ d = cc in ap (λ (d : DatatypeName). Some (d, ts)) q
+type_fronts _ d ts is = absurd cc
+
+front_typed : (x : Lexeme) (d : DatatypeName) (ts : List Lexeme) → type_of x ≡ Some d → begins_segment ts ≡ false → data_front (x ∷ ts) ≡ Some (d, ts)
+front_typed x d ts is e = rw (type_fronts x d ts is, e) refl
 
 front_other : (x : Lexeme) (ts : List Lexeme) → type_of x ≡ None → data_front (x ∷ ts) ≡ None
-front_other x (segment w ∷ ts) is = refl
 front_other (cname p l) ts is = absurd cc
 front_other (keyword keywords.String s) ts is = absurd cc
 front_other (keyword keywords.Token s) ts is = absurd cc
-front_other _ _ is = refl
+front_other _ ts is = refl
 
 other_front : (x : Lexeme) (ts a rest : List Lexeme) → ts ≡ x ∷ a → type_of x ≡ None → data_front (ts ++ rest) ≡ None
 other_front x ts a rest e is = rw e (front_other x (a ++ rest) is)
 
-front_value : (x : Lexeme) (w : List ℕ) (ts us : List Lexeme) → ts ≡ segment w ∷ us → data_front (x ∷ ts) ≡ None
-front_value x w ts us e = rw e refl
+front_value : (x : Lexeme) (d : DatatypeName) (w : List ℕ) (ts us : List Lexeme) → type_of x ≡ Some d → ts ≡ segment w ∷ us → data_front (x ∷ ts) ≡ None
+front_value x d w ts us is e = rw (type_fronts x d ts is, e) refl
 
 front_segment : (w : List ℕ) (ts us : List Lexeme) → ts ≡ segment w ∷ us → data_front ts ≡ None
 front_segment w ts us e = rw e (front_other (segment w) us refl)
@@ -225,13 +217,13 @@ abbrev IsDataRead : Pattern → List Lexeme → List Lexeme → Type 0
 IsDataRead t ts rest = (d : DatatypeName) × (ps : List (List ℕ × List ℕ)) × (us : List Lexeme) × (data_front ts ≡ Some (d, us))
     × (parameters_at us ≡ Ok (ps, rest)) × (t ≡ syntax.data_of d ps)
 
-may_no_segment : {a : List Lexeme} {ps : List (List ℕ × List ℕ)} → MayBeParameters a ps → (rest : List Lexeme) → begins_with_segment rest ≡ false
-    → begins_with_segment (a ++ rest) ≡ false
+may_no_segment : {a : List Lexeme} {ps : List (List ℕ × List ℕ)} → MayBeParameters a ps → (rest : List Lexeme) → begins_segment rest ≡ false
+    → begins_segment (a ++ rest) ≡ false
 may_no_segment (grammar.without_parameters e) rest is = rw e is
 may_no_segment (grammar.with_parameters p e) rest is = rw e refl
 
 data_is_read : (x : Lexeme) (d : DatatypeName) (ts a rest : List Lexeme) (ps : List (List ℕ × List ℕ)) → ts ≡ x ∷ a → type_of x ≡ Some d
-    → begins_with_segment (a ++ rest) ≡ false → parameters_at (a ++ rest) ≡ Ok (ps, rest) → IsDataRead (syntax.data_of d ps) (ts ++ rest) rest
+    → begins_segment (a ++ rest) ≡ false → parameters_at (a ++ rest) ≡ Ok (ps, rest) → IsDataRead (syntax.data_of d ps) (ts ++ rest) rest
 data_is_read x d ts a rest ps e is s p = (d, ps, a ++ rest, ap (λ (ts : List Lexeme). data_front (ts ++ rest)) e ∙ front_typed x d (a ++ rest) is s, p, refl)
 
 first_is : {ts : List Lexeme} {t : Pattern} → IsPrimary ts t → (rest : List Lexeme) → FollowsPrimary rest → (data_front (ts ++ rest) ≡ None)
@@ -247,8 +239,8 @@ first_is (grammar.text e) rest f = inl (other_front _ _ _ rest e refl)
 first_is (grammar.not_allowed e) rest f = inl (other_front _ _ _ rest e refl)
 first_is {ts} (grammar.untyped_value p) rest f = let b = literal_begins p in
     inl (front_segment b.0 (ts ++ rest) (b.1 ++ rest) (ap (λ (ts : List Lexeme). ts ++ rest) b.2))
-first_is (grammar.value {a = a} {x = x} is p e) rest f = let b = literal_begins p in
-    inl (rw e (front_value x b.0 (a ++ rest) (b.1 ++ rest) (ap (λ (ts : List Lexeme). ts ++ rest) b.2)))
+first_is (grammar.value {a = a} {x = x} {d = d} is p e) rest f = let b = literal_begins p in
+    inl (rw e (front_value x d b.0 (a ++ rest) (b.1 ++ rest) is (ap (λ (ts : List Lexeme). ts ++ rest) b.2)))
 first_is {ts} (grammar.data_of {a = a} {x = x} {d = d} {ps = ps} is p e) rest f =
     inr (data_is_read x d ts a rest ps e is (may_no_segment p rest f.no_segment) (parameters_complete p rest f.brace))
 first_is (grammar.external p q e g) rest f = inl (other_front _ _ _ rest e refl)
@@ -319,9 +311,9 @@ joined_read : (n : ℕ) (s : Sign) (k : Connector) (b rest : List Lexeme) (t : P
 unfolding rest_with
 joined_read n s k b rest t us connects is others = rw (is, others, joined_is s k (t ∷ us) connects) refl
 
-begins : {s : Sign} {ts : List Lexeme} {us : List Pattern} → AreMore s ts us → (c : List Lexeme) × (ts ≡ sign s ∷ c)
-begins (grammar.last_particle {a = a} p e) = (a, e)
-begins (grammar.more_particles {a = a} {b = b} p q e) = (a ++ b, e)
+pub more_begin : {s : Sign} {ts : List Lexeme} {us : List Pattern} → AreMore s ts us → (c : List Lexeme) × (ts ≡ sign s ∷ c)
+more_begin (grammar.last_particle {a = a} p e) = (a, e)
+more_begin (grammar.more_particles {a = a} {b = b} p q e) = (a ++ b, e)
 
 follows_more : (s : Sign) (k : Connector) (b rest c : List Lexeme) → connector_of s ≡ Some k → b ≡ sign s ∷ c → FollowsParticle (b ++ rest)
 follows_more s k b rest c is e = rw e (follows_connector s k (c ++ rest) is)
@@ -354,64 +346,64 @@ last_read n s k ts a rest t is e one none =
 element_read : (n : ℕ) (s : Spelling) (a b rest : List Lexeme) (c : NameClass) (t : Pattern) → classes n (a ++ (b ++ rest)) ≡ Ok (c, b ++ rest)
     → braced_with (inside_at n) (b ++ rest) ≡ Ok (t, rest) → primary_with (inside_at n) ((keyword keywords.Element s ∷ (a ++ b)) ++ rest) ≡ Ok
     (syntax.element c t, rest)
-unfolding primary_with keyword_with named_with
+unfolding primary_with opened_with named_with
 element_read n s a b rest c t class body = rw (append_assoc a b rest, class, body) refl
 
 attribute_read : (n : ℕ) (s : Spelling) (a b rest : List Lexeme) (c : NameClass) (t : Pattern) → classes n (a ++ (b ++ rest)) ≡ Ok (c, b ++ rest)
     → braced_with (inside_at n) (b ++ rest) ≡ Ok (t, rest) → primary_with (inside_at n) ((keyword keywords.Attribute s ∷ (a ++ b)) ++ rest) ≡ Ok
     (syntax.attribute c t, rest)
-unfolding primary_with keyword_with named_with
+unfolding primary_with opened_with named_with
 attribute_read n s a b rest c t class body = rw (append_assoc a b rest, class, body) refl
 
 list_read : (n : ℕ) (s : Spelling) (a rest : List Lexeme) (t : Pattern) → braced_with (inside_at n) (a ++ rest) ≡ Ok (t, rest)
     → primary_with (inside_at n) ((keyword keywords.List s ∷ a) ++ rest) ≡ Ok (syntax.list t, rest)
-unfolding primary_with keyword_with
+unfolding primary_with opened_with
 list_read n s a rest t body = rw body refl
 
 mixed_read : (n : ℕ) (s : Spelling) (a rest : List Lexeme) (t : Pattern) → braced_with (inside_at n) (a ++ rest) ≡ Ok (t, rest)
     → primary_with (inside_at n) ((keyword keywords.Mixed s ∷ a) ++ rest) ≡ Ok (syntax.mixed t, rest)
-unfolding primary_with keyword_with
+unfolding primary_with opened_with
 mixed_read n s a rest t body = rw body refl
 
 ref_read : (n : ℕ) (w : List ℕ) (rest : List Lexeme) → primary_with (inside_at n) (identifier w ∷ rest) ≡ Ok (syntax.ref w, rest)
-unfolding primary_with
+unfolding primary_with atom_at
 ref_read n w rest = refl
 
 parent_read : (n : ℕ) (s : Spelling) (w : List ℕ) (rest : List Lexeme) → primary_with (inside_at n) (keyword keywords.Parent s ∷ identifier w ∷ rest) ≡ Ok
     (syntax.parent_ref w, rest)
-unfolding primary_with keyword_with identifier_at
+unfolding primary_with atom_at other_at identifier_at
 parent_read n s w rest = refl
 
 empty_read : (n : ℕ) (s : Spelling) (rest : List Lexeme) → primary_with (inside_at n) (keyword keywords.Empty s ∷ rest) ≡ Ok (syntax.empty, rest)
-unfolding primary_with keyword_with
+unfolding primary_with atom_at
 empty_read n s rest = refl
 
 text_read : (n : ℕ) (s : Spelling) (rest : List Lexeme) → primary_with (inside_at n) (keyword keywords.Text s ∷ rest) ≡ Ok (syntax.text, rest)
-unfolding primary_with keyword_with
+unfolding primary_with atom_at
 text_read n s rest = refl
 
 not_allowed_read : (n : ℕ) (s : Spelling) (rest : List Lexeme) → primary_with (inside_at n) (keyword keywords.NotAllowed s ∷ rest) ≡ Ok (
   syntax.not_allowed,
   rest,
 )
-unfolding primary_with keyword_with
+unfolding primary_with atom_at
 not_allowed_read n s rest = refl
 
 external_read : (n : ℕ) (s : Spelling) (a b rest : List Lexeme) (m : Mention) → mention_at s.place (a ++ (b ++ rest)) ≡ Ok (m, rest)
     → primary_with (inside_at n) ((keyword keywords.External s ∷ (a ++ b)) ++ rest) ≡ Ok (syntax.external m, rest)
-unfolding primary_with keyword_with
+unfolding primary_with atom_at other_at
 external_read n s a b rest m e = rw (append_assoc a b rest, e) refl
 
 grammar_read : (n : ℕ) (s : Spelling) (a rest : List Lexeme) (cs : List Component)
     → contents_with (inside_at n) content ((sign OpenBrace ∷ (a ++ sign CloseBrace ∷ [])) ++ rest) ≡ Ok (cs, rest)
     → primary_with (inside_at n) ((keyword keywords.Grammar s ∷ sign OpenBrace ∷ (a ++ sign CloseBrace ∷ [])) ++ rest) ≡ Ok
     (syntax.grammar (syntax.components_of cs), rest)
-unfolding primary_with keyword_with
+unfolding primary_with opened_with
 grammar_read n s a rest cs e = rw e refl
 
 parens_read : (n : ℕ) (a rest : List Lexeme) (t : Pattern) → pattern_with (inside_at n) (a ++ (sign CloseParenthesis ∷ rest)) ≡ Ok
     (t, sign CloseParenthesis ∷ rest) → primary_with (inside_at (suc n)) ((sign OpenParenthesis ∷ (a ++ sign CloseParenthesis ∷ [])) ++ rest) ≡ Ok (t, rest)
-unfolding primary_with parens_with inside_at after
+unfolding primary_with opened_with parens_with inside_at after
 parens_read n a rest t body = rw (append_assoc a (sign CloseParenthesis ∷ []) rest, body) refl
 
 braced_read : (n : ℕ) (a rest : List Lexeme) (t : Pattern) → pattern_with (inside_at n) (a ++ (sign CloseBrace ∷ rest)) ≡ Ok (t, sign CloseBrace ∷ rest)
@@ -426,8 +418,8 @@ contents_read n w a rest cs body = braces_read (components_with (inside_at n) w)
 
 overrides_read : (n : ℕ) (a rest : List Lexeme) (cs : List Component) → components_with (inside_at n) override (a ++ (sign CloseBrace ∷ rest)) ≡ Ok
     (cs, sign CloseBrace ∷ rest) → overrides_with (inside_at (suc n)) ((sign OpenBrace ∷ (a ++ sign CloseBrace ∷ [])) ++ rest) ≡ Ok (cs, rest)
-unfolding overrides_with inside_at
-overrides_read n a rest cs body = braces_read (components_with (inside_at n) override) a rest cs body
+unfolding overrides_with
+overrides_read n a rest cs body = contents_read n override a rest cs body
 
 no_overrides_read : (n : ℕ) (rest : List Lexeme) → follow OpenBrace rest ≡ None → overrides_with (inside_at n) rest ≡ Ok ([], rest)
 unfolding overrides_with
@@ -440,20 +432,15 @@ method_read (sign BarEqual) m ts e = let q : methods.Choice ≡ m = cc in ap (λ
 method_read (sign AndEqual) m ts e = let q : methods.Interleave ≡ m = cc in ap (λ (m : Method). Ok (m, ts)) q
 method_read _ m ts e = absurd cc
 
-assigned_read : (n : ℕ) (x : Lexeme) (m : Method) (ts rest : List Lexeme) (t : Pattern) → method_of x ≡ Some m → pattern_with (inside_at n) ts ≡ Ok (t, rest)
-    → assigned_with (inside_at n) (x ∷ ts) ≡ Ok ((m, t), rest)
-unfolding assigned_with
-assigned_read n x m ts rest t is body = rw (method_read x m ts is, body) refl
+start_read : (n : ℕ) (w : Setting) (s : Spelling) (x : Lexeme) (m : Method) (ts rest : List Lexeme) (t : Pattern) → method_of x ≡ Some m
+    → pattern_with (inside_at n) ts ≡ Ok (t, rest) → component_with (inside_at n) w (keyword keywords.Start s ∷ x ∷ ts) ≡ Ok (syntax.start m t, rest)
+unfolding component_with assigned_at
+start_read n w s x m ts rest t is body = rw (method_read x m ts is, body) refl
 
-start_read : (n : ℕ) (w : Setting) (s : Spelling) (ts rest : List Lexeme) (x : Method × Pattern) → assigned_with (inside_at n) ts ≡ Ok (x, rest)
-    → component_with (inside_at n) w (keyword keywords.Start s ∷ ts) ≡ Ok (syntax.start x.0 x.1, rest)
-unfolding component_with
-start_read n w s ts rest x e = rw e refl
-
-define_read : (n : ℕ) (w : Setting) (name : List ℕ) (ts rest : List Lexeme) (x : Method × Pattern) → assigned_with (inside_at n) ts ≡ Ok (x, rest)
-    → component_with (inside_at n) w (identifier name ∷ ts) ≡ Ok (syntax.define name x.0 x.1, rest)
-unfolding component_with
-define_read n w name ts rest x e = rw e refl
+define_read : (n : ℕ) (w : Setting) (name : List ℕ) (x : Lexeme) (m : Method) (ts rest : List Lexeme) (t : Pattern) → method_of x ≡ Some m
+    → pattern_with (inside_at n) ts ≡ Ok (t, rest) → component_with (inside_at n) w (identifier name ∷ x ∷ ts) ≡ Ok (syntax.define name m t, rest)
+unfolding component_with assigned_at
+define_read n w name x m ts rest t is body = rw (method_read x m ts is, body) refl
 
 div_read : (n : ℕ) (w : Setting) (s : Spelling) (ts rest : List Lexeme) (cs : List Component) → contents_with (inside_at n) w ts ≡ Ok (cs, rest)
     → component_with (inside_at n) w (keyword keywords.Div s ∷ ts) ≡ Ok (syntax.div (syntax.components_of cs), rest)
@@ -463,7 +450,7 @@ div_read n w s ts rest cs e = rw e refl
 include_read : (n : ℕ) (w : Setting) (s : Spelling) (a b o rest : List Lexeme) (m : Mention) (cs : List Component)
     → mention_at s.place (a ++ (b ++ (o ++ rest))) ≡ Ok (m, o ++ rest) → overrides_with (inside_at n) (o ++ rest) ≡ Ok (cs, rest)
     → component_with (inside_at n) w ((keyword keywords.Include s ∷ (a ++ (b ++ o))) ++ rest) ≡ Ok (syntax.include m (syntax.components_of cs), rest)
-unfolding component_with include_with
+unfolding component_with
 include_read n w s a b o rest m cs e f = rw (append_assoc a (b ++ o) rest, append_assoc b o rest, e, f) refl
 
 front_starts : (w : Setting) {ts : List Lexeme} {c : Component} → IsComponent w ts c → (r : List Lexeme) → component_front w (ts ++ r) ≡ Some (ts ++ r)
@@ -546,7 +533,7 @@ mutual
       → pattern_with (inside_at n) (ts ++ rest) ≡ Ok (t, rest)
   pattern_complete {ts} {t} (grammar.one_particle p) n nest rest f = first_complete p n nest rest f.particle ∙ ended_read n rest t f.separator
   pattern_complete {ts} (grammar.particles {u = u} {a = a} {b = b} {s = s} {k = k} {t = t} {us = us} is p q e g) n nest rest f =
-      let c = begins q in
+      let c = more_begin q in
       let first = first_complete p n (first_within n ts a b e nest) (b ++ rest) (follows_more s k b rest c.0 is c.1) in
       let others = more_complete q k is n (second_within n ts a b e (particle_even p) nest) rest f in
       let whole = first ∙ joined_read n s k b rest t us is (separates s k b rest c.0 is c.1) (manys_read (follow s) (particle_with (inside_at n)) (b ++ rest)
@@ -591,7 +578,7 @@ mutual
       (no_sign s k rest is f.separator)
   more_complete {s} {ts} (grammar.more_particles {us = us} {a = a} {b = b} {t = t} p q e) k is n nest rest f =
       let inner = behind_within n ts (sign s) (a ++ b) e (plain_connector s k is) nest in
-      let c = begins q in
+      let c = more_begin q in
       more_read n s k ts a b rest rest t us is e (particle_complete p n (first_within n (a ++ b) a b refl inner) (b ++ rest)
       (follows_more s k b rest c.0 is c.1)) (more_complete q k is n (second_within n (a ++ b) a b refl (particle_even p) inner) rest f)
 
@@ -675,10 +662,10 @@ mutual
       → FollowsPattern rest → component_with (inside_at n) w (ts ++ rest) ≡ Ok (c, rest)
   component_complete {w} {ts} (grammar.start {a = a} {x = x} {m = m} {t = t} {s = s} is p e) n nest rest f =
       let inner = behind_within n (x ∷ a) x a refl (plain_method x m is) (behind_within n ts (keyword keywords.Start s) (x ∷ a) e (plain _ refl refl) nest) in
-      rw e (start_read n w s (x ∷ (a ++ rest)) rest (m, t) (assigned_read n x m (a ++ rest) rest t is (pattern_complete p n inner rest f)))
+      rw e (start_read n w s x m (a ++ rest) rest t is (pattern_complete p n inner rest f))
   component_complete {w} {ts} (grammar.define {a = a} {x = x} {n = name} {m = m} {t = t} is p e) n nest rest f =
       let inner = behind_within n (x ∷ a) x a refl (plain_method x m is) (behind_within n ts (identifier name) (x ∷ a) e (plain _ refl refl) nest) in
-      rw e (define_read n w name (x ∷ (a ++ rest)) rest (m, t) (assigned_read n x m (a ++ rest) rest t is (pattern_complete p n inner rest f)))
+      rw e (define_read n w name x m (a ++ rest) rest t is (pattern_complete p n inner rest f))
   component_complete {w} {ts} (grammar.div {a = a} {s = s} p e g) zero nest rest f =
       absurd (none_in_braces ts (keyword keywords.Div s) a e (plain _ refl refl) nest)
   component_complete {w} {ts} (grammar.div {a = a} {cs = cs} {s = s} p e g) (suc n) nest rest f =

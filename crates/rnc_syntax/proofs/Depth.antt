@@ -1,6 +1,6 @@
 -- Tokens that nest within a limit are not too deep for the reader.
 use Rattle.std.proofs.Common.{◌≡◌, ℕ, zero, suc, ◌+◌, ◌<◌, ◌≤◌, Bool, true, false, cond, List, [], ◌∷◌, length, take, Option, Some, None, Result, Ok, Err, refl}
-use Rattle.std.proofs.Common.{sym, ap, subst, arith}
+use Rattle.std.proofs.Common.{sym, ap, subst, ◌∙◌, arith}
 use Rattle.std.proofs.lemmas.List.Sums.{sum_by-cons}
 use Rattle.rnc_text.specs.declared.token.Keyword.{Keyword}
 use Rattle.rnc_text.specs.declared.token.Keyword.TheVariants as keywords
@@ -17,19 +17,20 @@ use Rattle.rnc_syntax.specs.Grammar.{Setting, content, override, IsBasic, IsPart
 use Rattle.rnc_syntax.specs.Grammar.{IsClass}
 use Rattle.rnc_syntax.specs.Combinators.{Outcome, ◌>>=◌, follow, follow_keyword, sign_read, after, after_keyword, word_at, identifier_at, segment_at}
 use Rattle.rnc_syntax.specs.Combinators.{either_way, many_with, many}
-use Rattle.rnc_syntax.proofs.ByCases.{literal_at, parameter_at, word_front, in_braces_at, parameters_at, word_after_equal, inherit_at, mention_at}
-use Rattle.rnc_syntax.proofs.ByCases.{class_in_parens, basic_with, choice_with, except_front, class_with, braced_with, contents_with, named_with, typed_at}
-use Rattle.rnc_syntax.proofs.ByCases.{keyword_with, parens_with, primary_with, repeated, particle_with, separator_of, rest_with, pattern_from, data_front}
-use Rattle.rnc_syntax.proofs.ByCases.{data_with, pattern_with, method_at, assigned_with, overrides_with, include_with, component_front, component_with}
-use Rattle.rnc_syntax.proofs.ByCases.{components_with, inside_at, uri_at, prefix_at, default_at, declaration_at, declaration_front, is_grammar_body, body_with}
-use Rattle.rnc_syntax.proofs.ByCases.{if_ended, file_with}
+use Rattle.rnc_syntax.specs.Productions.{literal_at, parameter_at, word_front, in_braces_at, parameters_at, word_after_equal, inherit_at, mention_at}
+use Rattle.rnc_syntax.specs.Productions.{class_in_parens, basic_with, choice_with, except_front, class_with, braced_with, contents_with, named_with}
+use Rattle.rnc_syntax.specs.Productions.{begins_segment, typed_at, other_at, atom_at, parens_with, opened_with, primary_with, repeated, particle_with}
+use Rattle.rnc_syntax.specs.Productions.{separator_of, rest_with, pattern_from, data_front, data_with, pattern_with, method_at, overrides_with, component_front}
+use Rattle.rnc_syntax.specs.Productions.{assigned_at, assigned, component_with, components_with, inside_at, uri_at, prefix_at, default_at, declaration_at}
+use Rattle.rnc_syntax.specs.Productions.{declaration_front, is_grammar_body, body_with, if_ended, declarations_at, file_with}
 use Rattle.rnc_syntax.specs.Sentence.{is_opening, is_closing, openings, closings, NestsWithin}
 use Rattle.rnc_syntax.proofs.Balance.{Balanced, Plain, plain, plain_type, join_even, declarations_even, second_within, behind_within, basic_even, class_even}
 use Rattle.rnc_syntax.proofs.Balance.{particle_even, primary_even, component_even, may_parameters_even, literal_even, may_inherit_even}
 use Rattle.rnc_syntax.proofs.Soundness.{TakesFront, many_sound, follow_is, after_is}
 use Rattle.rnc_syntax.proofs.SoundnessLiterals.{parameters_sound, IsMention, mention_sound}
-use Rattle.rnc_syntax.proofs.SoundnessClasses.{basic_sound, class_sound}
-use Rattle.rnc_syntax.proofs.SoundnessPatterns.{IsMethod, method_sound, data_front_is, inside_sound, primary_sound, particle_sound, component_item}
+use Rattle.rnc_syntax.proofs.SoundnessClasses.{basic_sound, except_tokens, except_is, class_sound}
+use Rattle.rnc_syntax.proofs.SoundnessPatterns.{IsMethod, method_sound, data_front_is, component_front_is, assignment_with, assignment_is, inside_sound}
+use Rattle.rnc_syntax.proofs.SoundnessPatterns.{primary_sound, particle_sound, component_item}
 use Rattle.rnc_syntax.proofs.SoundnessFiles.{declaration_item, declarations_are}
 
 abbrev pub NotDeep : {A : Type 0} → Result A Stop → Type 0
@@ -92,6 +93,10 @@ either_calm : {A B : Type 0} (o : Option A) (b : Result B Stop) (f : A → Resul
     → NotDeep (either_way o b f)
 either_calm None b f first second = first refl
 either_calm (Some a) b f first second = second a refl
+
+if_calm : {A : Type 0} (b : Bool) (r s : Result A Stop) → NotDeep r → NotDeep s → NotDeep (cond b r s)
+if_calm true r s f g = f
+if_calm false r s f g = g
 
 module _ {A : Type 0} (Q : List Lexeme → Type 0) (next : List Lexeme → Option (List Lexeme)) (item : List Lexeme → Outcome A)
     (items : (ts us : List Lexeme) → Q ts → next ts ≡ Some us → NotDeep (item us)) (keeps : (ts us : List Lexeme) (x : A × List Lexeme) → Q ts
@@ -215,24 +220,14 @@ module _ (n : ℕ) (inner : InsideCalm n) where
       (λ ts us x nest is e. behind_basic us x (plain_sign n ts us Bar refl refl (follow_is Bar ts us is) nest) e) ts nest)
       (λ y _. ok_calm _))
 
+  tokens_within : (o : Option (List ℕ)) (ts : List Lexeme) → NestsWithin n (except_tokens o ts) → NestsWithin n ts
+  tokens_within None ts nest = plain_sign n (sign Minus ∷ ts) ts Minus refl refl refl (plain_sign n (sign Star ∷ sign Minus ∷ ts) (sign Minus ∷ ts) Star refl
+      refl refl nest)
+  tokens_within (Some p) ts nest = plain_sign n (sign Minus ∷ ts) ts Minus refl refl refl
+      (behind_within n (ns_name p ∷ sign Minus ∷ ts) (ns_name p) (sign Minus ∷ ts) refl (plain (ns_name p) refl refl) nest)
+
   except_within : (ts : List Lexeme) (y : Option (List ℕ) × List Lexeme) → except_front ts ≡ Some y → NestsWithin n ts → NestsWithin n y.1
-  except_within (sign Star ∷ sign Minus ∷ ts) y e nest = let q : ts ≡ y.1 = ap snd (the _ _ e) in
-      subst (NestsWithin n) q (plain_sign n (sign Minus ∷ ts) ts Minus refl refl refl (plain_sign n (sign Star ∷ sign Minus ∷ ts) (sign Minus ∷ ts) Star refl
-      refl refl nest)) where
-        snd : Option (List ℕ) × List Lexeme → List Lexeme
-        snd y = y.1
-
-        the : (a b : Option (List ℕ) × List Lexeme) → Some a ≡ Some b → a ≡ b
-        the a b e = cc
-  except_within (ns_name p ∷ sign Minus ∷ ts) y e nest = let q : ts ≡ y.1 = ap snd (the _ _ e) in
-      subst (NestsWithin n) q (plain_sign n (sign Minus ∷ ts) ts Minus refl refl refl
-      (behind_within n (ns_name p ∷ sign Minus ∷ ts) (ns_name p) (sign Minus ∷ ts) refl (plain (ns_name p) refl refl) nest)) where
-        snd : Option (List ℕ) × List Lexeme → List Lexeme
-        snd y = y.1
-
-        the : (a b : Option (List ℕ) × List Lexeme) → Some a ≡ Some b → a ≡ b
-        the a b e = cc
-  except_within _ y e nest = absurd cc
+  except_within ts y e nest = tokens_within y.0 y.1 (subst (NestsWithin n) (except_is ts y e) nest)
 
   class_calm : (ts : List Lexeme) → NestsWithin n ts → NotDeep (class_with (basic_with (inside_at n).class) ts)
   unfolding class_with
@@ -251,57 +246,43 @@ module _ (n : ℕ) (inner : InsideCalm n) where
       (λ x e. in_braces_calm ((inside_at n).components w) x.1
       (inner.components w x.1 (below_open n ts (sign OpenBrace) x.1 refl refl (after_is OpenBrace ts x e) nest)))
 
-  named_calm : (ts : List Lexeme) → NestsWithin n ts → NotDeep (named_with (inside_at n) ts)
+  named_calm : (make : NameClass → Pattern → Pattern) (ts : List Lexeme) → NestsWithin n ts → NotDeep (named_with (inside_at n) make ts)
   unfolding named_with
-  named_calm ts nest = bind_calm (class_with (basic_with (inside_at n).class) ts) _ (class_calm ts nest)
+  named_calm make ts nest = bind_calm (class_with (basic_with (inside_at n).class) ts) _ (class_calm ts nest)
       (λ x e. bind_calm (braced_with (inside_at n) x.1) _
       (braced_calm x.1 (after_reads n IsClass ts x (class_sound (basic_with (inside_at n).class) (basic_sound (inside_at n).class (inside_sound n).class) ts
       x e) (λ front a p. class_even p) nest)) (λ y _. ok_calm _))
 
-  data_of_calm : (d : DatatypeName) (ts : List Lexeme) → NotDeep {A = Pattern × List Lexeme} (parameters_at ts >>= λ ps. Ok (syntax.data_of d ps.0, ps.1))
-  data_of_calm d ts = bind_calm (parameters_at ts) _ (parameters_calm ts) (λ y _. ok_calm _)
-
   typed_calm : (d : DatatypeName) (ts : List Lexeme) → NotDeep (typed_at d ts)
   unfolding typed_at
-  typed_calm d (segment w ∷ ts) = bind_calm (literal_at (segment w ∷ ts)) _ (literal_calm (segment w ∷ ts)) (λ y _. ok_calm _)
-  typed_calm d [] = data_of_calm d []
-  typed_calm d (keyword k s ∷ ts) = data_of_calm d (keyword k s ∷ ts)
-  typed_calm d (identifier w ∷ ts) = data_of_calm d (identifier w ∷ ts)
-  typed_calm d (cname p l ∷ ts) = data_of_calm d (cname p l ∷ ts)
-  typed_calm d (ns_name p ∷ ts) = data_of_calm d (ns_name p ∷ ts)
-  typed_calm d (sign s ∷ ts) = data_of_calm d (sign s ∷ ts)
+  typed_calm d ts = if_calm (begins_segment ts) _ _ (bind_calm (literal_at ts) _ (literal_calm ts) (λ y _. ok_calm _))
+      (bind_calm (parameters_at ts) _ (parameters_calm ts) (λ y _. ok_calm _))
 
-  keyword_calm : (k : Keyword) (s : Spelling) (all ts : List Lexeme) → NestsWithin n ts → NotDeep (keyword_with (inside_at n) k s all ts)
-  unfolding keyword_with
-  keyword_calm keywords.Element s all ts nest = bind_calm (named_with (inside_at n) ts) _ (named_calm ts nest) (λ y _. ok_calm _)
-  keyword_calm keywords.Attribute s all ts nest = bind_calm (named_with (inside_at n) ts) _ (named_calm ts nest) (λ y _. ok_calm _)
-  keyword_calm keywords.List s all ts nest = bind_calm (braced_with (inside_at n) ts) _ (braced_calm ts nest) (λ y _. ok_calm _)
-  keyword_calm keywords.Mixed s all ts nest = bind_calm (braced_with (inside_at n) ts) _ (braced_calm ts nest) (λ y _. ok_calm _)
-  keyword_calm keywords.Parent s all ts nest = bind_calm (identifier_at ts) _ (identifier_calm ts) (λ y _. ok_calm _)
-  keyword_calm keywords.Empty s all ts nest = ok_calm _
-  keyword_calm keywords.Text s all ts nest = ok_calm _
-  keyword_calm keywords.NotAllowed s all ts nest = ok_calm _
-  keyword_calm keywords.String s all ts nest = typed_calm syntax.string_type ts
-  keyword_calm keywords.Token s all ts nest = typed_calm syntax.token_type ts
-  keyword_calm keywords.External s all ts nest = bind_calm (mention_at s.place ts) _ (mention_calm s.place ts) (λ y _. ok_calm _)
-  keyword_calm keywords.Grammar s all ts nest = bind_calm (contents_with (inside_at n) content ts) _ (contents_calm content ts nest) (λ y _. ok_calm _)
-  keyword_calm _ s all ts nest = λ e. absurd cc
+  keyword_within : (k : Keyword) (s : Spelling) (ts : List Lexeme) → NestsWithin n (keyword k s ∷ ts) → NestsWithin n ts
+  keyword_within k s ts nest = behind_within n (keyword k s ∷ ts) (keyword k s) ts refl (plain (keyword k s) refl refl) nest
 
   primary_calm : (ts : List Lexeme) → NestsWithin n ts → NotDeep (primary_with (inside_at n) ts)
-  unfolding primary_with parens_with
-  primary_calm [] nest e = absurd cc
-  primary_calm (keyword k s ∷ ts) nest e = keyword_calm k s (keyword k s ∷ ts) ts
-      (behind_within n (keyword k s ∷ ts) (keyword k s) ts refl (plain (keyword k s) refl refl) nest) e
-  primary_calm (identifier w ∷ ts) nest e = absurd cc
-  primary_calm (cname p l ∷ ts) nest e = typed_calm (syntax.prefixed_type p l) ts e
-  primary_calm (ns_name p ∷ ts) nest e = absurd cc
-  primary_calm (segment w ∷ ts) nest e = bind_calm (literal_at (segment w ∷ ts)) (λ v. Ok (syntax.value syntax.token_type v.0, v.1))
-      (literal_calm (segment w ∷ ts)) (λ y _. ok_calm _) e
-  primary_calm (sign OpenParenthesis ∷ ts) nest e =
+  unfolding primary_with atom_at other_at opened_with parens_with
+  primary_calm (keyword keywords.Element s ∷ ts) nest = named_calm syntax.element ts (keyword_within keywords.Element s ts nest)
+  primary_calm (keyword keywords.Attribute s ∷ ts) nest = named_calm syntax.attribute ts (keyword_within keywords.Attribute s ts nest)
+  primary_calm (keyword keywords.List s ∷ ts) nest = bind_calm (braced_with (inside_at n) ts) _ (braced_calm ts (keyword_within keywords.List s ts nest))
+      (λ y _. ok_calm _)
+  primary_calm (keyword keywords.Mixed s ∷ ts) nest = bind_calm (braced_with (inside_at n) ts) _ (braced_calm ts (keyword_within keywords.Mixed s ts nest))
+      (λ y _. ok_calm _)
+  primary_calm (keyword keywords.Parent s ∷ ts) nest = bind_calm (identifier_at ts) _ (identifier_calm ts) (λ y _. ok_calm _)
+  primary_calm (keyword keywords.String s ∷ ts) nest = typed_calm syntax.string_type ts
+  primary_calm (keyword keywords.Token s ∷ ts) nest = typed_calm syntax.token_type ts
+  primary_calm (keyword keywords.External s ∷ ts) nest = bind_calm (mention_at s.place ts) _ (mention_calm s.place ts) (λ y _. ok_calm _)
+  primary_calm (keyword keywords.Grammar s ∷ ts) nest = bind_calm (contents_with (inside_at n) content ts) _
+      (contents_calm content ts (keyword_within keywords.Grammar s ts nest)) (λ y _. ok_calm _)
+  primary_calm (cname p l ∷ ts) nest = typed_calm (syntax.prefixed_type p l) ts
+  primary_calm (segment w ∷ ts) nest = bind_calm (literal_at (segment w ∷ ts)) (λ v. Ok (syntax.value syntax.token_type v.0, v.1))
+      (literal_calm (segment w ∷ ts)) (λ y _. ok_calm _)
+  primary_calm (sign OpenParenthesis ∷ ts) nest =
       bind_calm ((inside_at n).pattern ts) (λ body. after CloseParenthesis body.1 >>= λ end. Ok (body.0, end.1))
       (inner.pattern ts (below_open n (sign OpenParenthesis ∷ ts) (sign OpenParenthesis) ts refl refl refl nest))
-      (λ x _. bind_calm (after CloseParenthesis x.1) _ (after_calm CloseParenthesis x.1) (λ y _. ok_calm _)) e
-  primary_calm (sign _ ∷ ts) nest e = absurd cc
+      (λ x _. bind_calm (after CloseParenthesis x.1) _ (after_calm CloseParenthesis x.1) (λ y _. ok_calm _))
+  primary_calm _ nest = λ e. absurd cc
 
   particle_calm : (ts : List Lexeme) → NestsWithin n ts → NotDeep (particle_with (inside_at n) ts)
   unfolding particle_with
@@ -364,55 +345,37 @@ module _ (n : ℕ) (inner : InsideCalm n) where
     method_alone (sign AndEqual) m e = refl
     method_alone _ m e = absurd cc
 
-  assigned_calm : (ts : List Lexeme) → NestsWithin n ts → NotDeep (assigned_with (inside_at n) ts)
-  unfolding assigned_with
-  assigned_calm ts nest = bind_calm (method_at ts) _ (method_calm ts)
-      (λ x e. bind_calm (pattern_with (inside_at n) x.1) _ (pattern_calm x.1 (after_reads n IsMethod ts x (method_sound ts x e) method_even nest))
-      (λ y _. ok_calm _))
+  -- a method and a pattern, behind what is assigned to
+  assigned_calm : (o : Option (List ℕ)) (ts : List Lexeme) → NestsWithin n ts → NotDeep (assignment_with (inside_at n) o ts)
+  assigned_calm o ts nest e =
+      bind_calm (method_at ts) (λ m. pattern_with (inside_at n) m.1 >>= λ t. Ok (assigned o m.0 t.0, t.1)) (method_calm ts)
+      (λ x f. bind_calm (pattern_with (inside_at n) x.1) (λ t. Ok (assigned o x.0 t.0, t.1))
+      (pattern_calm x.1 (after_reads n IsMethod ts x (method_sound ts x f) method_even nest)) (λ y _. ok_calm _))
+      (assignment_is (inside_at n) o ts ∙ e)
 
   overrides_calm : (ts : List Lexeme) → NestsWithin n ts → NotDeep (overrides_with (inside_at n) ts)
   unfolding overrides_with
-  overrides_calm ts nest = either_calm (follow OpenBrace ts) _ _ (λ _. ok_calm _)
-      (λ us is. in_braces_calm ((inside_at n).components override) us
-      (inner.components override us (below_open n ts (sign OpenBrace) us refl refl (follow_is OpenBrace ts us is) nest)))
-
-  include_calm : (place : ℕ) (ts : List Lexeme) → NestsWithin n ts → NotDeep (include_with (inside_at n) place ts)
-  unfolding include_with
-  include_calm place ts nest = bind_calm (mention_at place ts) _ (mention_calm place ts)
-      (λ x e. bind_calm (overrides_with (inside_at n) x.1) _
-      (overrides_calm x.1 (after_reads n (IsMention place) ts x (mention_sound place ts x e)
-      (λ front m p. join_even p.first p.second front p.parts (literal_even p.literal) (may_inherit_even p.inherits)) nest)) (λ y _. ok_calm _))
+  overrides_calm ts nest = either_calm (follow OpenBrace ts) _ _ (λ _. ok_calm _) (λ us _. contents_calm override ts nest)
 
   component_calm : (w : Setting) (ts : List Lexeme) → NestsWithin n ts → NotDeep (component_with (inside_at n) w ts)
-  unfolding component_with
-  component_calm w [] nest e = absurd cc
-  component_calm w (identifier x ∷ ts) nest e = bind_calm (assigned_with (inside_at n) ts) (λ y. Ok (syntax.define x y.0.0 y.0.1, y.1))
-      (assigned_calm ts (behind_within n (identifier x ∷ ts) (identifier x) ts refl (plain (identifier x) refl refl) nest)) (λ y _. ok_calm _) e
-  component_calm w (keyword keywords.Start s ∷ ts) nest e = bind_calm (assigned_with (inside_at n) ts) (λ y. Ok (syntax.start y.0.0 y.0.1, y.1))
-      (assigned_calm ts (behind_within n (keyword keywords.Start s ∷ ts) (keyword keywords.Start s) ts refl (plain (keyword keywords.Start s) refl refl) nest))
-      (λ y _. ok_calm _) e
-  component_calm w (keyword keywords.Div s ∷ ts) nest e = bind_calm (contents_with (inside_at n) w ts) (λ cs. Ok (syntax.div (syntax.components_of cs.0), cs.1))
-      (contents_calm w ts (behind_within n (keyword keywords.Div s ∷ ts) (keyword keywords.Div s) ts refl (plain (keyword keywords.Div s) refl refl) nest))
-      (λ y _. ok_calm _) e
-  component_calm w (keyword keywords.Include s ∷ ts) nest e =
-      include_calm s.place ts (behind_within n (keyword keywords.Include s ∷ ts) (keyword keywords.Include s) ts refl
-      (plain (keyword keywords.Include s) refl refl) nest) e
-  component_calm w (_ ∷ ts) nest e = absurd cc
-
-  same_front : (w : Setting) (ts us : List Lexeme) → component_front w ts ≡ Some us → ts ≡ us
-  same_front content (identifier n ∷ ts) us e = cc
-  same_front content (keyword keywords.Start s ∷ ts) us e = cc
-  same_front content (keyword keywords.Div s ∷ ts) us e = cc
-  same_front content (keyword keywords.Include s ∷ ts) us e = cc
-  same_front override (identifier n ∷ ts) us e = cc
-  same_front override (keyword keywords.Start s ∷ ts) us e = cc
-  same_front override (keyword keywords.Div s ∷ ts) us e = cc
-  same_front _ _ us e = absurd cc
+  unfolding component_with assigned_at
+  component_calm w (identifier x ∷ ts) nest =
+      assigned_calm (Some x) ts (behind_within n (identifier x ∷ ts) (identifier x) ts refl (plain (identifier x) refl refl) nest)
+  component_calm w (keyword keywords.Start s ∷ ts) nest = assigned_calm None ts (keyword_within keywords.Start s ts nest)
+  component_calm w (keyword keywords.Div s ∷ ts) nest = bind_calm (contents_with (inside_at n) w ts) _
+      (contents_calm w ts (keyword_within keywords.Div s ts nest)) (λ y _. ok_calm _)
+  component_calm w (keyword keywords.Include s ∷ ts) nest =
+      let inner = keyword_within keywords.Include s ts nest in
+      bind_calm (mention_at s.place ts) _ (mention_calm s.place ts)
+      (λ x e. bind_calm (overrides_with (inside_at n) x.1) _
+      (overrides_calm x.1 (after_reads n (IsMention s.place) ts x (mention_sound s.place ts x e)
+      (λ front m p. join_even p.first p.second front p.parts (literal_even p.literal) (may_inherit_even p.inherits)) inner)) (λ y _. ok_calm _))
+  component_calm w _ nest = λ e. absurd cc
 
   components_calm : (w : Setting) (ts : List Lexeme) → NestsWithin n ts → NotDeep (components_with (inside_at n) w ts)
   unfolding components_with
   components_calm w ts nest = many_calm (NestsWithin n) (component_front w) (component_with (inside_at n) w)
-      (λ us vs nest is. component_calm w vs (subst (NestsWithin n) (same_front w us vs is) nest))
+      (λ us vs nest is. component_calm w vs (subst (NestsWithin n) (component_front_is w us vs is) nest))
       (λ us vs x nest is e. after_reads n (IsComponent w) us x (component_item (inside_at n) (inside_sound n) w us vs x is e) (λ front a p. component_even p)
       nest) ts nest
 
@@ -433,26 +396,20 @@ inside_calm (suc n) =
 
 -- ---- files
 
-literal_uri_calm : (ts : List Lexeme) → NotDeep {A = Uri × List Lexeme} (literal_at ts >>= λ v. Ok (syntax.literal v.0, v.1))
-literal_uri_calm ts = bind_calm (literal_at ts) _ (literal_calm ts) (λ y _. ok_calm _)
-
 uri_calm : (ts : List Lexeme) → NotDeep (uri_at ts)
 unfolding uri_at
-uri_calm (keyword keywords.Inherit s ∷ ts) = ok_calm _
-uri_calm ts = literal_uri_calm ts
+uri_calm ts = either_calm (follow_keyword keywords.Inherit ts) _ _ (λ _. bind_calm (literal_at ts) _ (literal_calm ts) (λ y _. ok_calm _)) (λ us _. ok_calm _)
 
 prefix_calm : (ts : List Lexeme) → NotDeep (prefix_at ts)
 unfolding prefix_at
 prefix_calm ts = bind_calm (word_at ts) _ (word_calm ts) (λ x _. bind_calm (after Equal x.1) _ (after_calm Equal x.1)
     (λ y _. bind_calm (uri_at y.1) _ (uri_calm y.1) (λ z _. ok_calm _)))
 
-prefixed_calm : (ts : List Lexeme) → NotDeep {A = Declaration × List Lexeme} (prefix_at ts >>= λ x. Ok (syntax.default_namespace (Some x.0.0) x.0.1, x.1))
-prefixed_calm ts = bind_calm (prefix_at ts) _ (prefix_calm ts) (λ y _. ok_calm _)
-
 default_calm : (ts : List Lexeme) → NotDeep (default_at ts)
 unfolding default_at
-default_calm (sign Equal ∷ ts) = bind_calm (uri_at ts) _ (uri_calm ts) (λ y _. ok_calm _)
-default_calm ts = prefixed_calm ts
+default_calm ts =
+    either_calm (follow Equal ts) _ _ (λ _. bind_calm (prefix_at ts) _ (prefix_calm ts) (λ y _. ok_calm _))
+    (λ us _. bind_calm (uri_at us) _ (uri_calm us) (λ y _. ok_calm _))
 
 declaration_calm : (ts : List Lexeme) → NotDeep (declaration_at ts)
 unfolding declaration_at
@@ -461,10 +418,6 @@ declaration_calm (keyword keywords.Default s ∷ ts) = bind_calm (after_keyword 
     (λ x _. default_calm x.1)
 declaration_calm (keyword keywords.Datatypes s ∷ ts) = bind_calm (parameter_at ts) _ (parameter_calm ts) (λ y _. ok_calm _)
 declaration_calm _ = λ e. absurd cc
-
-if_calm : {A : Type 0} (b : Bool) (r s : Result A Stop) → NotDeep r → NotDeep s → NotDeep (cond b r s)
-if_calm true r s f g = f
-if_calm false r s f g = g
 
 body_calm : (n : ℕ) (ts : List Lexeme) → NestsWithin n ts → NotDeep (body_with (inside_at n) ts)
 unfolding body_with
@@ -478,7 +431,7 @@ ended_calm a (x ∷ ts) e = absurd cc
 
 -- tokens that nest within a limit are not too deep
 pub file_not_deep : (n : ℕ) (ts : List Lexeme) → NestsWithin n ts → file_with (inside_at n) ts ≡ Err TooDeep → ⊥
-unfolding file_with
+unfolding file_with declarations_at
 file_not_deep n ts nest = bind_calm (many declaration_front declaration_at ts) _
     (many_calm Any declaration_front declaration_at (λ ts us _ _. declaration_calm us) (λ ts us x _ _ _. tt) ts tt)
     (λ x e.

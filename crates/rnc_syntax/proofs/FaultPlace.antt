@@ -9,7 +9,7 @@ use Rattle.rnc_syntax.specs.Syntax.{File}
 use Rattle.rnc_syntax.specs.Productions.{inside_at, file_with}
 use Rattle.rnc_syntax.specs.Sentence.{NestsWithin, IsSentence, BeginsSentence, BeginsAlike, IsStuckAt}
 use Rattle.rnc_syntax.proofs.Balance.{length_within}
-use Rattle.rnc_syntax.proofs.Exact.{file_complete}
+use Rattle.rnc_syntax.proofs.CompletenessFiles.{file_complete}
 use Rattle.rnc_syntax.proofs.Locality.{SameHead}
 
 -- at this depth, every list is stuck that begins with the same tokens up to and with the one where these are stuck

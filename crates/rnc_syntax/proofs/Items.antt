@@ -1,11 +1,17 @@
--- Items one after another: what a loop over them keeps.
-use Rattle.std.proofs.Common.{◌≡◌, ℕ, zero, suc, ◌≤◌, ◌<◌, List, [], ◌∷◌, ◌++◌, length, Option, Some, None, Ok, Err, refl, sym, ap, ◌∙◌, append_assoc, arith}
+-- Steps one after another, and items one after another: what a loop over them keeps.
+use Rattle.std.proofs.Common.{◌≡◌, ℕ, zero, suc, ◌≤◌, ◌<◌, List, [], ◌∷◌, ◌++◌, length, Option, Some, None, Result, Ok, Err, refl, sym, ap, ◌∙◌, append_assoc}
+use Rattle.std.proofs.Common.{arith}
 use Rattle.rnc_syntax.specs.declared.fault.Stop.{Stop}
 use Rattle.rnc_syntax.specs.declared.fault.ReadFault.{ReadFault}
 use Rattle.rnc_syntax.specs.declared.fault.ReadFault.TheVariants as read_faults
 use Rattle.rnc_syntax.specs.Lexeme.{Lexeme}
 use Rattle.rnc_syntax.specs.Combinators.{Outcome, ◌>>=◌, many_with, many, with_front}
 use Rattle.rnc_syntax.specs.Fault.{FailsAs, stop_of}
+
+-- brackets about steps are moved
+pub bind_bind : {A B C : Type 0} (r : Result A Stop) (f : A → Result B Stop) (g : B → Result C Stop) → ((r >>= f) >>= g) ≡ (r >>= λ x. f x >>= g)
+bind_bind (Ok x) f g = refl
+bind_bind (Err e) f g = refl
 
 module _ {A : Type 0} (next : List Lexeme → Option (List Lexeme)) (item : List Lexeme → Outcome A) where
   opened : (k : ℕ) (ts us : List Lexeme) → next ts ≡ Some us → many_with next item (suc k) ts ≡ (item us >>= λ x. many_with next item k x.1

@@ -30,11 +30,6 @@ pub mod ViabilityPrimaries
 pub mod ViabilityPatterns
 pub mod ViabilityComponents
 pub mod ViabilityFiles
-pub mod ByCases
-pub mod SameParts
-pub mod SamePatterns
-pub mod SameReading
-pub mod Exact
 pub mod FaultPlace
 pub mod FaultPlaceFiles
 pub mod NestingSteps

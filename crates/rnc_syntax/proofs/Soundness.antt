@@ -11,7 +11,7 @@ use Rattle.rnc_syntax.specs.Lexeme.{Lexeme, Spelling, keyword, identifier, cname
 use Rattle.rnc_syntax.specs.Grammar.{word_of}
 use Rattle.rnc_syntax.specs.Combinators.{Outcome, ◌>>=◌, same_sign, same_keyword, follow, follow_keyword, sign_read, after, after_keyword, word_at}
 use Rattle.rnc_syntax.specs.Combinators.{identifier_at, segment_at, either_way, many_with, many}
-use Rattle.rnc_syntax.proofs.ByCases.{in_braces_at}
+use Rattle.rnc_syntax.specs.Productions.{in_braces_at}
 
 -- the value of a step that did not fail
 pub bind_ok : {A B : Type 0} (r : Result A Stop) (f : A → Result B Stop) (y : B) → (r >>= f) ≡ Ok y → (x : A) × (r ≡ Ok x) × (f x ≡ Ok y)
@@ -21,6 +21,11 @@ bind_ok (Err d) f y e = absurd cc
 pub chosen : {A : Type 0} (b : Bool) (x y z : A) → cond b x y ≡ z → ((b ≡ true) × (x ≡ z)) ⊎ ((b ≡ false) × (y ≡ z))
 chosen true x y z e = inl (refl, e)
 chosen false x y z e = inr (refl, e)
+
+-- the values from which a front is made
+pub front_some : {A B : Type 0} (o : Option A) (f : A → Option B) (y : B) → either_way o None f ≡ Some y → (x : A) × (o ≡ Some x) × (f x ≡ Some y)
+front_some None f y e = absurd cc
+front_some (Some x) f y e = (x, refl, e)
 
 abbrev done : {A : Type 0} → A → Result A Stop
 done x = Ok x

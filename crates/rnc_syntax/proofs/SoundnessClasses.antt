@@ -8,9 +8,9 @@ use Rattle.rnc_syntax.specs.Syntax.{NameClass}
 use Rattle.rnc_syntax.specs.Grammar as grammar
 use Rattle.rnc_syntax.specs.Grammar.{IsClass, AreMoreClasses, IsBasic}
 use Rattle.rnc_syntax.specs.Combinators.{Outcome, ◌>>=◌, follow, either_way, many}
-use Rattle.rnc_syntax.proofs.ByCases.{class_in_parens, basic_with, choice_with, except_front, excepted, class_with}
-use Rattle.rnc_syntax.proofs.Soundness.{bind_ok, ok_is, some_is, TakesFront, Sound, Preceded, closes_sound, Each, no_items, and_item, many_sound, some_is_read}
-use Rattle.rnc_syntax.proofs.Soundness.{preceded_sound, nothing_left}
+use Rattle.rnc_syntax.specs.Productions.{class_in_parens, basic_with, choice_with, wide_front, except_front, excepted, class_with}
+use Rattle.rnc_syntax.proofs.Soundness.{bind_ok, front_some, ok_is, some_is, follow_is, TakesFront, Sound, Preceded, closes_sound, Each, no_items, and_item}
+use Rattle.rnc_syntax.proofs.Soundness.{many_sound, some_is_read, preceded_sound, nothing_left}
 
 pub basic_sound : (class : List Lexeme → Outcome NameClass) → Sound class IsClass → Sound (basic_with class) IsBasic
 unfolding basic_with class_in_parens
@@ -54,17 +54,31 @@ choice_reads ts rest front c others y ys one parts ne q = record {
   parts = parts ∙ ap (λ (r : List Lexeme). front ++ r) q.parts ∙ sym (append_assoc front q.front others.1);
 }
 
+-- `*` or `p:*`, before these tokens
+abbrev wide_tokens : Option (List ℕ) → List Lexeme → List Lexeme
+wide_tokens None ts = sign Star ∷ ts
+wide_tokens (Some p) ts = ns_name p ∷ ts
+
 -- `*` or `p:*`, and `-`, before these tokens
 abbrev pub except_tokens : Option (List ℕ) → List Lexeme → List Lexeme
 except_tokens None ts = sign Star ∷ sign Minus ∷ ts
 except_tokens (Some p) ts = ns_name p ∷ sign Minus ∷ ts
 
+wide_is : (ts : List Lexeme) (y : Option (List ℕ) × List Lexeme) → wide_front ts ≡ Some y → ts ≡ wide_tokens y.0 y.1
+wide_is (sign Star ∷ ts) y e = subst (λ (y : Option (List ℕ) × List Lexeme). sign Star ∷ ts ≡ wide_tokens y.0 y.1) (some_is (None, ts) y e) refl
+wide_is (ns_name p ∷ ts) y e = subst (λ (y : Option (List ℕ) × List Lexeme). ns_name p ∷ ts ≡ wide_tokens y.0 y.1) (some_is (Some p, ts) y e) refl
+wide_is _ y e = absurd cc
+
+wide_minus : (o : Option (List ℕ)) (ts rest : List Lexeme) → ts ≡ sign Minus ∷ rest → wide_tokens o ts ≡ except_tokens o rest
+wide_minus None ts rest e = ap (λ (r : List Lexeme). sign Star ∷ r) e
+wide_minus (Some p) ts rest e = ap (λ (r : List Lexeme). ns_name p ∷ r) e
+
 pub except_is : (ts : List Lexeme) (y : Option (List ℕ) × List Lexeme) → except_front ts ≡ Some y → ts ≡ except_tokens y.0 y.1
-except_is (sign Star ∷ sign Minus ∷ ts) y e = subst (λ (y : Option (List ℕ) × List Lexeme). sign Star ∷ sign Minus ∷ ts ≡ except_tokens y.0 y.1)
-    (some_is (None, ts) y e) refl
-except_is (ns_name p ∷ sign Minus ∷ ts) y e = subst (λ (y : Option (List ℕ) × List Lexeme). ns_name p ∷ sign Minus ∷ ts ≡ except_tokens y.0 y.1)
-    (some_is (Some p, ts) y e) refl
-except_is _ y e = absurd cc
+except_is ts y e =
+    let w = front_some (wide_front ts) (λ x. either_way (follow Minus x.1) None (λ us. Some (x.0, us))) y e in
+    let m = front_some (follow Minus w.0.1) (λ us. Some (w.0.0, us)) y w.2 in
+    subst (λ (y : Option (List ℕ) × List Lexeme). ts ≡ except_tokens y.0 y.1) (some_is (w.0.0, m.0) y m.2)
+    (wide_is ts w.0 w.1 ∙ wide_minus w.0.0 w.0.1 m.0 (follow_is Minus w.0.1 m.0 m.1))
 
 excepted_reads : (o : Option (List ℕ)) (ts rest : List Lexeme) (c : NameClass × List Lexeme) → ts ≡ except_tokens o rest → TakesFront IsBasic rest c
     → TakesFront IsClass ts (excepted o c.0, c.1)

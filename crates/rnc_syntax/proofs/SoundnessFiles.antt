@@ -9,8 +9,9 @@ use Rattle.rnc_syntax.specs.Syntax.{Pattern, Component, Uri, Declaration, Body, 
 use Rattle.rnc_syntax.specs.Grammar as grammar
 use Rattle.rnc_syntax.specs.Grammar.{content, IsLiteral, IsPattern, AreComponents, IsUri, IsDeclaration, AreDeclarations, IsBody, IsFile}
 use Rattle.rnc_syntax.specs.Combinators.{◌>>=◌, after_keyword, many}
-use Rattle.rnc_syntax.proofs.ByCases.{literal_at, parameter_at, Inside, pattern_with, components_with, inside_at, uri_at, prefix_at, default_at, declaration_at}
-use Rattle.rnc_syntax.proofs.ByCases.{declaration_front, is_grammar_body, body_with, if_ended, file_with}
+use Rattle.rnc_syntax.specs.Productions.{literal_at, parameter_at, Inside, pattern_with, components_with, inside_at, uri_at, prefix_at, default_at}
+use Rattle.rnc_syntax.specs.Productions.{declaration_at, begins_declaration, declaration_front, is_grammar_body, body_with, if_ended, declarations_at}
+use Rattle.rnc_syntax.specs.Productions.{file_with}
 use Rattle.rnc_syntax.proofs.Soundness.{bind_ok, chosen, ok_is, some_is, same_namespace, after_keyword_is, TakesFront, Sound, Each, no_items, and_item}
 use Rattle.rnc_syntax.proofs.Soundness.{many_sound, Behind, behind, mapped_sound, IsSetting, setting_sound}
 use Rattle.rnc_syntax.proofs.SoundnessLiterals.{literal_sound, parameter_sound}
@@ -70,10 +71,11 @@ declaration_sound (keyword keywords.Default s ∷ ts) x e =
 declaration_sound _ x e = absurd cc
 
 pub declaration_front_is : (ts us : List Lexeme) → declaration_front ts ≡ Some us → ts ≡ us
-declaration_front_is (keyword keywords.Namespace s ∷ ts) us e = some_is _ us e
-declaration_front_is (keyword keywords.Default s ∷ ts) us e = some_is _ us e
-declaration_front_is (keyword keywords.Datatypes s ∷ ts) us e = some_is _ us e
-declaration_front_is _ us e = absurd cc
+declaration_front_is ts us e =
+    elim (chosen (begins_declaration ts) (Some ts) None (Some us) e) [
+      | inl h ↦ some_is ts us h.1
+      | inr h ↦ absurd (let q = h.1 in cc)
+    ]
 
 pub declaration_item : (ts us : List Lexeme) (x : Declaration × List Lexeme) → declaration_front ts ≡ Some us → declaration_at us ≡ Ok x
     → TakesFront IsDeclaration ts x
@@ -106,7 +108,7 @@ module _ (inside : Inside) (sound : InsideSound inside) where
       ∙ append-nil q.front))
 
   file_sound_at : (ts : List Lexeme) (f : File) → file_with inside ts ≡ Ok f → IsFile ts f
-  unfolding file_with
+  unfolding file_with declarations_at
   file_sound_at ts f e =
       let a = bind_ok (many declaration_front declaration_at ts) _ f e in
       let b = bind_ok (body_with inside a.0.1) _ f a.2 in

@@ -8,7 +8,8 @@ use Rattle.rnc_syntax.specs.Syntax.{Mention}
 use Rattle.rnc_syntax.specs.Grammar as grammar
 use Rattle.rnc_syntax.specs.Grammar.{word_of, IsLiteral, AreParameters, MayBeParameters, MayInherit}
 use Rattle.rnc_syntax.specs.Combinators.{follow, follow_keyword, after, word_at, segment_at, either_way, many}
-use Rattle.rnc_syntax.proofs.ByCases.{joined_text, literal_at, parameter_at, word_front, in_braces_at, parameters_at, word_after_equal, inherit_at, mention_at}
+use Rattle.rnc_syntax.specs.Productions.{literal_at, parameter_at, word_front, in_braces_at, parameters_at, word_after_equal, inherit_at, mention_at}
+use Rattle.rnc_syntax.specs.Syntax.{joined_text}
 use Rattle.rnc_syntax.proofs.Soundness.{bind_ok, ok_is, some_is, same_inherit, keyword_follows, after_is, TakesFront, Sound, IsWord, word_sound, IsSegment}
 use Rattle.rnc_syntax.proofs.Soundness.{segment_sound, Closed, Preceded, in_braces_sound, Each, no_items, and_item, many_sound, preceded_sound, both_sound}
 use Rattle.rnc_syntax.proofs.Soundness.{bracketed, IsSetting, setting_sound}

@@ -1,28 +1,28 @@
 -- What is read is in the grammar: patterns and components.
-use Rattle.std.proofs.Common.{◌≡◌, ℕ, zero, suc, List, [], ◌∷◌, ◌++◌, Option, Some, None, Ok, refl, sym, ap, subst, ◌∙◌, append_assoc}
+use Rattle.std.proofs.Common.{◌≡◌, ℕ, zero, suc, List, [], ◌∷◌, ◌++◌, Option, Some, None, Ok, refl, sym, ap, subst, ◌∙◌, append_assoc, inl, inr, if◌then◌else◌}
 use Rattle.std.proofs.lemmas.List.{append-nil}
 use Rattle.rng_model.specs.Tree.{Connector, choice, group, interleave}
-use Rattle.rnc_text.specs.declared.token.Keyword.{Keyword}
 use Rattle.rnc_text.specs.declared.token.Keyword.TheVariants as keywords
 use Rattle.rnc_text.specs.declared.token.Sign.{Sign}
 use Rattle.rnc_text.specs.declared.token.Sign.TheVariants.{Equal, BarEqual, AndEqual, Comma, Bar, And, Question, Star, Plus, Minus, OpenBrace, CloseBrace}
 use Rattle.rnc_text.specs.declared.token.Sign.TheVariants.{OpenParenthesis, CloseParenthesis}
 use Rattle.rnc_syntax.specs.declared.syntax_tree.Method.{Method}
 use Rattle.rnc_syntax.specs.declared.syntax_tree.Method.TheVariants as methods
-use Rattle.rnc_syntax.specs.Lexeme.{Lexeme, Spelling, keyword, identifier, cname, ns_name, segment, sign}
+use Rattle.rnc_syntax.specs.Lexeme.{Lexeme, Spelling, keyword, identifier, cname, segment, sign}
 use Rattle.rnc_syntax.specs.Syntax as syntax
 use Rattle.rnc_syntax.specs.Syntax.{NameClass, DatatypeName, Mention, Pattern, Component}
 use Rattle.rnc_syntax.specs.Grammar as grammar
 use Rattle.rnc_syntax.specs.Grammar.{Setting, content, override, type_of, method_of, connector_of, IsLiteral, MayBeParameters, IsClass, IsBasic, IsPattern}
 use Rattle.rnc_syntax.specs.Grammar.{AreMore, IsParticle, IsPrimary, IsBraced, AreComponents, IsComponent, MayOverride}
-use Rattle.rnc_syntax.specs.Combinators.{◌>>=◌, follow, identifier_at, either_way, many}
-use Rattle.rnc_syntax.proofs.ByCases.{in_braces_at, literal_at, parameters_at, mention_at, basic_with, class_with, Inside, braced_with, contents_with}
-use Rattle.rnc_syntax.proofs.ByCases.{named_with, typed_at, keyword_with, parens_with, primary_with, repeated, particle_with, separator_of, joined, rest_with}
-use Rattle.rnc_syntax.proofs.ByCases.{pattern_from, data_front, data_with, pattern_with, method_at, assigned_with, overrides_with, include_with}
-use Rattle.rnc_syntax.proofs.ByCases.{component_front, component_with, components_with, inside_at}
-use Rattle.rnc_syntax.proofs.Soundness.{bind_ok, ok_is, some_is, follow_is, identifier_is, TakesFront, Sound, Closed, Preceded, closes_sound, in_braces_sound}
-use Rattle.rnc_syntax.proofs.Soundness.{Each, no_items, and_item, many_sound, some_is_read, preceded_sound, nothing_left, Behind, behind, mapped_sound}
-use Rattle.rnc_syntax.proofs.Soundness.{both_sound, open_sound, Bracketed, bracketed}
+use Rattle.rnc_syntax.specs.Combinators.{Outcome, ◌>>=◌, follow, identifier_at, either_way, many}
+use Rattle.rnc_syntax.specs.Productions.{in_braces_at, literal_at, parameters_at, mention_at, basic_with, class_with, Inside, braced_with, contents_with}
+use Rattle.rnc_syntax.specs.Productions.{named_with, begins_segment, typed_at, type_front, other_at, atom_at, parens_with, opened_with, primary_with, repeated}
+use Rattle.rnc_syntax.specs.Productions.{particle_with, separator_of, joined, rest_with, pattern_from, data_front, data_with, pattern_with, method_at}
+use Rattle.rnc_syntax.specs.Productions.{overrides_with, begins_component, component_front, assigned_at, assigned, component_with, components_with, inside_at}
+use Rattle.rnc_syntax.proofs.Items.{bind_bind}
+use Rattle.rnc_syntax.proofs.Soundness.{bind_ok, chosen, front_some, ok_is, some_is, follow_is, identifier_is, TakesFront, Sound, Closed, Preceded}
+use Rattle.rnc_syntax.proofs.Soundness.{closes_sound, in_braces_sound, Each, no_items, and_item, many_sound, some_is_read, preceded_sound, nothing_left, Behind}
+use Rattle.rnc_syntax.proofs.Soundness.{behind, mapped_sound, both_sound, open_sound, Bracketed, bracketed}
 use Rattle.rnc_syntax.proofs.SoundnessLiterals.{literal_sound, parameters_sound, IsMention, mention_sound}
 use Rattle.rnc_syntax.proofs.SoundnessClasses.{basic_sound, class_sound}
 
@@ -31,22 +31,6 @@ pub record InsideSound (inside : Inside) : Type 0 where
   pub class : Sound inside.class IsClass
   pub pattern : Sound inside.pattern IsPattern
   pub components : (w : Setting) → Sound (inside.components w) (AreComponents w)
-
--- a name class and a pattern in braces
-pub record IsNamed (ts : List Lexeme) (x : NameClass × Pattern) : Type 0 where
-  pub first : List Lexeme
-  pub second : List Lexeme
-  pub class : IsClass first x.0
-  pub body : IsBraced second x.1
-  pub parts : ts ≡ first ++ second
-
--- a method and a pattern
-pub record IsAssigned (ts : List Lexeme) (x : Method × Pattern) : Type 0 where
-  pub token : Lexeme
-  pub method : method_of token ≡ Some x.0
-  pub body : List Lexeme
-  pub is : IsPattern body x.1
-  pub parts : ts ≡ token ∷ body
 
 pub record IsMethod (ts : List Lexeme) (m : Method) : Type 0 where
   pub token : Lexeme
@@ -63,43 +47,42 @@ method_sound (sign AndEqual ∷ ts) x e = subst (TakesFront IsMethod (sign AndEq
     (record { front = sign AndEqual ∷ []; is = record { token = sign AndEqual; method = refl; parts = refl }; parts = refl })
 method_sound _ x e = absurd cc
 
+type_front_is : (ts : List Lexeme) (d : DatatypeName × List Lexeme) → type_front ts ≡ Some d → (t : Lexeme) × (type_of t ≡ Some d.0) × (ts ≡ t ∷ d.1)
+type_front_is (cname p l ∷ ts) d e =
+    let q = some_is (syntax.prefixed_type p l, ts) d e in
+    (cname p l, ap (λ (d : DatatypeName × List Lexeme). Some d.0) q, ap (λ (d : DatatypeName × List Lexeme). cname p l ∷ d.1) q)
+type_front_is (keyword keywords.String s ∷ ts) d e =
+    let q = some_is (syntax.string_type, ts) d e in
+    (keyword keywords.String s, ap (λ (d : DatatypeName × List Lexeme). Some d.0) q, ap (λ (d : DatatypeName × List Lexeme). keyword keywords.String s ∷ d.1) q)
+type_front_is (keyword keywords.Token s ∷ ts) d e =
+    let q = some_is (syntax.token_type, ts) d e in
+    (keyword keywords.Token s, ap (λ (d : DatatypeName × List Lexeme). Some d.0) q, ap (λ (d : DatatypeName × List Lexeme). keyword keywords.Token s ∷ d.1) q)
+type_front_is _ d e = absurd cc
+
+no_segment_front : (x d : DatatypeName × List Lexeme) → (if begins_segment x.1 then None else Some x) ≡ Some d → x ≡ d
+no_segment_front x d e =
+    elim (chosen (begins_segment x.1) None (Some x) (Some d) e) [
+      | inl h ↦ absurd (let q = h.1 in cc)
+      | inr h ↦ some_is x d h.1
+    ]
+
 -- where a datatype's name stands in front
 pub data_front_is : (ts : List Lexeme) (d : DatatypeName × List Lexeme) → data_front ts ≡ Some d → (t : Lexeme) × (type_of t ≡ Some d.0) × (ts ≡ t ∷ d.1)
-data_front_is [] d e = absurd cc
-data_front_is (x ∷ segment w ∷ ts) d e = absurd cc
-data_front_is (cname p l ∷ ts) d e = (
-  cname p l,
-  ap (λ (d : DatatypeName × List Lexeme). Some d.0) (some_is (syntax.prefixed_type p l, ts) d e),
-  ap (λ (d : DatatypeName × List Lexeme). cname p l ∷ d.1) (some_is (syntax.prefixed_type p l, ts) d e),
-)
-data_front_is (keyword keywords.String s ∷ ts) d e = (
-  keyword keywords.String s,
-  ap (λ (d : DatatypeName × List Lexeme). Some d.0) (some_is (syntax.string_type, ts) d e),
-  ap (λ (d : DatatypeName × List Lexeme). keyword keywords.String s ∷ d.1) (some_is (syntax.string_type, ts) d e),
-)
-data_front_is (keyword keywords.Token s ∷ ts) d e = (
-  keyword keywords.Token s,
-  ap (λ (d : DatatypeName × List Lexeme). Some d.0) (some_is (syntax.token_type, ts) d e),
-  ap (λ (d : DatatypeName × List Lexeme). keyword keywords.Token s ∷ d.1) (some_is (syntax.token_type, ts) d e),
-)
-data_front_is _ d e = absurd cc
-
-typed_data : (d : DatatypeName) (t : Lexeme) (ts : List Lexeme) (x : Pattern × List Lexeme) → type_of t ≡ Some d
-    → (parameters_at ts >>= λ ps. Ok (syntax.data_of d ps.0, ps.1)) ≡ Ok x → TakesFront IsPrimary (t ∷ ts) x
-typed_data d t ts x is e = behind IsPrimary t ts x (mapped_sound MayBeParameters (Behind t IsPrimary) (syntax.data_of d) parameters_at parameters_sound
-    (λ ts ps p. grammar.data_of is p refl) ts x e)
+data_front_is ts d e =
+    let f = front_some (type_front ts) (λ x. if begins_segment x.1 then None else Some x) d e in
+    type_front_is ts d (f.1 ∙ ap (λ (d : DatatypeName × List Lexeme). Some d) (no_segment_front f.0 d f.2))
 
 typed_sound : (d : DatatypeName) (t : Lexeme) (ts : List Lexeme) (x : Pattern × List Lexeme) → type_of t ≡ Some d → typed_at d ts ≡ Ok x
     → TakesFront IsPrimary (t ∷ ts) x
 unfolding typed_at
-typed_sound d t (segment w ∷ ts) x is e = behind IsPrimary t (segment w ∷ ts) x (mapped_sound IsLiteral (Behind t IsPrimary) (syntax.value d) literal_at
-    literal_sound (λ ts v p. grammar.value is p refl) (segment w ∷ ts) x e)
-typed_sound d t [] x is e = typed_data d t [] x is e
-typed_sound d t (keyword k s ∷ ts) x is e = typed_data d t (keyword k s ∷ ts) x is e
-typed_sound d t (identifier w ∷ ts) x is e = typed_data d t (identifier w ∷ ts) x is e
-typed_sound d t (cname p l ∷ ts) x is e = typed_data d t (cname p l ∷ ts) x is e
-typed_sound d t (ns_name p ∷ ts) x is e = typed_data d t (ns_name p ∷ ts) x is e
-typed_sound d t (sign s ∷ ts) x is e = typed_data d t (sign s ∷ ts) x is e
+typed_sound d t ts x is e =
+    elim (chosen (begins_segment ts) (literal_at ts >>= λ v. Ok (syntax.value d v.0, v.1)) (parameters_at ts >>= λ ps. Ok (syntax.data_of d ps.0, ps.1)) (Ok x)
+    e) [
+      | inl h ↦ behind IsPrimary t ts x (mapped_sound IsLiteral (Behind t IsPrimary) (syntax.value d) literal_at literal_sound
+          (λ ts v p. grammar.value is p refl) ts x h.1)
+      | inr h ↦ behind IsPrimary t ts x (mapped_sound MayBeParameters (Behind t IsPrimary) (syntax.data_of d) parameters_at parameters_sound
+          (λ ts ps p. grammar.data_of is p refl) ts x h.1)
+    ]
 
 pub separator_is : (s : Sign) (ts : List Lexeme) → separator_of ts ≡ Some s → (us : List Lexeme) × (follow s ts ≡ Some us) × (k : Connector)
     × (connector_of s ≡ Some k) × ((all : List Pattern) → joined s all ≡ syntax.members k all)
@@ -154,29 +137,45 @@ components_are w (no_items e) = grammar.no_components e
 components_are w (and_item p q parts) = grammar.and_component p (components_are w q) parts
 
 pub component_front_is : (w : Setting) (ts us : List Lexeme) → component_front w ts ≡ Some us → ts ≡ us
-component_front_is content (identifier n ∷ ts) us e = some_is _ us e
-component_front_is content (keyword keywords.Start s ∷ ts) us e = some_is _ us e
-component_front_is content (keyword keywords.Div s ∷ ts) us e = some_is _ us e
-component_front_is content (keyword keywords.Include s ∷ ts) us e = some_is _ us e
-component_front_is override (identifier n ∷ ts) us e = some_is _ us e
-component_front_is override (keyword keywords.Start s ∷ ts) us e = some_is _ us e
-component_front_is override (keyword keywords.Div s ∷ ts) us e = some_is _ us e
-component_front_is _ _ us e = absurd cc
+component_front_is w ts us e =
+    elim (chosen (begins_component w ts) (Some ts) None (Some us) e) [
+      | inl h ↦ some_is ts us h.1
+      | inr h ↦ absurd (let q = h.1 in cc)
+    ]
 
 pub include_stands : (w : Setting) (s : Spelling) (ts us : List Lexeme) → component_front w (keyword keywords.Include s ∷ ts) ≡ Some us → w ≡ content
 include_stands content s ts us e = refl
 include_stands override s ts us e = absurd cc
 
+-- a method and a pattern, behind what is assigned to
+abbrev pub assignment_with : Inside → Option (List ℕ) → List Lexeme → Outcome Component
+assignment_with inside o ts = ◌>>=◌ {A = (Option (List ℕ) × Method) × List Lexeme} (method_at ts >>= λ m. Ok ((o, m.0), m.1)) (λ x. pattern_with inside x.1
+    >>= λ t. Ok (assigned x.0.0 x.0.1 t.0, t.1))
+
+-- the same, put together at once
+pub assignment_is : (inside : Inside) (o : Option (List ℕ)) (ts : List Lexeme)
+    → (method_at ts >>= λ m. pattern_with inside m.1 >>= λ t. Ok (assigned o m.0 t.0, t.1)) ≡ assignment_with inside o ts
+assignment_is inside o ts = sym (bind_bind {B = (Option (List ℕ) × Method) × List Lexeme} (method_at ts) (λ m. Ok ((o, m.0), m.1)) (λ x. pattern_with inside x.1
+    >>= λ t. Ok (assigned x.0.0 x.0.1 t.0, t.1)))
+
 -- a mention, and the components that override what it mentions
-pub record IsInclude (place : ℕ) (ts : List Lexeme) (c : Component) : Type 0 where
-  pub first : List Lexeme
-  pub second : List Lexeme
-  pub mentioned : Mention
-  pub overriding : List Component
-  pub mention : IsMention place first mentioned
-  pub overrides : MayOverride second overriding
-  pub tree : c ≡ syntax.include mentioned (syntax.components_of overriding)
-  pub parts : ts ≡ first ++ second
+pub include_is : (w : Setting) (s : Spelling) → w ≡ content → (first second : List Lexeme) (m : Mention) (cs : List Component) → IsMention s.place first m
+    → MayOverride second cs
+    → IsComponent w (keyword keywords.Include s ∷ (first ++ second)) (syntax.include m (syntax.components_of cs))
+include_is w s stands first second m cs p q =
+    grammar.include stands p.literal p.inherits q (ap (λ (r : List Lexeme). keyword keywords.Include s ∷ r) (ap (λ (r : List Lexeme). r ++ second) p.parts
+    ∙ append_assoc p.first p.second second))
+    (ap (λ (m : Mention). syntax.include m (syntax.components_of cs)) p.standing)
+
+-- a method and a pattern, behind `start`
+pub start_is : (w : Setting) (s : Spelling) (first second : List Lexeme) (m : Method) (t : Pattern) → IsMethod first m → IsPattern second t
+    → IsComponent w (keyword keywords.Start s ∷ (first ++ second)) (syntax.start m t)
+start_is w s first second m t p q = grammar.start p.method q (ap (λ (r : List Lexeme). keyword keywords.Start s ∷ (r ++ second)) p.parts)
+
+-- a method and a pattern, behind a name
+pub define_is : (w : Setting) (n : List ℕ) (first second : List Lexeme) (m : Method) (t : Pattern) → IsMethod first m → IsPattern second t
+    → IsComponent w (identifier n ∷ (first ++ second)) (syntax.define n m t)
+define_is w n first second m t p q = grammar.define p.method q (ap (λ (r : List Lexeme). identifier n ∷ (r ++ second)) p.parts)
 
 module _ (inside : Inside) (sound : InsideSound inside) where
   braced_sound : Sound (braced_with inside) IsBraced
@@ -194,30 +193,29 @@ module _ (inside : Inside) (sound : InsideSound inside) where
       (in_braces_sound (AreComponents w) (inside.components w) (sound.components w)) ts x e in
       record { front = p.front; is = bracketed (AreComponents w) OpenBrace CloseBrace p.front x.0 p.is; parts = p.parts }
 
-  named_sound : Sound (named_with inside) IsNamed
+  -- a name class and a pattern in braces, behind a token
+  named_sound : (make : NameClass → Pattern → Pattern) (t : Lexeme) → ((first second : List Lexeme) (c : NameClass) (u : Pattern) → IsClass first c
+      → IsBraced second u → IsPrimary (t ∷ (first ++ second)) (make c u))
+      → (ts : List Lexeme) (x : Pattern × List Lexeme) → named_with inside make ts ≡ Ok x → TakesFront IsPrimary (t ∷ ts) x
   unfolding named_with
-  named_sound ts x e =
-      both_sound IsClass IsBraced IsNamed (λ c t. (c, t)) (class_with (basic_with inside.class)) (braced_with inside)
-      (class_sound (basic_with inside.class) (basic_sound inside.class sound.class)) braced_sound
-      (λ first second c t p q. record { first = first; second = second; class = p; body = q; parts = refl }) ts x e
+  named_sound make t makes ts x e =
+      behind IsPrimary t ts x
+      (both_sound IsClass IsBraced (Behind t IsPrimary) make (class_with (basic_with inside.class)) (braced_with inside)
+      (class_sound (basic_with inside.class) (basic_sound inside.class sound.class)) braced_sound makes ts x e)
 
-  keyword_sound : (k : Keyword) (s : Spelling) (all ts : List Lexeme) (x : Pattern × List Lexeme) → keyword_with inside k s all ts ≡ Ok x
-      → TakesFront IsPrimary (keyword k s ∷ ts) x
-  unfolding keyword_with
-  keyword_sound keywords.Element s all ts x e = behind IsPrimary (keyword keywords.Element s) ts x
-      (mapped_sound IsNamed (Behind (keyword keywords.Element s) IsPrimary) (λ (x : NameClass × Pattern). syntax.element x.0 x.1) (named_with inside)
-      named_sound
-      (λ ts a p. grammar.element p.class p.body (ap (λ (ts : List Lexeme). keyword keywords.Element s ∷ ts) p.parts)) ts x e)
-  keyword_sound keywords.Attribute s all ts x e = behind IsPrimary (keyword keywords.Attribute s) ts x
-      (mapped_sound IsNamed (Behind (keyword keywords.Attribute s) IsPrimary) (λ (x : NameClass × Pattern). syntax.attribute x.0 x.1) (named_with inside)
-      named_sound
-      (λ ts a p. grammar.attribute p.class p.body (ap (λ (ts : List Lexeme). keyword keywords.Attribute s ∷ ts) p.parts)) ts x e)
-  keyword_sound keywords.List s all ts x e = behind IsPrimary (keyword keywords.List s) ts x (mapped_sound IsBraced (Behind (keyword keywords.List s) IsPrimary)
-      syntax.list (braced_with inside) braced_sound (λ ts a p. grammar.list p refl) ts x e)
-  keyword_sound keywords.Mixed s all ts x e = behind IsPrimary (keyword keywords.Mixed s) ts x
-      (mapped_sound IsBraced (Behind (keyword keywords.Mixed s) IsPrimary) syntax.mixed (braced_with inside) braced_sound (λ ts a p. grammar.mixed p refl) ts x
-      e)
-  keyword_sound keywords.Parent s all ts x e =
+  pub primary_sound : Sound (primary_with inside) IsPrimary
+  unfolding primary_with atom_at other_at opened_with parens_with
+  primary_sound (keyword keywords.Element s ∷ ts) x e = named_sound syntax.element (keyword keywords.Element s)
+      (λ first second c u p q. grammar.element p q refl) ts x e
+  primary_sound (keyword keywords.Attribute s ∷ ts) x e = named_sound syntax.attribute (keyword keywords.Attribute s)
+      (λ first second c u p q. grammar.attribute p q refl) ts x e
+  primary_sound (keyword keywords.List s ∷ ts) x e =
+      behind IsPrimary (keyword keywords.List s) ts x (mapped_sound IsBraced (Behind (keyword keywords.List s) IsPrimary) syntax.list (braced_with inside)
+      braced_sound (λ ts a p. grammar.list p refl) ts x e)
+  primary_sound (keyword keywords.Mixed s ∷ ts) x e =
+      behind IsPrimary (keyword keywords.Mixed s) ts x (mapped_sound IsBraced (Behind (keyword keywords.Mixed s) IsPrimary) syntax.mixed (braced_with inside)
+      braced_sound (λ ts a p. grammar.mixed p refl) ts x e)
+  primary_sound (keyword keywords.Parent s ∷ ts) x e =
       let a = bind_ok (identifier_at ts) _ x e in
       subst (TakesFront IsPrimary (keyword keywords.Parent s ∷ ts)) (ok_is (syntax.parent_ref a.0.0, a.0.1) x a.2)
       (record {
@@ -225,32 +223,28 @@ module _ (inside : Inside) (sound : InsideSound inside) where
         is = grammar.parent_ref refl;
         parts = ap (λ (ts : List Lexeme). keyword keywords.Parent s ∷ ts) (identifier_is ts a.0 a.1);
       })
-  keyword_sound keywords.Empty s all ts x e = subst (TakesFront IsPrimary (keyword keywords.Empty s ∷ ts)) (ok_is (syntax.empty, ts) x e)
+  primary_sound (keyword keywords.Empty s ∷ ts) x e = subst (TakesFront IsPrimary (keyword keywords.Empty s ∷ ts)) (ok_is (syntax.empty, ts) x e)
       (record { front = keyword keywords.Empty s ∷ []; is = grammar.empty refl; parts = refl })
-  keyword_sound keywords.Text s all ts x e = subst (TakesFront IsPrimary (keyword keywords.Text s ∷ ts)) (ok_is (syntax.text, ts) x e)
+  primary_sound (keyword keywords.Text s ∷ ts) x e = subst (TakesFront IsPrimary (keyword keywords.Text s ∷ ts)) (ok_is (syntax.text, ts) x e)
       (record { front = keyword keywords.Text s ∷ []; is = grammar.text refl; parts = refl })
-  keyword_sound keywords.NotAllowed s all ts x e = subst (TakesFront IsPrimary (keyword keywords.NotAllowed s ∷ ts)) (ok_is (syntax.not_allowed, ts) x e)
+  primary_sound (keyword keywords.NotAllowed s ∷ ts) x e =
+      subst (TakesFront IsPrimary (keyword keywords.NotAllowed s ∷ ts)) (ok_is (syntax.not_allowed, ts) x e)
       (record { front = keyword keywords.NotAllowed s ∷ []; is = grammar.not_allowed refl; parts = refl })
-  keyword_sound keywords.String s all ts x e = typed_sound syntax.string_type (keyword keywords.String s) ts x refl e
-  keyword_sound keywords.Token s all ts x e = typed_sound syntax.token_type (keyword keywords.Token s) ts x refl e
-  keyword_sound keywords.External s all ts x e = behind IsPrimary (keyword keywords.External s) ts x
-      (mapped_sound (IsMention s.place) (Behind (keyword keywords.External s) IsPrimary) syntax.external (mention_at s.place) (mention_sound s.place)
+  primary_sound (keyword keywords.String s ∷ ts) x e = typed_sound syntax.string_type (keyword keywords.String s) ts x refl e
+  primary_sound (keyword keywords.Token s ∷ ts) x e = typed_sound syntax.token_type (keyword keywords.Token s) ts x refl e
+  primary_sound (keyword keywords.External s ∷ ts) x e =
+      behind IsPrimary (keyword keywords.External s) ts x (mapped_sound (IsMention s.place) (Behind (keyword keywords.External s) IsPrimary) syntax.external
+      (mention_at s.place) (mention_sound s.place)
       (λ ts a p. grammar.external p.literal p.inherits (ap (λ (ts : List Lexeme). keyword keywords.External s ∷ ts) p.parts) (ap syntax.external p.standing)) ts
       x e)
-  keyword_sound keywords.Grammar s all ts x e = behind IsPrimary (keyword keywords.Grammar s) ts x
-      (mapped_sound (Bracketed (AreComponents content) OpenBrace CloseBrace) (Behind (keyword keywords.Grammar s) IsPrimary)
-      (λ (cs : List Component). syntax.grammar (syntax.components_of cs)) (contents_with inside content) (contents_sound content)
+  primary_sound (keyword keywords.Grammar s ∷ ts) x e =
+      behind IsPrimary (keyword keywords.Grammar s) ts x (mapped_sound (Bracketed (AreComponents content) OpenBrace CloseBrace)
+      (Behind (keyword keywords.Grammar s) IsPrimary) (λ (cs : List Component). syntax.grammar (syntax.components_of cs)) (contents_with inside content)
+      (contents_sound content)
       (λ ts a p. grammar.grammar p.is (ap (λ (ts : List Lexeme). keyword keywords.Grammar s ∷ ts) p.parts) refl) ts x e)
-  keyword_sound _ s all ts x e = absurd cc
-
-  pub primary_sound : Sound (primary_with inside) IsPrimary
-  unfolding primary_with parens_with
-  primary_sound [] x e = absurd cc
-  primary_sound (keyword k s ∷ ts) x e = keyword_sound k s (keyword k s ∷ ts) ts x e
   primary_sound (identifier n ∷ ts) x e = subst (TakesFront IsPrimary (identifier n ∷ ts)) (ok_is (syntax.ref n, ts) x e)
       (record { front = identifier n ∷ []; is = grammar.ref refl; parts = refl })
   primary_sound (cname p l ∷ ts) x e = typed_sound (syntax.prefixed_type p l) (cname p l) ts x refl e
-  primary_sound (ns_name p ∷ ts) x e = absurd cc
   primary_sound (segment w ∷ ts) x e = mapped_sound IsLiteral IsPrimary (syntax.value syntax.token_type) literal_at literal_sound
       (λ ts v p. grammar.untyped_value p) (segment w ∷ ts) x e
   primary_sound (sign OpenParenthesis ∷ ts) x e =
@@ -260,7 +254,7 @@ module _ (inside : Inside) (sound : InsideSound inside) where
         is = grammar.in_parens p.is.is (ap (λ (r : List Lexeme). sign OpenParenthesis ∷ r) p.is.parts);
         parts = ap (λ (r : List Lexeme). sign OpenParenthesis ∷ r) p.parts;
       }
-  primary_sound (sign _ ∷ ts) x e = absurd cc
+  primary_sound _ x e = absurd cc
 
   pub particle_sound : Sound (particle_with inside) IsParticle
   unfolding particle_with
@@ -326,75 +320,42 @@ module _ (inside : Inside) (sound : InsideSound inside) where
   unfolding pattern_with
   pattern_sound ts x e = pattern_step ts x (data_front ts) refl e
 
-  assigned_sound : Sound (assigned_with inside) IsAssigned
-  unfolding assigned_with
-  assigned_sound ts x e =
-      both_sound IsMethod IsPattern IsAssigned (λ m t. (m, t)) method_at (pattern_with inside) method_sound pattern_sound
-      (λ first second m t p q. record { token = p.token; method = p.method; body = second; is = q; parts = ap (λ (r : List Lexeme). r ++ second) p.parts }) ts x
-      e
+  -- a method and a pattern, behind what is assigned to
+  assigned_sound : (w : Setting) (o : Option (List ℕ)) (t : Lexeme) → ((first second : List Lexeme) (m : Method) (u : Pattern) → IsMethod first m
+      → IsPattern second u → IsComponent w (t ∷ (first ++ second)) (assigned o m u))
+      → (ts : List Lexeme) (x : Component × List Lexeme) → assignment_with inside o ts ≡ Ok x → TakesFront (IsComponent w) (t ∷ ts) x
+  assigned_sound w o t makes ts x e =
+      behind (IsComponent w) t ts x
+      (both_sound IsMethod IsPattern (Behind t (IsComponent w)) (assigned o) method_at (pattern_with inside) method_sound pattern_sound makes ts x
+      (assignment_is inside o ts ∙ e))
 
-  overrides_step : (ts : List Lexeme) (x : List Component × List Lexeme) (o : Option (List Lexeme)) → follow OpenBrace ts ≡ o
-      → either_way o (Ok ([], ts)) (in_braces_at (inside.components override)) ≡ Ok x → TakesFront MayOverride ts x
-  overrides_step ts x None is e = subst (TakesFront MayOverride ts) (ok_is ([], ts) x e)
-      (record { front = []; is = grammar.without_overrides refl; parts = refl })
-  overrides_step ts x (Some us) is e =
-      let Q = AreComponents override in
-      let p = preceded_sound (Closed Q CloseBrace) OpenBrace (in_braces_at (inside.components override))
-      (in_braces_sound Q (inside.components override) (sound.components override)) ts us x is e in
-      let q = bracketed Q OpenBrace CloseBrace p.front x.0 p.is in
-      record { front = p.front; is = grammar.with_overrides q.is q.parts; parts = p.parts }
+  overrides_step : (ts : List Lexeme) (x : List Component × List Lexeme) (o : Option (List Lexeme))
+      → either_way o (Ok ([], ts)) (λ us. contents_with inside override ts) ≡ Ok x → TakesFront MayOverride ts x
+  overrides_step ts x None e = subst (TakesFront MayOverride ts) (ok_is ([], ts) x e) (record { front = []; is = grammar.without_overrides refl; parts = refl })
+  overrides_step ts x (Some us) e =
+      let p = contents_sound override ts x e in
+      record { front = p.front; is = grammar.with_overrides p.is.is p.is.parts; parts = p.parts }
 
   overrides_sound : Sound (overrides_with inside) MayOverride
   unfolding overrides_with
-  overrides_sound ts x e = overrides_step ts x (follow OpenBrace ts) refl e
-
-  include_sound : (place : ℕ) → Sound (include_with inside place) (IsInclude place)
-  unfolding include_with
-  include_sound place ts x e =
-      both_sound (IsMention place) MayOverride (IsInclude place) (λ m cs. syntax.include m (syntax.components_of cs)) (mention_at place) (overrides_with inside)
-      (mention_sound place) overrides_sound
-      (λ first second m cs p q. record {
-        first = first;
-        second = second;
-        mentioned = m;
-        overriding = cs;
-        mention = p;
-        overrides = q;
-        tree = refl;
-        parts = refl;
-      }) ts x e
-
-  pub include_is : (w : Setting) (s : Spelling) (ts : List Lexeme) (c : Component) → w ≡ content → IsInclude s.place ts c
-      → IsComponent w (keyword keywords.Include s ∷ ts) c
-  include_is w s ts c stands p =
-      grammar.include stands p.mention.literal p.mention.inherits p.overrides
-      (ap (λ (r : List Lexeme). keyword keywords.Include s ∷ r) (p.parts ∙ ap (λ (r : List Lexeme). r ++ p.second) p.mention.parts
-      ∙ append_assoc p.mention.first p.mention.second p.second))
-      (p.tree ∙ ap (λ (m : Mention). syntax.include m (syntax.components_of p.overriding)) p.mention.standing)
+  overrides_sound ts x e = overrides_step ts x (follow OpenBrace ts) e
 
   component_reads : (w : Setting) (ts us : List Lexeme) (x : Component × List Lexeme) → component_front w ts ≡ Some us → component_with inside w ts ≡ Ok x
       → TakesFront (IsComponent w) ts x
-  unfolding component_with
-  component_reads w [] us x is e = absurd cc
-  component_reads w (identifier n ∷ ts) us x is e = behind (IsComponent w) (identifier n) ts x (mapped_sound IsAssigned (Behind (identifier n) (IsComponent w))
-      (λ (x : Method × Pattern). syntax.define n x.0 x.1) (assigned_with inside) assigned_sound
-      (λ ts a p. grammar.define p.method p.is (ap (λ (r : List Lexeme). identifier n ∷ r) p.parts)) ts x e)
-  component_reads w (keyword keywords.Start s ∷ ts) us x is e = behind (IsComponent w) (keyword keywords.Start s) ts x
-      (mapped_sound IsAssigned (Behind (keyword keywords.Start s) (IsComponent w)) (λ (x : Method × Pattern). syntax.start x.0 x.1) (assigned_with inside)
-      assigned_sound
-      (λ ts a p. grammar.start p.method p.is (ap (λ (r : List Lexeme). keyword keywords.Start s ∷ r) p.parts)) ts x e)
-  component_reads w (keyword keywords.Div s ∷ ts) us x is e = behind (IsComponent w) (keyword keywords.Div s) ts x
+  unfolding component_with assigned_at
+  component_reads w (identifier n ∷ ts) us x is e = assigned_sound w (Some n) (identifier n) (define_is w n) ts x e
+  component_reads w (keyword keywords.Start s ∷ ts) us x is e = assigned_sound w None (keyword keywords.Start s) (start_is w s) ts x e
+  component_reads w (keyword keywords.Div s ∷ ts) us x is e =
+      behind (IsComponent w) (keyword keywords.Div s) ts x
       (mapped_sound (Bracketed (AreComponents w) OpenBrace CloseBrace) (Behind (keyword keywords.Div s) (IsComponent w))
       (λ (cs : List Component). syntax.div (syntax.components_of cs)) (contents_with inside w) (contents_sound w)
       (λ ts a p. grammar.div p.is (ap (λ (r : List Lexeme). keyword keywords.Div s ∷ r) p.parts) refl) ts x e)
   component_reads w (keyword keywords.Include s ∷ ts) us x is e =
-      let p = include_sound s.place ts x e in
-      record {
-        front = keyword keywords.Include s ∷ p.front;
-        is = include_is w s p.front x.0 (include_stands w s ts us is) p.is;
-        parts = ap (λ (r : List Lexeme). keyword keywords.Include s ∷ r) p.parts;
-      }
-  component_reads w (_ ∷ ts) us x is e = absurd cc
+      behind (IsComponent w) (keyword keywords.Include s) ts x
+      (both_sound (IsMention s.place) MayOverride (Behind (keyword keywords.Include s) (IsComponent w)) (λ m cs. syntax.include m (syntax.components_of cs))
+      (mention_at s.place) (overrides_with inside) (mention_sound s.place) overrides_sound
+      (include_is w s (include_stands w s ts us is)) ts x e)
+  component_reads w _ us x is e = absurd cc
 
   pub component_item : (w : Setting) (ts us : List Lexeme) (x : Component × List Lexeme) → component_front w ts ≡ Some us → component_with inside w us ≡ Ok x
       → TakesFront (IsComponent w) ts x

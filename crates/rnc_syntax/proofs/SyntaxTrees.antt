@@ -11,7 +11,9 @@ use Rattle.rnc_syntax.specs.Syntax.{File}
 use Rattle.rnc_syntax.specs.SyntaxView.{file_of}
 use Rattle.rnc_syntax.specs.Sentence.{nesting_limit, NestsWithin, IsStuckAt, BreaksGrammar, IsSyntaxTree, IsFaultOf}
 use Rattle.rnc_syntax.specs.Productions.{file_with, inside_at}
-use Rattle.rnc_syntax.proofs.Exact.{file_sound, file_complete, file_not_deep}
+use Rattle.rnc_syntax.proofs.SoundnessFiles.{file_sound}
+use Rattle.rnc_syntax.proofs.CompletenessFiles.{file_complete}
+use Rattle.rnc_syntax.proofs.Depth.{file_not_deep}
 
 -- ---- tokens that nest within the limit
 

@@ -8,7 +8,7 @@ use Rattle.rnc_syntax.specs.declared.fault.Stop.{Stop}
 use Rattle.rnc_syntax.specs.declared.fault.Stop.TheVariants.{Unexpected}
 use Rattle.rnc_syntax.specs.Lexeme.{Lexeme, sign}
 use Rattle.rnc_syntax.specs.Combinators.{Outcome, ◌>>=◌, unexpected, follow, sign_read, after, either_way, many_with, many}
-use Rattle.rnc_syntax.proofs.ByCases.{in_braces_at}
+use Rattle.rnc_syntax.specs.Productions.{in_braces_at}
 use Rattle.rnc_syntax.proofs.Soundness.{follow_is, after_is, TakesFront, Sound, Closed, Preceded, Each, no_items, and_item, Behind}
 
 -- what stopped: the first step, or the next one

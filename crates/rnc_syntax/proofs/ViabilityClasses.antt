@@ -9,7 +9,7 @@ use Rattle.rnc_syntax.specs.Syntax.{NameClass}
 use Rattle.rnc_syntax.specs.Grammar as grammar
 use Rattle.rnc_syntax.specs.Grammar.{IsClass, IsBasic}
 use Rattle.rnc_syntax.specs.Combinators.{Outcome, ◌>>=◌, follow, either_way, many}
-use Rattle.rnc_syntax.proofs.ByCases.{class_in_parens, basic_with, choice_with, except_front, excepted, class_with}
+use Rattle.rnc_syntax.specs.Productions.{class_in_parens, basic_with, choice_with, except_front, excepted, class_with}
 use Rattle.rnc_syntax.proofs.Soundness.{Sound, Closed, Preceded, Each, preceded_sound, nothing_left, Behind}
 use Rattle.rnc_syntax.proofs.SoundnessClasses.{more_classes_are, except_tokens, except_is}
 use Rattle.rnc_syntax.proofs.Viability.{Begins, Viable, IsViable, Completes, Behinds, exactly, nothing_taken, first_stopped, moved, behind_token, completed}

@@ -11,15 +11,15 @@ use Rattle.rnc_syntax.specs.Syntax.{Pattern, Component}
 use Rattle.rnc_syntax.specs.Grammar as grammar
 use Rattle.rnc_syntax.specs.Grammar.{Setting, override, IsPattern, AreComponents, IsComponent, MayOverride}
 use Rattle.rnc_syntax.specs.Combinators.{Outcome, ◌>>=◌, follow, either_way}
-use Rattle.rnc_syntax.proofs.ByCases.{in_braces_at, mention_at, basic_with, Inside, contents_with, pattern_with, method_at, assigned_with, overrides_with}
-use Rattle.rnc_syntax.proofs.ByCases.{include_with, component_front, component_with, components_with, inside_at}
-use Rattle.rnc_syntax.proofs.Soundness.{Closed, Preceded, Each, Behind, Bracketed, bracketed}
+use Rattle.rnc_syntax.specs.Productions.{mention_at, basic_with, Inside, contents_with, pattern_with, method_at, overrides_with, component_front, assigned_at}
+use Rattle.rnc_syntax.specs.Productions.{assigned, component_with, components_with, inside_at}
+use Rattle.rnc_syntax.proofs.Soundness.{Each, Behind, Bracketed}
 use Rattle.rnc_syntax.proofs.SoundnessLiterals.{IsMention, mention_sound}
 use Rattle.rnc_syntax.proofs.SoundnessClasses.{basic_sound}
-use Rattle.rnc_syntax.proofs.SoundnessPatterns.{InsideSound, IsAssigned, IsMethod, method_sound, IsInclude, include_is, include_stands, component_front_is}
-use Rattle.rnc_syntax.proofs.SoundnessPatterns.{component_item, components_are, inside_sound}
+use Rattle.rnc_syntax.proofs.SoundnessPatterns.{InsideSound, IsMethod, method_sound, assignment_with, assignment_is, include_is, start_is, define_is}
+use Rattle.rnc_syntax.proofs.SoundnessPatterns.{include_stands, component_front_is, component_item, components_are, inside_sound}
 use Rattle.rnc_syntax.proofs.Viability.{Viable, IsViable, Completes, exactly, nothing_taken, behind_token, completed, made_viable, both_viable, left_is}
-use Rattle.rnc_syntax.proofs.Viability.{in_braces_viable, preceded_item, many_viable}
+use Rattle.rnc_syntax.proofs.Viability.{many_viable}
 use Rattle.rnc_syntax.proofs.ViabilityLiterals.{mention_viable}
 use Rattle.rnc_syntax.proofs.ViabilityClasses.{basic_viable, class_viable}
 use Rattle.rnc_syntax.proofs.ViabilityPrimaries.{InsideViable, pattern_some, contents_viable}
@@ -33,10 +33,8 @@ method_viable (sign AndEqual ∷ ts) left e = absurd cc
 method_viable ts left e = nothing_taken IsMethod ts left (left_is ts left e)
     (record { behind = sign Equal ∷ []; value = methods.Plain; is = record { token = sign Equal; method = refl; parts = refl } })
 
-overrides_begin : Completes (Preceded (Closed (AreComponents override) CloseBrace) OpenBrace) MayOverride
-overrides_begin ts cs p =
-    let q = bracketed (AreComponents override) OpenBrace CloseBrace ts cs p in
-    exactly MayOverride ts cs (grammar.with_overrides q.is q.parts)
+overrides_begin : Completes (Bracketed (AreComponents override) OpenBrace CloseBrace) MayOverride
+overrides_begin ts cs p = exactly MayOverride ts cs (grammar.with_overrides p.is p.parts)
 
 -- behind a token, what is made of a value
 module _ {A : Type 0} (P : List Lexeme → A → Type 0) (w : Setting) (t : Lexeme) (f : A → Component) (read : List Lexeme → Outcome A) (viable : IsViable read P)
@@ -47,62 +45,41 @@ module _ {A : Type 0} (P : List Lexeme → A → Type 0) (w : Setting) (t : Lexe
       (made_viable P (Behind t (IsComponent w)) read f viable (λ us a p. exactly (Behind t (IsComponent w)) us (f a) (maps us a p)) ts left e)
 
 module _ (inside : Inside) (sound : InsideSound inside) (viable : InsideViable inside) where
-  assigned_viable : IsViable (assigned_with inside) IsAssigned
-  unfolding assigned_with
-  assigned_viable =
-      both_viable IsMethod IsPattern IsAssigned (λ m t. (m, t)) method_at (pattern_with inside) method_sound method_viable (pattern_viable inside sound viable)
-      pattern_some
-      (λ first second m t p q. record { token = p.token; method = p.method; body = second; is = q; parts = ap (λ (r : List Lexeme). r ++ second) p.parts })
+  -- a method and a pattern, behind what is assigned to
+  assigned_viable : (w : Setting) (o : Option (List ℕ)) (t : Lexeme) → ((first second : List Lexeme) (m : Method) (u : Pattern) → IsMethod first m
+      → IsPattern second u → IsComponent w (t ∷ (first ++ second)) (assigned o m u))
+      → (ts : List Lexeme) (left : ℕ) → assignment_with inside o ts ≡ Err (Unexpected left) → Viable (IsComponent w) (t ∷ ts) left
+  assigned_viable w o t makes ts left e =
+      behind_token (IsComponent w) t ts left
+      (both_viable IsMethod IsPattern (Behind t (IsComponent w)) (assigned o) method_at (pattern_with inside) method_sound method_viable
+      (pattern_viable inside sound viable) pattern_some makes ts left (assignment_is inside o ts ∙ e))
 
-  overrides_step : (ts : List Lexeme) (left : ℕ) (o : Option (List Lexeme)) → follow OpenBrace ts ≡ o → either_way {B = Outcome (List Component)} o
-      (Ok ([], ts)) (in_braces_at (inside.components override)) ≡ Err (Unexpected left) → Viable MayOverride ts left
-  overrides_step ts left None is e = absurd cc
-  overrides_step ts left (Some us) is e =
-      let P = AreComponents override in
-      completed (Preceded (Closed P CloseBrace) OpenBrace) MayOverride ts left overrides_begin
-      (preceded_item (Closed P CloseBrace) OpenBrace (in_braces_at (inside.components override))
-      (in_braces_viable P (inside.components override) (sound.components override) (viable.components override)) ts us left is e)
+  overrides_step : (ts : List Lexeme) (left : ℕ) (o : Option (List Lexeme)) → either_way {B = Outcome (List Component)} o (Ok ([], ts))
+      (λ us. contents_with inside override ts) ≡ Err (Unexpected left) → Viable MayOverride ts left
+  overrides_step ts left None e = absurd cc
+  overrides_step ts left (Some us) e = completed (Bracketed (AreComponents override) OpenBrace CloseBrace) MayOverride ts left overrides_begin
+      (contents_viable inside sound viable override ts left e)
 
   overrides_viable : IsViable (overrides_with inside) MayOverride
   unfolding overrides_with
-  overrides_viable ts left e = overrides_step ts left (follow OpenBrace ts) refl e
-
-  include_viable : (place : ℕ) → IsViable (include_with inside place) (IsInclude place)
-  unfolding include_with
-  include_viable place =
-      both_viable (IsMention place) MayOverride (IsInclude place) (λ m cs. syntax.include m (syntax.components_of cs)) (mention_at place)
-      (overrides_with inside) (mention_sound place) (mention_viable place) overrides_viable
-      (record { behind = []; value = []; is = grammar.without_overrides refl })
-      (λ first second m cs p q. record {
-        first = first;
-        second = second;
-        mentioned = m;
-        overriding = cs;
-        mention = p;
-        overrides = q;
-        tree = refl;
-        parts = refl;
-      })
+  overrides_viable ts left e = overrides_step ts left (follow OpenBrace ts) e
 
   component_viable : (w : Setting) (ts us : List Lexeme) (left : ℕ) → component_front w ts ≡ Some us → component_with inside w ts ≡ Err (Unexpected left)
       → Viable (IsComponent w) ts left
-  unfolding component_with
-  component_viable w [] us left is e = absurd cc
-  component_viable w (identifier n ∷ ts) us left is e =
-      component_behind IsAssigned w (identifier n) (λ (x : Method × Pattern). syntax.define n x.0 x.1) (assigned_with inside) assigned_viable
-      (λ vs a p. grammar.define p.method p.is (ap (λ (r : List Lexeme). identifier n ∷ r) p.parts)) ts left e
-  component_viable w (keyword keywords.Start s ∷ ts) us left is e =
-      component_behind IsAssigned w (keyword keywords.Start s) (λ (x : Method × Pattern). syntax.start x.0 x.1) (assigned_with inside) assigned_viable
-      (λ vs a p. grammar.start p.method p.is (ap (λ (r : List Lexeme). keyword keywords.Start s ∷ r) p.parts)) ts left e
+  unfolding component_with assigned_at
+  component_viable w (identifier n ∷ ts) us left is e = assigned_viable w (Some n) (identifier n) (define_is w n) ts left e
+  component_viable w (keyword keywords.Start s ∷ ts) us left is e = assigned_viable w None (keyword keywords.Start s) (start_is w s) ts left e
   component_viable w (keyword keywords.Div s ∷ ts) us left is e =
       component_behind (Bracketed (AreComponents w) OpenBrace CloseBrace) w (keyword keywords.Div s)
       (λ (cs : List Component). syntax.div (syntax.components_of cs)) (contents_with inside w) (contents_viable inside sound viable w)
       (λ vs a p. grammar.div p.is (ap (λ (r : List Lexeme). keyword keywords.Div s ∷ r) p.parts) refl) ts left e
   component_viable w (keyword keywords.Include s ∷ ts) us left is e =
       let t = keyword keywords.Include s in
-      behind_token (IsComponent w) t ts left (completed (IsInclude s.place) (Behind t (IsComponent w)) ts left
-      (λ vs c p. exactly (Behind t (IsComponent w)) vs c (include_is inside sound w s vs c (include_stands w s ts us is) p)) (include_viable s.place ts left e))
-  component_viable w (_ ∷ ts) us left is e = absurd cc
+      behind_token (IsComponent w) t ts left
+      (both_viable (IsMention s.place) MayOverride (Behind t (IsComponent w)) (λ m cs. syntax.include m (syntax.components_of cs)) (mention_at s.place)
+      (overrides_with inside) (mention_sound s.place) (mention_viable s.place) overrides_viable
+      (record { behind = []; value = []; is = grammar.without_overrides refl }) (include_is w s (include_stands w s ts us is)) ts left e)
+  component_viable w _ us left is e = absurd cc
 
   component_stuck : (w : Setting) (ts us : List Lexeme) (left : ℕ) → component_front w ts ≡ Some us → component_with inside w us ≡ Err (Unexpected left)
       → Viable (IsComponent w) ts left

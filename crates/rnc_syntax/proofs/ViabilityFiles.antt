@@ -11,10 +11,8 @@ use Rattle.rnc_syntax.specs.Grammar as grammar
 use Rattle.rnc_syntax.specs.Grammar.{content, IsLiteral, IsPattern, AreComponents, IsUri, IsDeclaration, IsBody, IsFile}
 use Rattle.rnc_syntax.specs.Sentence.{IsSentence}
 use Rattle.rnc_syntax.specs.Combinators.{Outcome, ◌>>=◌, follow_keyword, after_keyword, many}
-use Rattle.rnc_syntax.specs.Productions as reading
-use Rattle.rnc_syntax.proofs.ByCases.{literal_at, parameter_at, Inside, pattern_with, components_with, inside_at, uri_at, prefix_at, default_at, declaration_at}
-use Rattle.rnc_syntax.proofs.ByCases.{declaration_front, is_grammar_body, body_with, if_ended, file_with}
-use Rattle.rnc_syntax.proofs.SameReading.{file_same}
+use Rattle.rnc_syntax.specs.Productions.{literal_at, parameter_at, Inside, pattern_with, components_with, inside_at, uri_at, prefix_at, default_at}
+use Rattle.rnc_syntax.specs.Productions.{declaration_at, declaration_front, is_grammar_body, body_with, if_ended, declarations_at, file_with}
 use Rattle.rnc_syntax.proofs.Soundness.{chosen, same_namespace, after_keyword_is, TakesFront, Each, many_sound, Behind, IsSetting}
 use Rattle.rnc_syntax.proofs.SoundnessPatterns.{InsideSound, inside_sound}
 use Rattle.rnc_syntax.proofs.SoundnessFiles.{IsDefault, declaration_front_is, declaration_item, declarations_are, body_sound}
@@ -179,7 +177,7 @@ module _ (inside : Inside) (sound : InsideSound inside) (viable : InsideViable i
       ]
 
   file_viable : (ts : List Lexeme) (left : ℕ) → file_with inside ts ≡ Err (Unexpected left) → Viable IsFile ts left
-  unfolding file_with
+  unfolding file_with declarations_at
   file_viable ts left e =
       elim (bind_err (many declaration_front declaration_at ts) _ (Unexpected left) e) [
         | inl h ↦ completed (Each IsDeclaration) IsFile ts left alone (declarations_viable ts left h)
@@ -204,6 +202,6 @@ begins_sentence ts left v =
     (v.front ++ v.begins.behind, same_tokens (length ts - left) v.front v.rest v.begins.behind ts k v.parts, (v.begins.value, v.begins.is))
 
 -- some sentence begins with the tokens before the one where the reading stops
-pub viable : (n : ℕ) (ts : List Lexeme) (left : ℕ) → reading.file_with (reading.inside_at n) ts ≡ Err (Unexpected left) → (us : List Lexeme)
+pub viable : (n : ℕ) (ts : List Lexeme) (left : ℕ) → file_with (inside_at n) ts ≡ Err (Unexpected left) → (us : List Lexeme)
     × (take (length ts - left) us ≡ take (length ts - left) ts) × IsSentence us
-viable n ts left e = begins_sentence ts left (file_viable (inside_at n) (inside_sound n) (inside_viable n) ts left (sym (file_same n ts) ∙ e))
+viable n ts left e = begins_sentence ts left (file_viable (inside_at n) (inside_sound n) (inside_viable n) ts left e)

@@ -7,7 +7,8 @@ use Rattle.rnc_syntax.specs.Lexeme.{Lexeme, Spelling, keyword, identifier, segme
 use Rattle.rnc_syntax.specs.Grammar as grammar
 use Rattle.rnc_syntax.specs.Grammar.{IsLiteral, MayBeParameters, MayInherit}
 use Rattle.rnc_syntax.specs.Combinators.{Outcome, ◌>>=◌, follow, follow_keyword, after, word_at, identifier_at, segment_at, either_way, many}
-use Rattle.rnc_syntax.proofs.ByCases.{joined_text, literal_at, parameter_at, word_front, in_braces_at, parameters_at, word_after_equal, inherit_at, mention_at}
+use Rattle.rnc_syntax.specs.Productions.{literal_at, parameter_at, word_front, in_braces_at, parameters_at, word_after_equal, inherit_at, mention_at}
+use Rattle.rnc_syntax.specs.Syntax.{joined_text}
 use Rattle.rnc_syntax.proofs.Soundness.{same_inherit, keyword_follows, IsWord, word_sound, IsSegment, segment_sound, Closed, Preceded, Each, many_sound}
 use Rattle.rnc_syntax.proofs.Soundness.{preceded_sound, Behind, bracketed, IsSetting}
 use Rattle.rnc_syntax.proofs.SoundnessLiterals.{literal_is, literal_sound, parameters_are, word_front_is, parameter_item, IsMention}

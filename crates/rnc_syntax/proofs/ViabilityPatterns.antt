@@ -11,8 +11,8 @@ use Rattle.rnc_syntax.specs.Syntax.{DatatypeName, Pattern}
 use Rattle.rnc_syntax.specs.Grammar as grammar
 use Rattle.rnc_syntax.specs.Grammar.{type_of, connector_of, MayBeParameters, IsPattern, IsParticle, IsPrimary}
 use Rattle.rnc_syntax.specs.Combinators.{Outcome, ◌>>=◌, follow, either_way, many}
-use Rattle.rnc_syntax.proofs.ByCases.{parameters_at, Inside, primary_with, repeated, particle_with, separator_of, joined, rest_with, pattern_from, data_front}
-use Rattle.rnc_syntax.proofs.ByCases.{data_with, pattern_with}
+use Rattle.rnc_syntax.specs.Productions.{parameters_at, Inside, primary_with, repeated, particle_with, separator_of, joined, rest_with, pattern_from}
+use Rattle.rnc_syntax.specs.Productions.{data_front, data_with, pattern_with}
 use Rattle.rnc_syntax.proofs.Soundness.{follow_is, TakesFront, Preceded, Each, preceded_sound, nothing_left, Behind}
 use Rattle.rnc_syntax.proofs.SoundnessLiterals.{parameters_sound}
 use Rattle.rnc_syntax.proofs.SoundnessPatterns.{InsideSound, data_front_is, separator_is, repeated_reads, more_are, primary_sound, particle_sound}

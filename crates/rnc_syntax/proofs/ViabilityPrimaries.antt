@@ -1,21 +1,21 @@
 -- What was taken where the reading stops can be completed: primaries and particles.
-use Rattle.std.proofs.Common.{◌≡◌, ℕ, List, [], ◌∷◌, ◌++◌, Some, Ok, Err, refl, ap}
-use Rattle.rnc_text.specs.declared.token.Keyword.{Keyword}
+use Rattle.std.proofs.Common.{◌≡◌, ℕ, List, [], ◌∷◌, ◌++◌, Some, Ok, Err, refl, ap, inl, inr}
 use Rattle.rnc_text.specs.declared.token.Keyword.TheVariants as keywords
 use Rattle.rnc_text.specs.declared.token.Sign.TheVariants.{OpenBrace, CloseBrace, OpenParenthesis, CloseParenthesis}
 use Rattle.rnc_syntax.specs.declared.fault.Stop.TheVariants.{Unexpected}
-use Rattle.rnc_syntax.specs.Lexeme.{Lexeme, Spelling, keyword, identifier, cname, segment, sign}
+use Rattle.rnc_syntax.specs.Lexeme.{Lexeme, keyword, identifier, cname, segment, sign}
 use Rattle.rnc_syntax.specs.Syntax as syntax
 use Rattle.rnc_syntax.specs.Syntax.{NameClass, DatatypeName, Pattern, Component}
 use Rattle.rnc_syntax.specs.Grammar as grammar
 use Rattle.rnc_syntax.specs.Grammar.{Setting, content, type_of, IsLiteral, MayBeParameters, IsClass, IsPattern, IsParticle, IsPrimary, IsBraced, AreComponents}
 use Rattle.rnc_syntax.specs.Combinators.{Outcome, ◌>>=◌, identifier_at}
-use Rattle.rnc_syntax.proofs.ByCases.{in_braces_at, literal_at, parameters_at, mention_at, basic_with, class_with, Inside, braced_with, contents_with}
-use Rattle.rnc_syntax.proofs.ByCases.{named_with, typed_at, keyword_with, parens_with, primary_with, repeated, particle_with}
-use Rattle.rnc_syntax.proofs.Soundness.{Closed, Preceded, Behind, Bracketed, bracketed}
+use Rattle.rnc_syntax.specs.Productions.{in_braces_at, literal_at, parameters_at, mention_at, basic_with, class_with, Inside, braced_with, contents_with}
+use Rattle.rnc_syntax.specs.Productions.{named_with, begins_segment, typed_at, other_at, atom_at, parens_with, opened_with, primary_with, repeated}
+use Rattle.rnc_syntax.specs.Productions.{particle_with}
+use Rattle.rnc_syntax.proofs.Soundness.{chosen, Closed, Preceded, Behind, Bracketed, bracketed}
 use Rattle.rnc_syntax.proofs.SoundnessLiterals.{IsMention}
 use Rattle.rnc_syntax.proofs.SoundnessClasses.{basic_sound, class_sound}
-use Rattle.rnc_syntax.proofs.SoundnessPatterns.{InsideSound, IsNamed}
+use Rattle.rnc_syntax.proofs.SoundnessPatterns.{InsideSound}
 use Rattle.rnc_syntax.proofs.Viability.{Begins, Viable, IsViable, Completes, exactly, first_stopped, nothing_taken, behind_token, completed, made_viable}
 use Rattle.rnc_syntax.proofs.Viability.{both_viable, left_is, closes_viable, in_braces_viable, open_viable}
 use Rattle.rnc_syntax.proofs.ViabilityLiterals.{IsIdentifier, identifier_viable, literal_viable, parameters_viable, mention_viable}
@@ -41,17 +41,15 @@ module _ {A : Type 0} (P : List Lexeme → A → Type 0) (t : Lexeme) (f : A →
   primary_behind ts left e = behind_token IsPrimary t ts left
       (made_viable P (Behind t IsPrimary) read f viable (λ us a p. exactly (Behind t IsPrimary) us (f a) (maps us a p)) ts left e)
 
-typed_data : (d : DatatypeName) (t : Lexeme) (ts : List Lexeme) (left : ℕ) → type_of t ≡ Some d
-    → ◌≡◌ {A = Outcome Pattern} (parameters_at ts >>= λ ps. Ok (syntax.data_of d ps.0, ps.1)) (Err (Unexpected left)) → Viable IsPrimary (t ∷ ts) left
-typed_data d t ts left is e = primary_behind MayBeParameters t (syntax.data_of d) parameters_at parameters_viable (λ us ps p. grammar.data_of is p refl) ts left
-    e
-
 typed_viable : (d : DatatypeName) (t : Lexeme) (ts : List Lexeme) (left : ℕ) → type_of t ≡ Some d → typed_at d ts ≡ Err (Unexpected left)
     → Viable IsPrimary (t ∷ ts) left
 unfolding typed_at
-typed_viable d t (segment w ∷ ts) left is e = primary_behind IsLiteral t (syntax.value d) literal_at literal_viable (λ us v p. grammar.value is p refl)
-    (segment w ∷ ts) left e
-typed_viable d t ts left is e = typed_data d t ts left is e
+typed_viable d t ts left is e =
+    elim (chosen {A = Outcome Pattern} (begins_segment ts) (literal_at ts >>= λ v. Ok (syntax.value d v.0, v.1))
+    (parameters_at ts >>= λ ps. Ok (syntax.data_of d ps.0, ps.1)) (Err (Unexpected left)) e) [
+      | inl h ↦ primary_behind IsLiteral t (syntax.value d) literal_at literal_viable (λ us v p. grammar.value is p refl) ts left h.1
+      | inr h ↦ primary_behind MayBeParameters t (syntax.data_of d) parameters_at parameters_viable (λ us ps p. grammar.data_of is p refl) ts left h.1
+    ]
 
 module _ (inside : Inside) (sound : InsideSound inside) (viable : InsideViable inside) where
   braced_begins : Completes (Preceded (Closed IsPattern CloseBrace) OpenBrace) IsBraced
@@ -93,57 +91,50 @@ module _ (inside : Inside) (sound : InsideSound inside) (viable : InsideViable i
       (open_viable (Closed (AreComponents w) CloseBrace) OpenBrace (in_braces_at (inside.components w))
       (in_braces_viable (AreComponents w) (inside.components w) (sound.components w) (viable.components w)) (closed_contents w) ts left e)
 
-  named_viable : IsViable (named_with inside) IsNamed
+  -- a name class and a pattern in braces, behind a token
+  named_viable : (make : NameClass → Pattern → Pattern) (t : Lexeme) → ((first second : List Lexeme) (c : NameClass) (u : Pattern) → IsClass first c
+      → IsBraced second u → IsPrimary (t ∷ (first ++ second)) (make c u))
+      → (ts : List Lexeme) (left : ℕ) → named_with inside make ts ≡ Err (Unexpected left) → Viable IsPrimary (t ∷ ts) left
   unfolding named_with
-  named_viable =
+  named_viable make t makes ts left e =
       let basic = basic_with inside.class in
       let basics = basic_sound inside.class sound.class in
-      both_viable IsClass IsBraced IsNamed (λ c t. (c, t)) (class_with basic) (braced_with inside) (class_sound basic basics)
-      (class_viable basic basics (basic_viable inside.class sound.class viable.class)) braced_viable braced_some
-      (λ first second c t p q. record { first = first; second = second; class = p; body = q; parts = refl })
-
-  keyword_viable : (k : Keyword) (s : Spelling) (ts : List Lexeme) (left : ℕ) → keyword_with inside k s (keyword k s ∷ ts) ts ≡ Err (Unexpected left)
-      → Viable IsPrimary (keyword k s ∷ ts) left
-  unfolding keyword_with
-  keyword_viable keywords.Element s ts left e =
-      let t = keyword keywords.Element s in
-      primary_behind IsNamed t (λ (x : NameClass × Pattern). syntax.element x.0 x.1) (named_with inside) named_viable
-      (λ us a p. grammar.element p.class p.body (ap (λ (r : List Lexeme). t ∷ r) p.parts)) ts left e
-  keyword_viable keywords.Attribute s ts left e =
-      let t = keyword keywords.Attribute s in
-      primary_behind IsNamed t (λ (x : NameClass × Pattern). syntax.attribute x.0 x.1) (named_with inside) named_viable
-      (λ us a p. grammar.attribute p.class p.body (ap (λ (r : List Lexeme). t ∷ r) p.parts)) ts left e
-  keyword_viable keywords.List s ts left e = primary_behind IsBraced (keyword keywords.List s) syntax.list (braced_with inside) braced_viable
-      (λ us a p. grammar.list p refl) ts left e
-  keyword_viable keywords.Mixed s ts left e = primary_behind IsBraced (keyword keywords.Mixed s) syntax.mixed (braced_with inside) braced_viable
-      (λ us a p. grammar.mixed p refl) ts left e
-  keyword_viable keywords.Parent s ts left e =
-      let t = keyword keywords.Parent s in
-      primary_behind IsIdentifier t syntax.parent_ref identifier_at identifier_viable (λ us n p. grammar.parent_ref (ap (λ (r : List Lexeme). t ∷ r) p)) ts left
-      e
-  keyword_viable keywords.Empty s ts left e = absurd cc
-  keyword_viable keywords.Text s ts left e = absurd cc
-  keyword_viable keywords.NotAllowed s ts left e = absurd cc
-  keyword_viable keywords.String s ts left e = typed_viable syntax.string_type (keyword keywords.String s) ts left refl e
-  keyword_viable keywords.Token s ts left e = typed_viable syntax.token_type (keyword keywords.Token s) ts left refl e
-  keyword_viable keywords.External s ts left e =
-      let t = keyword keywords.External s in
-      primary_behind (IsMention s.place) t syntax.external (mention_at s.place) (mention_viable s.place)
-      (λ us m p. grammar.external p.literal p.inherits (ap (λ (r : List Lexeme). t ∷ r) p.parts) (ap syntax.external p.standing)) ts left e
-  keyword_viable keywords.Grammar s ts left e =
-      let t = keyword keywords.Grammar s in
-      primary_behind (Bracketed (AreComponents content) OpenBrace CloseBrace) t (λ (cs : List Component). syntax.grammar (syntax.components_of cs))
-      (contents_with inside content) (contents_viable content)
-      (λ us cs p. grammar.grammar p.is (ap (λ (r : List Lexeme). t ∷ r) p.parts) refl) ts left e
-  keyword_viable k s ts left e = nothing_taken IsPrimary (keyword k s ∷ ts) left (left_is (keyword k s ∷ ts) left e) primary_some
+      behind_token IsPrimary t ts left
+      (both_viable IsClass IsBraced (Behind t IsPrimary) make (class_with basic) (braced_with inside) (class_sound basic basics)
+      (class_viable basic basics (basic_viable inside.class sound.class viable.class)) braced_viable braced_some makes ts left e)
 
   parens_begin : Completes (Closed IsPattern CloseParenthesis) (Behind (sign OpenParenthesis) IsPrimary)
   parens_begin ts t p = exactly (Behind (sign OpenParenthesis) IsPrimary) ts t
       (grammar.in_parens p.is (ap (λ (r : List Lexeme). sign OpenParenthesis ∷ r) p.parts))
 
   pub primary_viable : IsViable (primary_with inside) IsPrimary
-  unfolding primary_with parens_with
-  primary_viable (keyword k s ∷ ts) left e = keyword_viable k s ts left e
+  unfolding primary_with atom_at other_at opened_with parens_with
+  primary_viable (keyword keywords.Element s ∷ ts) left e = named_viable syntax.element (keyword keywords.Element s)
+      (λ first second c u p q. grammar.element p q refl) ts left e
+  primary_viable (keyword keywords.Attribute s ∷ ts) left e = named_viable syntax.attribute (keyword keywords.Attribute s)
+      (λ first second c u p q. grammar.attribute p q refl) ts left e
+  primary_viable (keyword keywords.List s ∷ ts) left e = primary_behind IsBraced (keyword keywords.List s) syntax.list (braced_with inside) braced_viable
+      (λ us a p. grammar.list p refl) ts left e
+  primary_viable (keyword keywords.Mixed s ∷ ts) left e = primary_behind IsBraced (keyword keywords.Mixed s) syntax.mixed (braced_with inside) braced_viable
+      (λ us a p. grammar.mixed p refl) ts left e
+  primary_viable (keyword keywords.Parent s ∷ ts) left e =
+      let t = keyword keywords.Parent s in
+      primary_behind IsIdentifier t syntax.parent_ref identifier_at identifier_viable (λ us n p. grammar.parent_ref (ap (λ (r : List Lexeme). t ∷ r) p)) ts left
+      e
+  primary_viable (keyword keywords.Empty s ∷ ts) left e = absurd cc
+  primary_viable (keyword keywords.Text s ∷ ts) left e = absurd cc
+  primary_viable (keyword keywords.NotAllowed s ∷ ts) left e = absurd cc
+  primary_viable (keyword keywords.String s ∷ ts) left e = typed_viable syntax.string_type (keyword keywords.String s) ts left refl e
+  primary_viable (keyword keywords.Token s ∷ ts) left e = typed_viable syntax.token_type (keyword keywords.Token s) ts left refl e
+  primary_viable (keyword keywords.External s ∷ ts) left e =
+      let t = keyword keywords.External s in
+      primary_behind (IsMention s.place) t syntax.external (mention_at s.place) (mention_viable s.place)
+      (λ us m p. grammar.external p.literal p.inherits (ap (λ (r : List Lexeme). t ∷ r) p.parts) (ap syntax.external p.standing)) ts left e
+  primary_viable (keyword keywords.Grammar s ∷ ts) left e =
+      let t = keyword keywords.Grammar s in
+      primary_behind (Bracketed (AreComponents content) OpenBrace CloseBrace) t (λ (cs : List Component). syntax.grammar (syntax.components_of cs))
+      (contents_with inside content) (contents_viable content)
+      (λ us cs p. grammar.grammar p.is (ap (λ (r : List Lexeme). t ∷ r) p.parts) refl) ts left e
   primary_viable (identifier n ∷ ts) left e = absurd cc
   primary_viable (cname p l ∷ ts) left e = typed_viable (syntax.prefixed_type p l) (cname p l) ts left refl e
   primary_viable (segment w ∷ ts) left e = made_viable IsLiteral IsPrimary literal_at (syntax.value syntax.token_type) literal_viable
