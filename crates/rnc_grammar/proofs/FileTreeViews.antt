@@ -10,10 +10,13 @@ use Rattle.rng_model.specs.Tree.{group, choice, interleave}
 use Rattle.rnc_grammar.specs.declared.file_tree.NameClass.{NameClass, the_lemmas as class_lemmas}
 use Rattle.rnc_grammar.specs.declared.file_tree.NameClass.TheVariants as classes
 
-pub plain_data : (d : DatatypeName) (ps : Vec (String Global × String Global) Global) → files.pattern_of (patterns.Data d ps None) ≡ tree.data_of (files.type_of d) (map (λ p. (string_bytes p.0, string_bytes p.1)) ps.items)
+pub plain_data : (d : DatatypeName) (ps : Vec (String Global × String Global) Global) → files.pattern_of (patterns.Data d ps None) ≡ tree.data_of
+    (files.type_of d) (map (λ p. (string_bytes p.0, string_bytes p.1)) ps.items)
 plain_data d ps = search (rules, the_lemmas)
 
-pub data_except : (d : DatatypeName) (ps : Vec (String Global × String Global) Global) (b : Box Pattern Global) → files.pattern_of (patterns.Data d ps (Some b)) ≡ tree.data_except (files.type_of d) (map (λ p. (string_bytes p.0, string_bytes p.1)) ps.items) (files.pattern_of b.value)
+pub data_except : (d : DatatypeName) (ps : Vec (String Global × String Global) Global) (b : Box Pattern Global)
+    → files.pattern_of (patterns.Data d ps (Some b)) ≡ tree.data_except (files.type_of d) (map (λ p. (string_bytes p.0, string_bytes p.1)) ps.items)
+    (files.pattern_of b.value)
 data_except d ps b = search (rules, the_lemmas)
 
 pub choice_class : (all : Vec NameClass Global) → files.class_of (classes.Choice all) ≡ tree.choice_of (map files.class_of all.items)

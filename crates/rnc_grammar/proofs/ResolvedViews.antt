@@ -1,20 +1,20 @@
 -- Syntax trees and file trees, the kinds with members or parts of their own as they are seen.
 use Rattle.std.proofs.Common.{◌≡◌, ℕ, map, rules, Vec, Global, List, Some, option_map, sym, ap, ◌∙◌, Box}
 use Rattle.rng_model.specs.Tree.{group, choice, interleave}
-use Rattle.rnc_grammar.specs.declared.ast.NameClass.{NameClass}
-use Rattle.rnc_grammar.specs.declared.ast.NameClass.{the_lemmas as class_lemmas}
-use Rattle.rnc_grammar.specs.declared.ast.NameClass.TheVariants as classes
-use Rattle.rnc_grammar.specs.declared.ast.DatatypeName.{DatatypeName}
-use Rattle.rnc_grammar.specs.declared.ast.Parameter.{Parameter}
-use Rattle.rnc_grammar.specs.declared.ast.Pattern.{Pattern}
-use Rattle.rnc_grammar.specs.declared.ast.Pattern.TheVariants as patterns
-use Rattle.rnc_grammar.specs.declared.ast.Component.{the_lemmas}
+use Rattle.rnc_syntax.specs.declared.syntax_tree.NameClass.{NameClass}
+use Rattle.rnc_syntax.specs.declared.syntax_tree.NameClass.{the_lemmas as class_lemmas}
+use Rattle.rnc_syntax.specs.declared.syntax_tree.NameClass.TheVariants as classes
+use Rattle.rnc_syntax.specs.declared.syntax_tree.DatatypeName.{DatatypeName}
+use Rattle.rnc_syntax.specs.declared.syntax_tree.Parameter.{Parameter}
+use Rattle.rnc_syntax.specs.declared.syntax_tree.Pattern.{Pattern}
+use Rattle.rnc_syntax.specs.declared.syntax_tree.Pattern.TheVariants as patterns
+use Rattle.rnc_syntax.specs.declared.syntax_tree.Component.{the_lemmas}
 use Rattle.rnc_grammar.specs.Declarations.{Scope, ◌>>=◌, class_in, pattern_in, type_in}
 use Rattle.rnc_grammar.specs.FileTree as tree
 use Rattle.rnc_grammar.specs.Resolved.{each}
-use Rattle.rnc_grammar.specs.Syntax as written
-use Rattle.rnc_grammar.specs.SyntaxView as syntax
-use Rattle.rnc_grammar.proofs.Each.{choice_in, members_in}
+use Rattle.rnc_syntax.specs.Syntax as written
+use Rattle.rnc_syntax.specs.SyntaxView as syntax
+use Rattle.rnc_grammar.proofs.ResolvedMembers.{choice_in, members_in}
 
 choice_class_view : (all : Vec NameClass Global) → syntax.class_of (classes.Choice all) ≡ written.choice_of (map syntax.class_of all.items)
 choice_class_view all = search (rules, class_lemmas)
@@ -29,33 +29,54 @@ choice_view : (all : Vec Pattern Global) → syntax.pattern_of (patterns.Choice 
 choice_view all = search (rules, the_lemmas)
 
 -- the members, which the code has as a slice
-pub choice_class_in : (s : Scope) (ns : tree.Namespace) (all : Vec NameClass Global) (slice : List NameClass) → slice ≡ all.items → class_in s ns (syntax.class_of (classes.Choice all)) ≡ (each (class_in s ns) (map syntax.class_of slice) >>= λ all. Some (tree.choice_of all))
-choice_class_in s ns all slice e = ap (class_in s ns) (choice_class_view all) ∙ choice_in s ns (map syntax.class_of all.items) ∙ ap (λ xs. each (class_in s ns) (map syntax.class_of xs) >>= λ all. Some (tree.choice_of all)) (sym e)
+pub choice_class_in : (s : Scope) (ns : tree.Namespace) (all : Vec NameClass Global) (slice : List NameClass) → slice ≡ all.items
+    → class_in s ns (syntax.class_of (classes.Choice all)) ≡ (each (class_in s ns) (map syntax.class_of slice) >>= λ all. Some (tree.choice_of all))
+choice_class_in s ns all slice e = ap (class_in s ns) (choice_class_view all) ∙ choice_in s ns (map syntax.class_of all.items)
+    ∙ ap (λ xs. each (class_in s ns) (map syntax.class_of xs) >>= λ all. Some (tree.choice_of all)) (sym e)
 
-pub group_in : (s : Scope) (all : Vec Pattern Global) (slice : List Pattern) → slice ≡ all.items → pattern_in s (syntax.pattern_of (patterns.Group all)) ≡ (each (pattern_in s) (map syntax.pattern_of slice) >>= λ all. Some (tree.members group all))
-group_in s all slice e = ap (pattern_in s) (group_view all) ∙ members_in group s (map syntax.pattern_of all.items) ∙ ap (λ xs. each (pattern_in s) (map syntax.pattern_of xs) >>= λ all. Some (tree.members group all)) (sym e)
+pub group_in : (s : Scope) (all : Vec Pattern Global) (slice : List Pattern) → slice ≡ all.items
+    → pattern_in s (syntax.pattern_of (patterns.Group all)) ≡ (each (pattern_in s) (map syntax.pattern_of slice) >>= λ all. Some (tree.members group all))
+group_in s all slice e = ap (pattern_in s) (group_view all) ∙ members_in group s (map syntax.pattern_of all.items)
+    ∙ ap (λ xs. each (pattern_in s) (map syntax.pattern_of xs) >>= λ all. Some (tree.members group all)) (sym e)
 
-pub interleave_in : (s : Scope) (all : Vec Pattern Global) (slice : List Pattern) → slice ≡ all.items → pattern_in s (syntax.pattern_of (patterns.Interleave all)) ≡ (each (pattern_in s) (map syntax.pattern_of slice) >>= λ all. Some (tree.members interleave all))
-interleave_in s all slice e = ap (pattern_in s) (interleave_view all) ∙ members_in interleave s (map syntax.pattern_of all.items) ∙ ap (λ xs. each (pattern_in s) (map syntax.pattern_of xs) >>= λ all. Some (tree.members interleave all)) (sym e)
+pub interleave_in : (s : Scope) (all : Vec Pattern Global) (slice : List Pattern) → slice ≡ all.items
+    → pattern_in s (syntax.pattern_of (patterns.Interleave all)) ≡ (each (pattern_in s) (map syntax.pattern_of slice)
+    >>= λ all. Some (tree.members interleave all))
+interleave_in s all slice e = ap (pattern_in s) (interleave_view all) ∙ members_in interleave s (map syntax.pattern_of all.items)
+    ∙ ap (λ xs. each (pattern_in s) (map syntax.pattern_of xs) >>= λ all. Some (tree.members interleave all)) (sym e)
 
-pub choice_pattern_in : (s : Scope) (all : Vec Pattern Global) (slice : List Pattern) → slice ≡ all.items → pattern_in s (syntax.pattern_of (patterns.Choice all)) ≡ (each (pattern_in s) (map syntax.pattern_of slice) >>= λ all. Some (tree.members choice all))
-choice_pattern_in s all slice e = ap (pattern_in s) (choice_view all) ∙ members_in choice s (map syntax.pattern_of all.items) ∙ ap (λ xs. each (pattern_in s) (map syntax.pattern_of xs) >>= λ all. Some (tree.members choice all)) (sym e)
+pub choice_pattern_in : (s : Scope) (all : Vec Pattern Global) (slice : List Pattern) → slice ≡ all.items
+    → pattern_in s (syntax.pattern_of (patterns.Choice all)) ≡ (each (pattern_in s) (map syntax.pattern_of slice) >>= λ all. Some (tree.members choice all))
+choice_pattern_in s all slice e = ap (pattern_in s) (choice_view all) ∙ members_in choice s (map syntax.pattern_of all.items)
+    ∙ ap (λ xs. each (pattern_in s) (map syntax.pattern_of xs) >>= λ all. Some (tree.members choice all)) (sym e)
 
-data_view : (d : DatatypeName) (ps : Vec Parameter Global) → syntax.pattern_of (patterns.Data d ps) ≡ written.data_of (syntax.type_of d) (map syntax.parameter_of ps.items)
+data_view : (d : DatatypeName) (ps : Vec Parameter Global) → syntax.pattern_of (patterns.Data d ps) ≡ written.data_of (syntax.type_of d)
+    (map syntax.parameter_of ps.items)
 data_view d ps = search (rules, the_lemmas)
 
-data_except_view : (d : DatatypeName) (ps : Vec Parameter Global) (b : Box Pattern Global) → syntax.pattern_of (patterns.DataExcept d ps b) ≡ written.data_except (syntax.type_of d) (map syntax.parameter_of ps.items) (syntax.pattern_of b.value)
+data_except_view : (d : DatatypeName) (ps : Vec Parameter Global) (b : Box Pattern Global)
+    → syntax.pattern_of (patterns.DataExcept d ps b) ≡ written.data_except (syntax.type_of d) (map syntax.parameter_of ps.items) (syntax.pattern_of b.value)
 data_except_view d ps b = search (rules, the_lemmas)
 
-plain_in : (s : Scope) (d : written.DatatypeName) (ps values : List (List ℕ × List ℕ)) (u : tree.DatatypeName) → type_in s d ≡ Some u → Some ps ≡ Some values → pattern_in s (written.data_of d ps) ≡ Some (tree.data_of u values)
+plain_in : (s : Scope) (d : written.DatatypeName) (ps values : List (List ℕ × List ℕ)) (u : tree.DatatypeName) → type_in s d ≡ Some u → Some ps ≡ Some values
+    → pattern_in s (written.data_of d ps) ≡ Some (tree.data_of u values)
 plain_in s d ps values u type same = rw type (ap (option_map (tree.data_of u)) same)
 
-except_in : (s : Scope) (d : written.DatatypeName) (ps values : List (List ℕ × List ℕ)) (p : written.Pattern) (u : tree.DatatypeName) (q : tree.Pattern) → type_in s d ≡ Some u → Some ps ≡ Some values → pattern_in s p ≡ Some q → pattern_in s (written.data_except d ps p) ≡ Some (tree.data_except u values q)
+except_in : (s : Scope) (d : written.DatatypeName) (ps values : List (List ℕ × List ℕ)) (p : written.Pattern) (u : tree.DatatypeName) (q : tree.Pattern)
+    → type_in s d ≡ Some u → Some ps ≡ Some values → pattern_in s p ≡ Some q → pattern_in s (written.data_except d ps p) ≡ Some (tree.data_except u values q)
 except_in s d ps values p u q type same except = rw (type, except) (ap (option_map (λ ps. tree.data_except u ps q)) same)
 
 -- a datatype, whose parameters the code has as a slice
-pub data_in : (s : Scope) (d : DatatypeName) (ps : Vec Parameter Global) (slice : List Parameter) (u : tree.DatatypeName) (values : List (List ℕ × List ℕ)) → slice ≡ ps.items → type_in s (syntax.type_of d) ≡ Some u → Some (map syntax.parameter_of slice) ≡ Some values → pattern_in s (syntax.pattern_of (patterns.Data d ps)) ≡ Some (tree.data_of u values)
-data_in s d ps slice u values e type same = ap (pattern_in s) (data_view d ps) ∙ plain_in s (syntax.type_of d) _ values u type (ap (λ xs. Some (map syntax.parameter_of xs)) (sym e) ∙ same)
+pub data_in : (s : Scope) (d : DatatypeName) (ps : Vec Parameter Global) (slice : List Parameter) (u : tree.DatatypeName) (values : List (List ℕ × List ℕ))
+    → slice ≡ ps.items → type_in s (syntax.type_of d) ≡ Some u → Some (map syntax.parameter_of slice) ≡ Some values
+    → pattern_in s (syntax.pattern_of (patterns.Data d ps)) ≡ Some (tree.data_of u values)
+data_in s d ps slice u values e type same = ap (pattern_in s) (data_view d ps) ∙ plain_in s (syntax.type_of d) _ values u type
+    (ap (λ xs. Some (map syntax.parameter_of xs)) (sym e) ∙ same)
 
-pub data_except_in : (s : Scope) (d : DatatypeName) (ps : Vec Parameter Global) (b : Box Pattern Global) (slice : List Parameter) (inner : Pattern) (u : tree.DatatypeName) (values : List (List ℕ × List ℕ)) (q : tree.Pattern) → slice ≡ ps.items → inner ≡ b.value → type_in s (syntax.type_of d) ≡ Some u → Some (map syntax.parameter_of slice) ≡ Some values → pattern_in s (syntax.pattern_of inner) ≡ Some q → pattern_in s (syntax.pattern_of (patterns.DataExcept d ps b)) ≡ Some (tree.data_except u values q)
-data_except_in s d ps b slice inner u values q e body type same except = ap (pattern_in s) (data_except_view d ps b) ∙ except_in s (syntax.type_of d) _ values (syntax.pattern_of b.value) u q type (ap (λ xs. Some (map syntax.parameter_of xs)) (sym e) ∙ same) (ap (λ p. pattern_in s (syntax.pattern_of p)) (sym body) ∙ except)
+pub data_except_in : (s : Scope) (d : DatatypeName) (ps : Vec Parameter Global) (b : Box Pattern Global) (slice : List Parameter) (inner : Pattern)
+    (u : tree.DatatypeName) (values : List (List ℕ × List ℕ)) (q : tree.Pattern) → slice ≡ ps.items → inner ≡ b.value → type_in s (syntax.type_of d) ≡ Some u
+    → Some (map syntax.parameter_of slice) ≡ Some values → pattern_in s (syntax.pattern_of inner) ≡ Some q
+    → pattern_in s (syntax.pattern_of (patterns.DataExcept d ps b)) ≡ Some (tree.data_except u values q)
+data_except_in s d ps b slice inner u values q e body type same except = ap (pattern_in s) (data_except_view d ps b) ∙ except_in s (syntax.type_of d) _ values
+    (syntax.pattern_of b.value) u q type (ap (λ xs. Some (map syntax.parameter_of xs)) (sym e) ∙ same) (ap (λ p. pattern_in s (syntax.pattern_of p)) (sym body)
+    ∙ except)

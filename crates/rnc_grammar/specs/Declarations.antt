@@ -2,7 +2,7 @@
 -- (RELAX NG Compact Syntax, "Declarations"). Another prefix than `xml`, or the default, may be declared as the uri of `xml`.
 use Rattle.std.specs.Prelude.{ℕ, List, [], ◌∷◌, Option, Some, None, Bool, true, false, is_none, if◌then◌else◌, codes}
 use Rattle.std.specs.Str.{bytes_eq}
-use Rattle.rnc_grammar.specs.Syntax as syntax
+use Rattle.rnc_syntax.specs.Syntax as syntax
 use Rattle.rnc_grammar.specs.FileTree as tree
 use Rattle.rnc_grammar.specs.FileTree.{Namespace, inherited, given, FileTree}
 

@@ -1,12 +1,7 @@
 pub mod FileTree
 pub mod View
-pub mod Lexeme
-pub mod Syntax
-pub mod Grammar
 pub mod Declarations
-pub mod Sentence
-pub mod Reads
-pub mod Reading
-pub mod SyntaxView
+pub mod Parsing
+pub mod Fault
 pub mod Resolved
-pub mod Parsed
+pub use Rattle.rnc_syntax.specs.Lexeme

@@ -14,10 +14,10 @@ use Rattle.rnc_grammar.specs.FileTree.{Namespace, given}
 use Rattle.rnc_grammar.specs.View.{namespace_of}
 
 -- what a call returned, seen by the view, is what the definition answers, unless memory ran out
-abbrev pub Gives : {X Y : Type 0} → (X → Y) → Result X ScopeFault → Option Y → Type 0
-Gives view (Ok x) found = found ≡ Some (view x)
-Gives view (Err Broken) found = found ≡ None
-Gives view (Err Memory) found = Unit {0}
+abbrev pub Resolves : {X Y : Type 0} → (X → Y) → Result X ScopeFault → Option Y → Type 0
+Resolves view (Ok x) found = found ≡ Some (view x)
+Resolves view (Err Broken) found = found ≡ None
+Resolves view (Err Memory) found = Unit {0}
 
 -- what a table has under each text, seen by the view
 abbrev pub table_view : {X Y Z : Type 0} → (X → Y) → HashMap (Bor (List ℕ)) X Z → List ℕ → Option Y
@@ -25,7 +25,11 @@ table_view view table text = option_map view (get_by (λ k. bytes_eq text k.now)
 
 -- what is declared, apart from where it lies in memory
 abbrev pub scope_view : Scope → declarations.Scope
-scope_view s = record { default = option_map namespace_of s.default; namespaces = table_view namespace_of s.namespaces; datatypes = table_view string_bytes s.datatypes }
+scope_view s = record {
+  default = option_map namespace_of s.default;
+  namespaces = table_view namespace_of s.namespaces;
+  datatypes = table_view string_bytes s.datatypes;
+}
 
 -- the namespace of names without a prefix: the default one in an element's class, and none in an attribute's
 abbrev pub namespace_at : declarations.Scope → Unprefixed → Namespace

@@ -1,8 +1,8 @@
 // Why tokens have no file tree.
 ghost use Rattle.std.specs.Prelude.{◌≡◌};
-ghost use Rattle.rnc_grammar.specs.declared.fault.ReadFault.TheVariants as read_faults;
+ghost use Rattle.rnc_grammar.specs.Fault.{fault_of};
 
-use std::alloc::{AllocError, AllocFailed};
+use rnc_syntax::SyntaxFault;
 
 /// Why tokens have no file tree.
 ///
@@ -17,33 +17,14 @@ pub enum ParseFault {
     Memory,
 }
 
-/// What stops the reading of tokens: a token that no production allows where it stands, counted with those after it,
-/// or the end of the tokens, which counts 0; or too many open brackets.
-#[derive(Clone, Copy)]
-pub enum Stop {
-    Unexpected(usize),
-    TooDeep,
-}
+impl From<SyntaxFault> for ParseFault {
+    ghost from_gives = { λ e f. f ≡ fault_of e };
 
-/// Why nothing was read.
-#[derive(Clone, Copy)]
-pub enum ReadFault {
-    Stop(Stop),
-    Memory,
-}
-
-impl From<AllocError> for ReadFault {
-    ghost from_gives = { λ _ e. e ≡ read_faults.Memory };
-
-    fn from(_e: AllocError) -> ReadFault {
-        ReadFault::Memory
-    }
-}
-
-impl<T: Drop> From<AllocFailed<T>> for ReadFault {
-    ghost from_gives = { λ _ e. e ≡ read_faults.Memory };
-
-    fn from(_e: AllocFailed<T>) -> ReadFault {
-        ReadFault::Memory
+    fn from(fault: SyntaxFault) -> ParseFault {
+        match fault {
+            SyntaxFault::TooDeep => ParseFault::Clause(7),
+            SyntaxFault::Unexpected { place } => ParseFault::At { clause: 6, place },
+            SyntaxFault::Memory => ParseFault::Memory,
+        }
     }
 }

@@ -3,6 +3,8 @@ ghost use Rattle.std.specs.Prelude.{◌≡◌, map, option_map};
 ghost use Rattle.rnc_grammar.specs.FileTree.{components_of, grammar_of, is_grammar as is_grammar_tree};
 ghost use Rattle.rnc_grammar.specs.View.{component_of, file_of};
 
+use rnc_syntax::Method;
+
 /// The namespace of a name: a given one, empty where the name has none, or the one that the file inherits from the file
 /// that mentions it.
 ///
@@ -58,19 +60,6 @@ pub struct Mention {
     pub href: String,
     pub namespace: Namespace,
     pub token: usize,
-}
-
-/// How a component is joined with others of its name.
-///
-/// RELAX NG Compact Syntax, "Syntax" (`assignMethod`).
-#[derive(Clone, Copy, Debug, PartialEq, Eq)]
-pub enum Method {
-    /// `=`
-    Plain,
-    /// `|=`
-    Choice,
-    /// `&=`
-    Interleave,
 }
 
 /// A pattern.

@@ -1,22 +1,20 @@
-//! From the tokens of a schema file to its tree.
+//! From the tokens of a schema file to its tree, with its declarations applied.
+//!
+//! `parse` answers the tree exactly where the tokens are a sentence of the grammar of the compact syntax, nest within 128
+//! brackets, and declare and use their prefixes by the rules; such tokens have one tree. Of other tokens it names the
+//! clause that they break, 7 before 6 before 8, and of 6 the place. `FileTree::grammar` tells which files are grammars, and
+//! only want of memory keeps an answer back.
 #![tactic(auto)]
 
-mod ast;
-mod atoms;
 mod fault;
 mod file_tree;
-mod files;
-mod literals;
-mod names;
-mod nesting;
 mod parsing;
-mod patterns;
-mod reading;
 mod resolving;
 mod scope;
 
 pub use fault::ParseFault;
 pub use file_tree::{
-    Component, DatatypeName, ExpandedName, FileTree, Mention, Method, NameClass, Namespace, Pattern,
+    Component, DatatypeName, ExpandedName, FileTree, Mention, NameClass, Namespace, Pattern,
 };
 pub use parsing::parse;
+pub use rnc_syntax::Method;

@@ -1,60 +1,38 @@
 // From the tokens of a schema file to its tree.
-ghost use Rattle.std.specs.Prelude.{◌≡◌, ℕ, Err, IfErr, IfOk, Ok, length};
+ghost use Rattle.std.specs.Prelude.{◌≡◌, ℕ, Err, IfErr, IfOk, Ok};
+ghost use Rattle.rnc_grammar.specs.Declarations as declarations;
+ghost use Rattle.rnc_grammar.specs.Fault.{tree_or_fault};
 ghost use Rattle.rnc_grammar.specs.FileTree as tree;
-ghost use Rattle.rnc_grammar.specs.Lexeme.{lexemes};
-ghost use Rattle.rnc_grammar.specs.Parsed.{answer_of, fault_at};
-ghost use Rattle.rnc_grammar.specs.Reading.{file_with, inside_at};
-ghost use Rattle.rnc_grammar.specs.Sentence.{
+ghost use Rattle.rnc_grammar.specs.Parsing.{
   BreaksDeclarations,
   BreaksGrammar,
   BreaksNesting,
   Gives,
   IsFaultOf,
   IsFileTree,
-  nesting_limit,
+  unless_memory,
 };
 ghost use Rattle.rnc_grammar.specs.View.{file_of};
 ghost use Rattle.rnc_grammar.specs.declared.fault.ParseFault.TheVariants as faults;
+ghost use Rattle.rnc_syntax.specs.Lexeme.{lexemes};
+ghost use Rattle.rnc_syntax.specs.SyntaxView as syntax;
 
-use crate::fault::{ParseFault, ReadFault, Stop};
+use crate::fault::ParseFault;
 use crate::file_tree::FileTree;
-use crate::nesting::{NESTING_LIMIT, nests_within_limit};
-use crate::reading::Reader;
 use crate::resolving::file_tree;
 use crate::scope::ScopeFault;
+use rnc_syntax::{File, read_syntax};
 use rnc_text::Token;
 use std::alloc::Global;
 
-/// The fault of the file that has these tokens, where its reading stopped so.
-#[tactic(auto, using(crate::proofs::Lengths::length_of_lexemes))]
-fn fault_of(tokens: &[Token<'_>], stop: Stop) -> ParseFault
-    ensures { result ≡ fault_at (length (lexemes tokens.now)) stop }
+/// The tree of the file with this syntax tree, or the fault where its declarations or prefixes break a rule.
+fn resolved(alloc: Global, file: &File<'_>) -> Result<FileTree, ParseFault>
+    ensures { Gives unless_memory file_of result (tree_or_fault (declarations.file_tree (syntax.file_of file.now))) }
 {
-    match stop {
-        Stop::TooDeep => ParseFault::Clause(7),
-        Stop::Unexpected(left) => ParseFault::At {
-            clause: 6,
-            place: tokens.len().saturating_sub(left) as u64 + 1,
-        },
-    }
-}
-
-/// The tree of the file that has these tokens, or the fault where its reading stops or its declarations break a rule.
-fn read(alloc: Global, tokens: &[Token<'_>]) -> Result<FileTree, ParseFault>
-    ensures { Gives result (answer_of (length (lexemes tokens.now)) (file_with (inside_at nesting_limit) (lexemes tokens.now))) }
-{
-    let reader = Reader {
-        alloc,
-        count: tokens.len(),
-    };
-    match reader.file(NESTING_LIMIT, tokens) {
-        Err(ReadFault::Memory) => Err(ParseFault::Memory),
-        Err(ReadFault::Stop(stop)) => Err(fault_of(tokens, stop)),
-        Ok(file) => match file_tree(alloc, &file) {
-            Ok(tree) => Ok(tree),
-            Err(ScopeFault::Memory) => Err(ParseFault::Memory),
-            Err(ScopeFault::Broken) => Err(ParseFault::Clause(8)),
-        },
+    match file_tree(alloc, file) {
+        Ok(tree) => Ok(tree),
+        Err(ScopeFault::Memory) => Err(ParseFault::Memory),
+        Err(ScopeFault::Broken) => Err(ParseFault::Clause(8)),
     }
 }
 
@@ -77,19 +55,15 @@ fn read(alloc: Global, tokens: &[Token<'_>]) -> Result<FileTree, ParseFault>
 /// takes n steps. Recurses as deep as the brackets nest.
 ///
 /// RELAX NG Compact Syntax, "Syntax".
-#[tactic(auto, using(crate::proofs::Parsed::one_tree))]
 pub fn parse(alloc: Global, tokens: &[Token<'_>]) -> Result<FileTree, ParseFault>
     ensures tree { IfOk result (λ t. IsFileTree (lexemes tokens.now) (file_of t)) }
     ensures fault { IfErr result (IsFaultOf (lexemes tokens.now)) }
-    ensures only { (t : tree.FileTree) → IsFileTree (lexemes tokens.now) t → Gives result (Ok t) }
-    ensures nesting { BreaksNesting (lexemes tokens.now) → Gives result (Err (faults.Clause 7)) }
-    ensures grammar { BreaksGrammar (lexemes tokens.now) → (place : ℕ) × Gives result (Err (faults.At 6 place)) }
-    ensures declarations { BreaksDeclarations (lexemes tokens.now) → Gives result (Err (faults.Clause 8)) }
+    ensures only { (t : tree.FileTree) → IsFileTree (lexemes tokens.now) t → Gives unless_memory file_of result (Ok t) }
+    ensures nesting { BreaksNesting (lexemes tokens.now) → Gives unless_memory file_of result (Err (faults.Clause 7)) }
+    ensures grammar { BreaksGrammar (lexemes tokens.now) → (place : ℕ) × Gives unless_memory file_of result (Err (faults.At 6 place)) }
+    ensures declarations { BreaksDeclarations (lexemes tokens.now) → Gives unless_memory file_of result (Err (faults.Clause 8)) }
     ensures one { (t u : tree.FileTree) → IsFileTree (lexemes tokens.now) t → IsFileTree (lexemes tokens.now) u → t ≡ u }
 {
-    if nests_within_limit(tokens) {
-        read(alloc, tokens)
-    } else {
-        Err(ParseFault::Clause(7))
-    }
+    let file = read_syntax(alloc, tokens)?;
+    resolved(alloc, &file)
 }

@@ -2,12 +2,11 @@
 ghost use Rattle.std.specs.Prelude.{map, [], Some, string_bytes};
 ghost use Rattle.rnc_grammar.specs.Declarations as rules;
 ghost use Rattle.rnc_grammar.specs.FileTree.{components_of};
-ghost use Rattle.rnc_grammar.specs.Resolved.{Gives, each, namespace_at, scope_view};
-ghost use Rattle.rnc_grammar.specs.Syntax as written;
-ghost use Rattle.rnc_grammar.specs.SyntaxView as syntax;
+ghost use Rattle.rnc_grammar.specs.Resolved.{Resolves, each, namespace_at, scope_view};
+ghost use Rattle.rnc_syntax.specs.Syntax as written;
+ghost use Rattle.rnc_syntax.specs.SyntaxView as syntax;
 ghost use Rattle.rnc_grammar.specs.View as tree;
 
-use crate::ast;
 use crate::file_tree::{
     Component, DatatypeName, ExpandedName, FileTree, Mention, NameClass, Namespace, Pattern,
 };
@@ -30,7 +29,7 @@ struct Resolver<'s, 'a> {
 
 impl<'s, 'a> Resolver<'s, 'a> {
     fn unprefixed(self, place: Unprefixed) -> Result<Namespace, ScopeFault>
-        ensures { Gives tree.namespace_of result (Some (namespace_at (scope_view self.entry.scope.now) place)) }
+        ensures { Resolves tree.namespace_of result (Some (namespace_at (scope_view self.entry.scope.now) place)) }
     {
         match place {
             Unprefixed::Default => self.scope.default_namespace(self.alloc),
@@ -41,9 +40,9 @@ impl<'s, 'a> Resolver<'s, 'a> {
     fn name(
         self,
         place: Unprefixed,
-        name: &ast::QualifiedName<'a>,
+        name: &rnc_syntax::QualifiedName<'a>,
     ) -> Result<ExpandedName, ScopeFault>
-        ensures { Gives tree.name_of result (rules.name_in (scope_view self.entry.scope.now) (namespace_at (scope_view self.entry.scope.now) place) (syntax.name_of name.now)) }
+        ensures { Resolves tree.name_of result (rules.name_in (scope_view self.entry.scope.now) (namespace_at (scope_view self.entry.scope.now) place) (syntax.name_of name.now)) }
     {
         let namespace = match name.prefix {
             None => self.unprefixed(place)?,
@@ -54,25 +53,29 @@ impl<'s, 'a> Resolver<'s, 'a> {
     }
 
     #[cycle(resolved_classes)]
-    fn class(self, place: Unprefixed, class: &ast::NameClass<'a>) -> Result<NameClass, ScopeFault>
-        ensures { Gives tree.class_of result (rules.class_in (scope_view self.entry.scope.now) (namespace_at (scope_view self.entry.scope.now) place) (syntax.class_of class.now)) }
+    fn class(
+        self,
+        place: Unprefixed,
+        class: &rnc_syntax::NameClass<'a>,
+    ) -> Result<NameClass, ScopeFault>
+        ensures { Resolves tree.class_of result (rules.class_in (scope_view self.entry.scope.now) (namespace_at (scope_view self.entry.scope.now) place) (syntax.class_of class.now)) }
     {
         match class {
-            ast::NameClass::Any => Ok(NameClass::Any),
-            ast::NameClass::AnyExcept(except) => {
+            rnc_syntax::NameClass::Any => Ok(NameClass::Any),
+            rnc_syntax::NameClass::AnyExcept(except) => {
                 let except = self.class(place, except)?;
                 Ok(NameClass::AnyExcept(Box::new(self.alloc, except)?))
             }
-            ast::NameClass::Ns(prefix) => {
+            rnc_syntax::NameClass::Ns(prefix) => {
                 Ok(NameClass::Ns(self.scope.namespace(self.alloc, prefix)?))
             }
-            ast::NameClass::NsExcept(prefix, except) => {
+            rnc_syntax::NameClass::NsExcept(prefix, except) => {
                 let namespace = self.scope.namespace(self.alloc, prefix)?;
                 let except = self.class(place, except)?;
                 Ok(NameClass::NsExcept(namespace, Box::new(self.alloc, except)?))
             }
-            ast::NameClass::Name(name) => Ok(NameClass::Name(self.name(place, name)?)),
-            ast::NameClass::Choice(all) => Ok(NameClass::Choice(self.classes(place, all)?)),
+            rnc_syntax::NameClass::Name(name) => Ok(NameClass::Name(self.name(place, name)?)),
+            rnc_syntax::NameClass::Choice(all) => Ok(NameClass::Choice(self.classes(place, all)?)),
         }
     }
 
@@ -80,9 +83,9 @@ impl<'s, 'a> Resolver<'s, 'a> {
     fn classes(
         self,
         place: Unprefixed,
-        all: &[ast::NameClass<'a>],
+        all: &[rnc_syntax::NameClass<'a>],
     ) -> Result<Vec<NameClass>, ScopeFault>
-        ensures { Gives (λ classes. map tree.class_of classes.items) result (each (rules.class_in (scope_view self.entry.scope.now) (namespace_at (scope_view self.entry.scope.now) place)) (map syntax.class_of all.now)) }
+        ensures { Resolves (λ classes. map tree.class_of classes.items) result (each (rules.class_in (scope_view self.entry.scope.now) (namespace_at (scope_view self.entry.scope.now) place)) (map syntax.class_of all.now)) }
     {
         let mut classes = Vec::new(self.alloc);
         for class in all {
@@ -91,13 +94,13 @@ impl<'s, 'a> Resolver<'s, 'a> {
         Ok(classes)
     }
 
-    fn type_name(self, type_name: &ast::DatatypeName<'a>) -> Result<DatatypeName, ScopeFault>
-        ensures { Gives tree.type_of result (rules.type_in (scope_view self.entry.scope.now) (syntax.type_of type_name.now)) }
+    fn type_name(self, type_name: &rnc_syntax::DatatypeName<'a>) -> Result<DatatypeName, ScopeFault>
+        ensures { Resolves tree.type_of result (rules.type_in (scope_view self.entry.scope.now) (syntax.type_of type_name.now)) }
     {
         match type_name {
-            ast::DatatypeName::String => self.built_in("string"),
-            ast::DatatypeName::Token => self.built_in("token"),
-            ast::DatatypeName::Prefixed { prefix, local } => {
+            rnc_syntax::DatatypeName::String => self.built_in("string"),
+            rnc_syntax::DatatypeName::Token => self.built_in("token"),
+            rnc_syntax::DatatypeName::Prefixed { prefix, local } => {
                 let library = self.scope.library(self.alloc, prefix)?;
                 let name = String::from_str(self.alloc, local)?;
                 Ok(DatatypeName { library, name })
@@ -106,7 +109,7 @@ impl<'s, 'a> Resolver<'s, 'a> {
     }
 
     fn built_in(self, name: &str) -> Result<DatatypeName, ScopeFault>
-        ensures { Gives tree.type_of result (Some (record { library = []; name = name.now })) }
+        ensures { Resolves tree.type_of result (Some (record { library = []; name = name.now })) }
     {
         let name = String::from_str(self.alloc, name)?;
         Ok(DatatypeName {
@@ -115,8 +118,11 @@ impl<'s, 'a> Resolver<'s, 'a> {
         })
     }
 
-    fn parameters(self, all: &[ast::Parameter<'a>]) -> Result<Vec<(String, String)>, ScopeFault>
-        ensures { Gives (λ parameters. map (λ p. (string_bytes p.0, string_bytes p.1)) parameters.items) result (Some (map syntax.parameter_of all.now)) }
+    fn parameters(
+        self,
+        all: &[rnc_syntax::Parameter<'a>],
+    ) -> Result<Vec<(String, String)>, ScopeFault>
+        ensures { Resolves (λ parameters. map (λ p. (string_bytes p.0, string_bytes p.1)) parameters.items) result (Some (map syntax.parameter_of all.now)) }
     {
         let mut parameters = Vec::new(self.alloc);
         for parameter in all {
@@ -127,8 +133,8 @@ impl<'s, 'a> Resolver<'s, 'a> {
         Ok(parameters)
     }
 
-    fn mention(self, mention: &ast::Mention<'a>) -> Result<Mention, ScopeFault>
-        ensures { Gives tree.mention_of result (rules.mention_in (scope_view self.entry.scope.now) (syntax.mention_of mention.now)) }
+    fn mention(self, mention: &rnc_syntax::Mention<'a>) -> Result<Mention, ScopeFault>
+        ensures { Resolves tree.mention_of result (rules.mention_in (scope_view self.entry.scope.now) (syntax.mention_of mention.now)) }
     {
         let namespace = match mention.inherit {
             None => self.scope.default_namespace(self.alloc)?,
@@ -143,44 +149,44 @@ impl<'s, 'a> Resolver<'s, 'a> {
     }
 
     #[cycle(resolved)]
-    fn child(self, pattern: &ast::Pattern<'a>) -> Result<Box<Pattern>, ScopeFault>
-        ensures { Gives (λ child. tree.pattern_of child.value) result (rules.pattern_in (scope_view self.entry.scope.now) (syntax.pattern_of pattern.now)) }
+    fn child(self, pattern: &rnc_syntax::Pattern<'a>) -> Result<Box<Pattern>, ScopeFault>
+        ensures { Resolves (λ child. tree.pattern_of child.value) result (rules.pattern_in (scope_view self.entry.scope.now) (syntax.pattern_of pattern.now)) }
     {
         let pattern = self.pattern(pattern)?;
         Ok(Box::new(self.alloc, pattern)?)
     }
 
     #[cycle(resolved)]
-    fn pattern(self, pattern: &ast::Pattern<'a>) -> Result<Pattern, ScopeFault>
-        ensures { Gives tree.pattern_of result (rules.pattern_in (scope_view self.entry.scope.now) (syntax.pattern_of pattern.now)) }
+    fn pattern(self, pattern: &rnc_syntax::Pattern<'a>) -> Result<Pattern, ScopeFault>
+        ensures { Resolves tree.pattern_of result (rules.pattern_in (scope_view self.entry.scope.now) (syntax.pattern_of pattern.now)) }
     {
         match pattern {
-            ast::Pattern::Element(class, body) => {
+            rnc_syntax::Pattern::Element(class, body) => {
                 let class = self.class(Unprefixed::Default, class)?;
                 Ok(Pattern::Element(class, self.child(body)?))
             }
-            ast::Pattern::Attribute(class, body) => {
+            rnc_syntax::Pattern::Attribute(class, body) => {
                 let class = self.class(Unprefixed::None, class)?;
                 Ok(Pattern::Attribute(class, self.child(body)?))
             }
-            ast::Pattern::List(body) => Ok(Pattern::List(self.child(body)?)),
-            ast::Pattern::Mixed(body) => Ok(Pattern::Mixed(self.child(body)?)),
-            ast::Pattern::Optional(body) => Ok(Pattern::Optional(self.child(body)?)),
-            ast::Pattern::ZeroOrMore(body) => Ok(Pattern::ZeroOrMore(self.child(body)?)),
-            ast::Pattern::OneOrMore(body) => Ok(Pattern::OneOrMore(self.child(body)?)),
-            ast::Pattern::Ref(name) => Ok(Pattern::Ref(String::from_str(self.alloc, name)?)),
-            ast::Pattern::ParentRef(name) => {
+            rnc_syntax::Pattern::List(body) => Ok(Pattern::List(self.child(body)?)),
+            rnc_syntax::Pattern::Mixed(body) => Ok(Pattern::Mixed(self.child(body)?)),
+            rnc_syntax::Pattern::Optional(body) => Ok(Pattern::Optional(self.child(body)?)),
+            rnc_syntax::Pattern::ZeroOrMore(body) => Ok(Pattern::ZeroOrMore(self.child(body)?)),
+            rnc_syntax::Pattern::OneOrMore(body) => Ok(Pattern::OneOrMore(self.child(body)?)),
+            rnc_syntax::Pattern::Ref(name) => Ok(Pattern::Ref(String::from_str(self.alloc, name)?)),
+            rnc_syntax::Pattern::ParentRef(name) => {
                 Ok(Pattern::ParentRef(String::from_str(self.alloc, name)?))
             }
-            ast::Pattern::Empty => Ok(Pattern::Empty),
-            ast::Pattern::Text => Ok(Pattern::Text),
-            ast::Pattern::NotAllowed => Ok(Pattern::NotAllowed),
-            ast::Pattern::Value(type_name, text) => {
+            rnc_syntax::Pattern::Empty => Ok(Pattern::Empty),
+            rnc_syntax::Pattern::Text => Ok(Pattern::Text),
+            rnc_syntax::Pattern::NotAllowed => Ok(Pattern::NotAllowed),
+            rnc_syntax::Pattern::Value(type_name, text) => {
                 let type_name = self.type_name(type_name)?;
                 let text = literal_text(self.alloc, text)?;
                 Ok(Pattern::Value { type_name, text })
             }
-            ast::Pattern::Data(type_name, parameters) => {
+            rnc_syntax::Pattern::Data(type_name, parameters) => {
                 let type_name = self.type_name(type_name)?;
                 let parameters = self.parameters(parameters)?;
                 Ok(Pattern::Data {
@@ -189,7 +195,7 @@ impl<'s, 'a> Resolver<'s, 'a> {
                     except: None,
                 })
             }
-            ast::Pattern::DataExcept(type_name, parameters, except) => {
+            rnc_syntax::Pattern::DataExcept(type_name, parameters, except) => {
                 let type_name = self.type_name(type_name)?;
                 let parameters = self.parameters(parameters)?;
                 let except = Some(self.child(except)?);
@@ -199,17 +205,17 @@ impl<'s, 'a> Resolver<'s, 'a> {
                     except,
                 })
             }
-            ast::Pattern::External(mention) => Ok(Pattern::External(self.mention(mention)?)),
-            ast::Pattern::Grammar(all) => Ok(Pattern::Grammar(self.components(all)?)),
-            ast::Pattern::Group(all) => Ok(Pattern::Group(self.patterns(all)?)),
-            ast::Pattern::Interleave(all) => Ok(Pattern::Interleave(self.patterns(all)?)),
-            ast::Pattern::Choice(all) => Ok(Pattern::Choice(self.patterns(all)?)),
+            rnc_syntax::Pattern::External(mention) => Ok(Pattern::External(self.mention(mention)?)),
+            rnc_syntax::Pattern::Grammar(all) => Ok(Pattern::Grammar(self.components(all)?)),
+            rnc_syntax::Pattern::Group(all) => Ok(Pattern::Group(self.patterns(all)?)),
+            rnc_syntax::Pattern::Interleave(all) => Ok(Pattern::Interleave(self.patterns(all)?)),
+            rnc_syntax::Pattern::Choice(all) => Ok(Pattern::Choice(self.patterns(all)?)),
         }
     }
 
     #[cycle(resolved)]
-    fn patterns(self, all: &[ast::Pattern<'a>]) -> Result<Vec<Pattern>, ScopeFault>
-        ensures { Gives (λ patterns. map tree.pattern_of patterns.items) result (each (rules.pattern_in (scope_view self.entry.scope.now)) (map syntax.pattern_of all.now)) }
+    fn patterns(self, all: &[rnc_syntax::Pattern<'a>]) -> Result<Vec<Pattern>, ScopeFault>
+        ensures { Resolves (λ patterns. map tree.pattern_of patterns.items) result (each (rules.pattern_in (scope_view self.entry.scope.now)) (map syntax.pattern_of all.now)) }
     {
         let mut patterns = Vec::new(self.alloc);
         for pattern in all {
@@ -219,19 +225,19 @@ impl<'s, 'a> Resolver<'s, 'a> {
     }
 
     #[cycle(resolved)]
-    fn component(self, component: &ast::Component<'a>) -> Result<Component, ScopeFault>
-        ensures { Gives tree.component_of result (rules.component_in (scope_view self.entry.scope.now) (syntax.component_of component.now)) }
+    fn component(self, component: &rnc_syntax::Component<'a>) -> Result<Component, ScopeFault>
+        ensures { Resolves tree.component_of result (rules.component_in (scope_view self.entry.scope.now) (syntax.component_of component.now)) }
     {
         match component {
-            ast::Component::Start(method, body) => {
+            rnc_syntax::Component::Start(method, body) => {
                 Ok(Component::Start(*method, self.pattern(body)?))
             }
-            ast::Component::Define(name, method, body) => {
+            rnc_syntax::Component::Define(name, method, body) => {
                 let name = String::from_str(self.alloc, name)?;
                 Ok(Component::Define(name, *method, self.pattern(body)?))
             }
-            ast::Component::Div(all) => Ok(Component::Div(self.components(all)?)),
-            ast::Component::Include(mention, all) => {
+            rnc_syntax::Component::Div(all) => Ok(Component::Div(self.components(all)?)),
+            rnc_syntax::Component::Include(mention, all) => {
                 let mention = self.mention(mention)?;
                 Ok(Component::Include(mention, self.components(all)?))
             }
@@ -239,8 +245,8 @@ impl<'s, 'a> Resolver<'s, 'a> {
     }
 
     #[cycle(resolved)]
-    fn components(self, all: &[ast::Component<'a>]) -> Result<Vec<Component>, ScopeFault>
-        ensures { Gives (λ components. components_of (map tree.component_of components.items)) result (rules.components_in (scope_view self.entry.scope.now) (written.components_of (map syntax.component_of all.now))) }
+    fn components(self, all: &[rnc_syntax::Component<'a>]) -> Result<Vec<Component>, ScopeFault>
+        ensures { Resolves (λ components. components_of (map tree.component_of components.items)) result (rules.components_in (scope_view self.entry.scope.now) (written.components_of (map syntax.component_of all.now))) }
     {
         let mut components = Vec::new(self.alloc);
         for component in all {
@@ -249,12 +255,14 @@ impl<'s, 'a> Resolver<'s, 'a> {
         Ok(components)
     }
 
-    fn body(self, body: &ast::Body<'a>) -> Result<FileTree, ScopeFault>
-        ensures { Gives tree.file_of result (rules.body_in (scope_view self.entry.scope.now) (syntax.body_of body.now)) }
+    fn body(self, body: &rnc_syntax::Body<'a>) -> Result<FileTree, ScopeFault>
+        ensures { Resolves tree.file_of result (rules.body_in (scope_view self.entry.scope.now) (syntax.body_of body.now)) }
     {
         match body {
-            ast::Body::Pattern(pattern) => Ok(FileTree::Pattern(self.pattern(pattern)?)),
-            ast::Body::Grammar(components) => Ok(FileTree::Grammar(self.components(components)?)),
+            rnc_syntax::Body::Pattern(pattern) => Ok(FileTree::Pattern(self.pattern(pattern)?)),
+            rnc_syntax::Body::Grammar(components) => Ok(FileTree::Grammar(self.components(
+                components,
+            )?)),
         }
     }
 }
@@ -262,9 +270,9 @@ impl<'s, 'a> Resolver<'s, 'a> {
 /// What the declarations of a file declare, all together.
 fn scope_of<'a>(
     alloc: Global,
-    declarations: &[ast::Declaration<'a>],
+    declarations: &[rnc_syntax::Declaration<'a>],
 ) -> Result<Scope<'a>, ScopeFault>
-    ensures { Gives scope_view result (rules.declare_all rules.nothing_declared (map syntax.declaration_of declarations.now)) }
+    ensures { Resolves scope_view result (rules.declare_all rules.nothing_declared (map syntax.declaration_of declarations.now)) }
 {
     let mut scope = Scope::new(alloc);
     for declaration in declarations {
@@ -275,8 +283,8 @@ fn scope_of<'a>(
 
 /// The file tree of a syntax tree.
 #[tactic(auto, unfolding(crate::specs::Declarations::file_tree))]
-pub fn file_tree(alloc: Global, file: &ast::File<'_>) -> Result<FileTree, ScopeFault>
-    ensures { Gives tree.file_of result (rules.file_tree (syntax.file_of file.now)) }
+pub fn file_tree(alloc: Global, file: &rnc_syntax::File<'_>) -> Result<FileTree, ScopeFault>
+    ensures { Resolves tree.file_of result (rules.file_tree (syntax.file_of file.now)) }
 {
     let scope = scope_of(alloc, &file.declarations)?;
     let resolver = Resolver {

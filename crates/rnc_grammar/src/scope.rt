@@ -1,13 +1,13 @@
 // What the declarations of a file declare.
 ghost use Rattle.std.specs.Prelude.{◌≡◌, Some, string_bytes};
 ghost use Rattle.rnc_grammar.specs.Declarations as declarations;
-ghost use Rattle.rnc_grammar.specs.Resolved.{Gives, scope_view};
-ghost use Rattle.rnc_grammar.specs.SyntaxView as syntax;
+ghost use Rattle.rnc_grammar.specs.Resolved.{Resolves, scope_view};
+ghost use Rattle.rnc_syntax.specs.SyntaxView as syntax;
 ghost use Rattle.rnc_grammar.specs.View.{namespace_of};
 ghost use Rattle.rnc_grammar.specs.declared.scope.ScopeFault.TheVariants as faults;
 
-use crate::ast::{Declaration, Literal, Uri};
 use crate::file_tree::Namespace;
+use rnc_syntax::{Declaration, Literal, Uri};
 use std::alloc::{AllocError, AllocFailed, Global};
 use std::collections::HashMap;
 
@@ -51,7 +51,7 @@ pub struct Scope<'a> {
 
 /// The text of a literal.
 pub fn literal_text(alloc: Global, literal: &Literal<'_>) -> Result<String, ScopeFault>
-    ensures { Gives string_bytes result (Some (syntax.text_of literal.now)) }
+    ensures { Resolves string_bytes result (Some (syntax.text_of literal.now)) }
 {
     let mut text = String::new(alloc);
     for segment in literal.segments.iter() {
@@ -62,7 +62,7 @@ pub fn literal_text(alloc: Global, literal: &Literal<'_>) -> Result<String, Scop
 
 /// The namespace of a declaration.
 fn uri_of(alloc: Global, uri: &Uri<'_>) -> Result<Namespace, ScopeFault>
-    ensures { Gives namespace_of result (Some (declarations.uri_of (syntax.uri_of uri.now))) }
+    ensures { Resolves namespace_of result (Some (declarations.uri_of (syntax.uri_of uri.now))) }
 {
     match uri {
         Uri::Inherit => Ok(Namespace::Inherited),
@@ -96,7 +96,7 @@ fn may_stand_for_types(prefix: &str, uri: &str) -> bool
 
 /// A copy of a namespace.
 fn copied(alloc: Global, namespace: &Namespace) -> Result<Namespace, ScopeFault>
-    ensures { Gives namespace_of result (Some (namespace_of namespace.now)) }
+    ensures { Resolves namespace_of result (Some (namespace_of namespace.now)) }
 {
     match namespace {
         Namespace::Inherited => Ok(Namespace::Inherited),
@@ -118,7 +118,7 @@ impl<'a> Scope<'a> {
 
     /// One namespace prefix more.
     fn declare_prefix(&mut self, prefix: &'a str, namespace: Namespace) -> Result<(), ScopeFault>
-        ensures { Gives (λ _. scope_view self.new) result (declarations.with_prefix prefix.now (namespace_of namespace) (scope_view self.old)) }
+        ensures { Resolves (λ _. scope_view self.new) result (declarations.with_prefix prefix.now (namespace_of namespace) (scope_view self.old)) }
     {
         if !may_stand_for(prefix, &namespace) {
             return Err(ScopeFault::Broken);
@@ -131,7 +131,7 @@ impl<'a> Scope<'a> {
 
     /// The default namespace.
     fn declare_default(&mut self, namespace: Namespace) -> Result<(), ScopeFault>
-        ensures { Gives (λ _. scope_view self.new) result (declarations.with_default (namespace_of namespace) (scope_view self.old)) }
+        ensures { Resolves (λ _. scope_view self.new) result (declarations.with_default (namespace_of namespace) (scope_view self.old)) }
     {
         if self.default.is_some() {
             return Err(ScopeFault::Broken);
@@ -142,7 +142,7 @@ impl<'a> Scope<'a> {
 
     /// One datatype prefix more.
     fn declare_datatypes(&mut self, prefix: &'a str, uri: String) -> Result<(), ScopeFault>
-        ensures { Gives (λ _. scope_view self.new) result (declarations.with_datatypes prefix.now (string_bytes uri) (scope_view self.old)) }
+        ensures { Resolves (λ _. scope_view self.new) result (declarations.with_datatypes prefix.now (string_bytes uri) (scope_view self.old)) }
     {
         if !may_stand_for_types(prefix, uri.as_str()) {
             return Err(ScopeFault::Broken);
@@ -159,7 +159,7 @@ impl<'a> Scope<'a> {
         alloc: Global,
         declaration: &Declaration<'a>,
     ) -> Result<(), ScopeFault>
-        ensures { Gives (λ _. scope_view self.new) result (declarations.declare (scope_view self.old) (syntax.declaration_of declaration.now)) }
+        ensures { Resolves (λ _. scope_view self.new) result (declarations.declare (scope_view self.old) (syntax.declaration_of declaration.now)) }
     {
         match declaration {
             Declaration::Namespace { prefix, uri } => {
@@ -181,7 +181,7 @@ impl<'a> Scope<'a> {
 
     /// The namespace of names without a prefix in elements, and of mentions that name none.
     pub fn default_namespace(&self, alloc: Global) -> Result<Namespace, ScopeFault>
-        ensures { Gives namespace_of result (Some (declarations.default_of (scope_view self.now))) }
+        ensures { Resolves namespace_of result (Some (declarations.default_of (scope_view self.now))) }
     {
         match &self.default {
             Some(namespace) => copied(alloc, namespace),
@@ -191,7 +191,7 @@ impl<'a> Scope<'a> {
 
     /// The namespace of a prefix; `xml` is declared beforehand.
     pub fn namespace(&self, alloc: Global, prefix: &str) -> Result<Namespace, ScopeFault>
-        ensures { Gives namespace_of result (declarations.namespace_in (scope_view self.now) prefix.now) }
+        ensures { Resolves namespace_of result (declarations.namespace_in (scope_view self.now) prefix.now) }
     {
         if prefix == "xml" {
             return Ok(Namespace::Given(String::from_str(alloc, XML_URI)?));
@@ -204,7 +204,7 @@ impl<'a> Scope<'a> {
 
     /// The uri of a datatype prefix; `xsd` is declared beforehand.
     pub fn library(&self, alloc: Global, prefix: &str) -> Result<String, ScopeFault>
-        ensures { Gives string_bytes result (declarations.library_in (scope_view self.now) prefix.now) }
+        ensures { Resolves string_bytes result (declarations.library_in (scope_view self.now) prefix.now) }
     {
         if prefix == "xsd" {
             return Ok(String::from_str(alloc, XSD_URI)?);

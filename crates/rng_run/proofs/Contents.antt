@@ -14,8 +14,8 @@ use Rattle.rnc_grammar.specs.declared.fault.ParseFault.TheVariants as parses
 use Rattle.rnc_grammar.specs.declared.file_tree.FileTree as declared
 use Rattle.rnc_grammar.specs.FileTree.{FileTree}
 use Rattle.rnc_grammar.specs.Lexeme.{Lexeme, lexemes, lexemes_in}
-use Rattle.rnc_grammar.specs.Sentence.{BreaksGrammarAt, BreaksNesting, BreaksDeclarations, IsFileTree, IsFaultOf, NestsWithin, nesting_limit}
-use Rattle.rnc_grammar.specs.Sentence as sentence
+use Rattle.rnc_grammar.specs.Parsing.{BreaksGrammarAt, BreaksNesting, BreaksDeclarations, IsFileTree, IsFaultOf, NestsWithin, nesting_limit}
+use Rattle.rnc_grammar.specs.Parsing as parsing
 use Rattle.rnc_grammar.specs.View.{file_of}
 use Rattle.rng_run.specs.declared.fault.FileFault.{FileFault}
 use Rattle.rng_run.specs.declared.fault.FileFault.TheVariants as faults
@@ -141,7 +141,7 @@ not_both : (ts : List Lexeme) → NestsWithin nesting_limit ts → BreaksNesting
 not_both ts within (k, beyond) = let e = within k in omega arith
 
 -- tokens that are stuck are no sentence
-not_stuck : (ts : List Lexeme) (place : ℕ) → BreaksGrammarAt ts place → sentence.IsSentence ts → ⊥
+not_stuck : (ts : List Lexeme) (place : ℕ) → BreaksGrammarAt ts place → parsing.IsSentence ts → ⊥
 not_stuck ts place b is = b.stuck.stuck ts ((λ within. refl), (λ beyond. refl)) is
 
 -- the tree of a file is one of its tokens
@@ -175,21 +175,21 @@ declarations_only ts k eight b j (nesting n e) = absurd (not_both ts b.nesting n
 declarations_only ts k eight b j (declarations d e) = eight ∙ sym e
 
 -- no tree is answered where a fault is
-no_tree_at : (k place : ℕ) (t : FileTree) → sentence.Gives (Err (parses.At k place)) (Ok t) → ⊥
+no_tree_at : (k place : ℕ) (t : FileTree) → parsing.Gives parsing.unless_memory file_of (Err (parses.At k place)) (Ok t) → ⊥
 no_tree_at k place t g = absurd (cc)
 
-no_tree_clause : (k : ℕ) (t : FileTree) → sentence.Gives (Err (parses.Clause k)) (Ok t) → ⊥
+no_tree_clause : (k : ℕ) (t : FileTree) → parsing.Gives parsing.unless_memory file_of (Err (parses.Clause k)) (Ok t) → ⊥
 no_tree_clause k t g = absurd (cc)
 
 -- a fault of the grammar is a broken clause, unless memory ran out
-pub parse_fault : (bytes : List ℕ) (ts : List Lexeme) (x : ParseFault) → Lexed bytes ts → IsFaultOf ts x → ((t : FileTree) → IsFileTree ts t → sentence.Gives (Err x) (Ok t)) → IfSome (reading_of (Err (fault_of_parse x))) (IsTheContent bytes)
+pub parse_fault : (bytes : List ℕ) (ts : List Lexeme) (x : ParseFault) → Lexed bytes ts → IsFaultOf ts x → ((t : FileTree) → IsFileTree ts t → parsing.Gives parsing.unless_memory file_of (Err x) (Ok t)) → IfSome (reading_of (Err (fault_of_parse x))) (IsTheContent bytes)
 parse_fault bytes ts parses.Memory l b none = tt
 parse_fault bytes ts (parses.At k place) l b none = sentence_breaks bytes ts k l (no_sentence ts place l.is b.1 b.0) (grammar_only ts k place b.0 b.1) (λ t is. no_tree_at k place t (none t is))
 parse_fault bytes ts (parses.Clause k) l (inl (e, b)) none = sentence_breaks bytes ts k l (too_deep ts l.is b e) (nesting_only ts k e b) (λ t is. no_tree_clause k t (none t is))
 parse_fault bytes ts (parses.Clause k) l (inr (e, b)) none = sentence_breaks bytes ts k l (bad_declarations ts l.is b e) (declarations_only ts k e b) (λ t is. no_tree_clause k t (none t is))
 
 -- a tree that was read is all that the file is
-pub parsed : (bytes : List ℕ) (ts : List Lexeme) (x : declared.FileTree) → Lexed bytes ts → IsFileTree ts (file_of x) → ((t : FileTree) → IsFileTree ts t → sentence.Gives (Ok x) (Ok t)) → (BreaksDeclarations ts → sentence.Gives (Ok x) (Err (parses.Clause 8))) → IsTheContent bytes (has_tree (file_of x))
+pub parsed : (bytes : List ℕ) (ts : List Lexeme) (x : declared.FileTree) → Lexed bytes ts → IsFileTree ts (file_of x) → ((t : FileTree) → IsFileTree ts t → parsing.Gives parsing.unless_memory file_of (Ok x) (Ok t)) → (BreaksDeclarations ts → parsing.Gives parsing.unless_memory file_of (Ok x) (Err (parses.Clause 8))) → IsTheContent bytes (has_tree (file_of x))
 parsed bytes ts x l is one none = record { is = record { lexemes = ts; are = l.is; tree = is }; only = only } where
   no_clause : (j : ℕ) → BreaksSentence ts j → ⊥
   no_clause j (grammar at b e) = not_stuck ts at b (is.file, is.sentence)

@@ -6,7 +6,7 @@ use Rattle.rnc_text.specs.Cut.{HasTokens, BreaksTokensAt}
 use Rattle.rnc_text.specs.Cut as cut
 use Rattle.rnc_grammar.specs.Lexeme.{Lexeme, lexeme_at}
 use Rattle.rnc_grammar.specs.FileTree.{FileTree}
-use Rattle.rnc_grammar.specs.Sentence.{BreaksGrammarAt, BreaksNesting, BreaksDeclarations, IsFileTree}
+use Rattle.rnc_grammar.specs.Parsing.{BreaksGrammarAt, BreaksNesting, BreaksDeclarations, IsFileTree}
 
 -- how many bytes a file may have
 abbrev pub size_limit : ℕ

@@ -1,28 +1,59 @@
-use Rattle.std.proofs.Common.{subst}
-use Rattle.rnc_grammar.specs.Lexeme.{lexemes}
-use Rattle.rnc_grammar.specs.Sentence.{nesting_limit, Gives}
-use Rattle.rnc_grammar.proofs.Parsed.{is_fault, is_tree, fault_given, only_declarations, only_grammar, one_tree, only_tree, tree_given}
-use Rattle.rnc_grammar.proofs.Place.{stuck}
+use Rattle.std.proofs.lemmas.Result.{err_from_is_err_and}
+use Rattle.rnc_syntax.specs.Lexeme.{lexemes}
+use Rattle.rnc_grammar.proofs.ParsingAnswers.{fault_given, fault_told, grammar_told, nesting_told, no_fault, no_tree, one_tree, only_declarations, only_tree}
+use Rattle.rnc_grammar.proofs.ParsingAnswers.{tree_given}
 use Rattle.rnc_grammar.proofs.parsing.parse.Goals as goal
 
-pub returns-then-nests_within_limit-clause-tree : goal.returns-then-nests_within_limit-clause-tree
-returns-then-nests_within_limit-clause-tree c = tree_given _ _ _ (is_tree _ c.if-nests_within_limit.ensures) c.read.ensures
+-- ---- no syntax tree
 
-pub returns-then-nests_within_limit-clause-fault : goal.returns-then-nests_within_limit-clause-fault
-returns-then-nests_within_limit-clause-fault c =
-    let ts = lexemes c.args.tokens.now in
-    fault_given ts _ _ (is_fault ts c.if-nests_within_limit.ensures (stuck nesting_limit ts)) c.read.ensures
+pub returns-in_err-file-clause-fault : goal.returns-in_err-file-clause-fault
+returns-in_err-file-clause-fault c =
+    let p = err_from_is_err_and c.from_residual.result c.from_residual.ensures.1 in
+    rw (p.1, p.2) (fault_told (lexemes c.args.tokens.now) c.in_err-file.field-0.0 c.in_err-file.ensures.fault)
 
-pub returns-then-nests_within_limit-clause-only : goal.returns-then-nests_within_limit-clause-only
-returns-then-nests_within_limit-clause-only c = λ t is. subst (Gives c.read.result) (only_tree _ c.if-nests_within_limit.ensures t is) c.read.ensures
+pub returns-in_err-file-clause-only : goal.returns-in_err-file-clause-only
+returns-in_err-file-clause-only c = λ t is.
+    let p = err_from_is_err_and c.from_residual.result c.from_residual.ensures.1 in
+    rw (p.1, p.2) (no_tree c.in_err-file.field-0.0 _ is.file (c.in_err-file.ensures.only is.file (record { nesting = is.nesting; sentence = is.sentence })))
 
-pub returns-then-nests_within_limit-clause-grammar : goal.returns-then-nests_within_limit-clause-grammar
-returns-then-nests_within_limit-clause-grammar c = λ is.
-    let at = only_grammar _ c.if-nests_within_limit.ensures is in
-    (at.0, subst (Gives c.read.result) at.1 c.read.ensures)
+pub returns-in_err-file-clause-declarations : goal.returns-in_err-file-clause-declarations
+returns-in_err-file-clause-declarations c = λ is.
+    let p = err_from_is_err_and c.from_residual.result c.from_residual.ensures.1 in
+    rw (p.1, p.2) (no_tree c.in_err-file.field-0.0 _ is.file (c.in_err-file.ensures.only is.file (record { nesting = is.nesting; sentence = is.sentence })))
 
-pub returns-then-nests_within_limit-clause-declarations : goal.returns-then-nests_within_limit-clause-declarations
-returns-then-nests_within_limit-clause-declarations c = λ is. subst (Gives c.read.result) (only_declarations _ c.if-nests_within_limit.ensures is) c.read.ensures
+pub returns-in_err-file-clause-nesting : goal.returns-in_err-file-clause-nesting
+returns-in_err-file-clause-nesting c = λ is.
+    let p = err_from_is_err_and c.from_residual.result c.from_residual.ensures.1 in
+    rw (p.1, p.2) (nesting_told c.in_err-file.field-0.0 (c.in_err-file.ensures.nesting is))
 
-pub returns-then-nests_within_limit-clause-one : goal.returns-then-nests_within_limit-clause-one
-returns-then-nests_within_limit-clause-one c = one_tree (lexemes c.args.tokens.now)
+pub returns-in_err-file-clause-grammar : goal.returns-in_err-file-clause-grammar
+returns-in_err-file-clause-grammar c = λ is.
+    let p = err_from_is_err_and c.from_residual.result c.from_residual.ensures.1 in
+    let at = c.in_err-file.ensures.grammar is in
+    (at.0, rw (p.1, p.2) (grammar_told c.in_err-file.field-0.0 at.0 at.1))
+
+pub returns-in_err-file-clause-one : goal.returns-in_err-file-clause-one
+returns-in_err-file-clause-one c = one_tree (lexemes c.args.tokens.now) c.in_err-file.ensures.one
+
+-- ---- a syntax tree
+
+pub returns-clause-tree : goal.returns-clause-tree
+returns-clause-tree c = tree_given _ c.in_ok-file.file c.in_ok-file.ensures.tree _ c.resolved.ensures
+
+pub returns-clause-fault : goal.returns-clause-fault
+returns-clause-fault c = fault_given _ c.in_ok-file.file c.in_ok-file.ensures.tree _ c.resolved.ensures
+
+pub returns-clause-only : goal.returns-clause-only
+returns-clause-only c = λ t is. only_tree _ c.in_ok-file.file c.in_ok-file.ensures.only _ t is c.resolved.ensures
+
+pub returns-clause-declarations : goal.returns-clause-declarations
+returns-clause-declarations c = λ is. only_declarations _ c.in_ok-file.file c.in_ok-file.ensures.only _ is c.resolved.ensures
+
+pub returns-clause-nesting : goal.returns-clause-nesting
+returns-clause-nesting c = λ is. absurd (no_fault c.in_ok-file.file _ (c.in_ok-file.ensures.nesting is))
+
+pub returns-clause-grammar : goal.returns-clause-grammar
+returns-clause-grammar c = λ is. absurd (no_fault c.in_ok-file.file _ (c.in_ok-file.ensures.grammar is).1)
+
+pub returns-clause-one : goal.returns-clause-one
+returns-clause-one c = one_tree (lexemes c.args.tokens.now) c.in_ok-file.ensures.one

@@ -1,8 +1,9 @@
 use Rattle.std.proofs.Common.{◌≡◌, map, drop}
 use Rattle.rnc_grammar.specs.Declarations as declarations
 use Rattle.rnc_grammar.specs.Resolved.{scope_view}
-use Rattle.rnc_grammar.specs.SyntaxView as syntax
+use Rattle.rnc_syntax.specs.SyntaxView as syntax
 use Rattle.rnc_grammar.proofs.resolving.scope_of.Given as goal
 
 abbrev pub invariant-loop-declaration : goal.invariant-loop-declaration
-invariant-loop-declaration l = declarations.declare_all declarations.nothing_declared (map syntax.declaration_of l.declarations) ≡ declarations.declare_all (scope_view l.scope) (map syntax.declaration_of (drop l.declaration-index l.declarations))
+invariant-loop-declaration l = declarations.declare_all declarations.nothing_declared (map syntax.declaration_of l.declarations) ≡ declarations.declare_all
+    (scope_view l.scope) (map syntax.declaration_of (drop l.declaration-index l.declarations))

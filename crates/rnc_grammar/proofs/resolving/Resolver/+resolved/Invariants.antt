@@ -1,13 +1,15 @@
 use Rattle.std.proofs.Common.{◌≡◌, map, drop}
 use Rattle.rnc_grammar.specs.Declarations.{pattern_in, component_in}
 use Rattle.rnc_grammar.specs.Resolved.{each, scope_view}
-use Rattle.rnc_grammar.specs.SyntaxView as syntax
+use Rattle.rnc_syntax.specs.SyntaxView as syntax
 use Rattle.rnc_grammar.specs.View as tree
-use Rattle.rnc_grammar.proofs.Each.{after}
+use Rattle.rnc_grammar.proofs.ResolvedMembers.{after}
 use Rattle.rnc_grammar.proofs.resolving.Resolver.+resolved.Given as goal
 
 abbrev pub invariant-patterns-loop-pattern : goal.invariant-patterns-loop-pattern
-invariant-patterns-loop-pattern l = each (pattern_in (scope_view l.self.scope.now)) (map syntax.pattern_of l.all) ≡ after (map tree.pattern_of l.patterns.items) (each (pattern_in (scope_view l.self.scope.now)) (map syntax.pattern_of (drop l.pattern-index l.all)))
+invariant-patterns-loop-pattern l = each (pattern_in (scope_view l.self.scope.now)) (map syntax.pattern_of l.all) ≡ after (map tree.pattern_of l.patterns.items)
+    (each (pattern_in (scope_view l.self.scope.now)) (map syntax.pattern_of (drop l.pattern-index l.all)))
 
 abbrev pub invariant-components-loop-component : goal.invariant-components-loop-component
-invariant-components-loop-component l = each (component_in (scope_view l.self.scope.now)) (map syntax.component_of l.all) ≡ after (map tree.component_of l.components.items) (each (component_in (scope_view l.self.scope.now)) (map syntax.component_of (drop l.component-index l.all)))
+invariant-components-loop-component l = each (component_in (scope_view l.self.scope.now)) (map syntax.component_of l.all) ≡ after
+    (map tree.component_of l.components.items) (each (component_in (scope_view l.self.scope.now)) (map syntax.component_of (drop l.component-index l.all)))

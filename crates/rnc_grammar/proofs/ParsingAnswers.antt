@@ -1,0 +1,112 @@
+-- What is told of tokens is what they are by the definitions: their file tree, or the clause that they break.
+use Rattle.std.proofs.Common.{◌≡◌, ℕ, List, Option, Some, None, Result, Ok, Err, IfOk, IfErr, inl, inr, refl, sym, ap, subst, ◌∙◌}
+use Rattle.rnc_syntax.specs.declared.fault.SyntaxFault.{SyntaxFault}
+use Rattle.rnc_syntax.specs.declared.fault.SyntaxFault.TheVariants as syntax_faults
+use Rattle.rnc_syntax.specs.declared.syntax_tree.File as written
+use Rattle.rnc_syntax.specs.Fault as syntax_fault
+use Rattle.rnc_syntax.specs.Grammar.{IsFile}
+use Rattle.rnc_syntax.specs.Lexeme.{Lexeme}
+use Rattle.rnc_syntax.specs.Sentence as sentence
+use Rattle.rnc_syntax.specs.Sentence.{IsSyntaxTree}
+use Rattle.rnc_syntax.specs.Syntax.{File}
+use Rattle.rnc_syntax.specs.SyntaxView as syntax
+use Rattle.rnc_grammar.specs.declared.fault.ParseFault.{ParseFault}
+use Rattle.rnc_grammar.specs.declared.fault.ParseFault.TheVariants as faults
+use Rattle.rnc_grammar.specs.declared.file_tree.FileTree as declared
+use Rattle.rnc_grammar.specs.Declarations.{file_tree}
+use Rattle.rnc_grammar.specs.Fault.{fault_of, tree_or_fault}
+use Rattle.rnc_grammar.specs.FileTree.{FileTree}
+use Rattle.rnc_grammar.specs.View.{file_of}
+use Rattle.rnc_grammar.specs.Parsing.{BreaksDeclarations, IsFileTree, IsFaultOf, Gives, unless_memory}
+
+-- tokens have one file tree at most, as they have one syntax tree
+pub one_tree : (ts : List Lexeme) → ((f g : File) → IsFile ts f → IsFile ts g → f ≡ g) → (t u : FileTree) → IsFileTree ts t → IsFileTree ts u → t ≡ u
+one_tree ts one t u a b =
+    let file : a.file ≡ b.file = one a.file b.file a.sentence b.sentence in
+    let trees : Some t ≡ Some u = sym a.tree ∙ ap file_tree file ∙ b.tree in
+    let same : t ≡ u = cc in
+    same
+
+-- what read_syntax returned is this
+abbrev pub GivesFile : Result written.File SyntaxFault → Result File SyntaxFault → Type 0
+GivesFile r answer = Gives syntax_fault.unless_memory syntax.file_of r answer
+
+-- what parse returned is this
+abbrev pub GivesTree : Result declared.FileTree ParseFault → Result FileTree ParseFault → Type 0
+GivesTree r answer = Gives unless_memory file_of r answer
+
+-- ---- tokens that have no syntax tree
+
+-- the fault that is told
+pub fault_told : (ts : List Lexeme) (e : SyntaxFault) → sentence.IsFaultOf ts e → IsFaultOf ts (fault_of e)
+fault_told ts syntax_faults.Memory is = tt
+fault_told ts syntax_faults.TooDeep is = inl (refl, is)
+fault_told ts (syntax_faults.Unexpected place) is = (refl, is)
+
+-- they have no file tree
+pub no_tree : (e : SyntaxFault) (answer : Result FileTree ParseFault) (f : File) → GivesFile (Err e) (Ok f) → GivesTree (Err (fault_of e)) answer
+no_tree syntax_faults.Memory answer f reads = tt
+no_tree syntax_faults.TooDeep answer f reads = absurd (cc)
+no_tree (syntax_faults.Unexpected place) answer f reads = absurd (cc)
+
+pub nesting_told : (e : SyntaxFault) → GivesFile (Err e) (Err syntax_faults.TooDeep) → GivesTree (Err (fault_of e)) (Err (faults.Clause 7))
+nesting_told syntax_faults.Memory reads = tt
+nesting_told syntax_faults.TooDeep reads = refl
+nesting_told (syntax_faults.Unexpected place) reads = absurd (cc)
+
+pub grammar_told : (e : SyntaxFault) (place : ℕ) → GivesFile (Err e) (Err (syntax_faults.Unexpected place))
+    → GivesTree (Err (fault_of e)) (Err (faults.At 6 place))
+grammar_told syntax_faults.Memory place reads = tt
+grammar_told syntax_faults.TooDeep place reads = absurd (cc)
+grammar_told (syntax_faults.Unexpected other) place reads = let same : place ≡ other = cc in ap (λ (n : ℕ). Err (faults.At 6 n)) same
+
+-- ---- tokens that have this syntax tree
+
+abbrev answer_of : File → Result FileTree ParseFault
+answer_of f = tree_or_fault (file_tree f)
+
+module _ (ts : List Lexeme) (file : written.File) (is : IsSyntaxTree ts (syntax.file_of file)) where
+  abbrev f : File
+  f = syntax.file_of file
+
+  tree_from : (o : Option FileTree) (t : FileTree) → file_tree f ≡ o → tree_or_fault o ≡ Ok t → IsFileTree ts t
+  tree_from None t e answer = absurd (cc)
+  tree_from (Some u) t e answer = record { nesting = is.nesting; file = f; sentence = is.sentence; tree = e ∙ (let same : u ≡ t = cc in ap Some same) }
+
+  fault_from : (o : Option FileTree) (e : ParseFault) → file_tree f ≡ o → tree_or_fault o ≡ Err e → IsFaultOf ts e
+  fault_from None e broken answer =
+      let same : faults.Clause 8 ≡ e = cc in
+      subst (IsFaultOf ts) same (inr (refl, record { nesting = is.nesting; file = f; sentence = is.sentence; broken = broken }))
+  fault_from (Some u) e tree answer = absurd (cc)
+
+  -- a tree that was returned
+  pub tree_given : (r : Result declared.FileTree ParseFault) → GivesTree r (answer_of f) → IfOk r (λ t. IsFileTree ts (file_of t))
+  tree_given (Ok t) given = tree_from (file_tree f) (file_of t) refl given
+  tree_given (Err e) given = tt
+
+  -- a fault that was returned
+  pub fault_given : (r : Result declared.FileTree ParseFault) → GivesTree r (answer_of f) → IfErr r (IsFaultOf ts)
+  fault_given (Ok t) given = tt
+  fault_given (Err faults.Memory) given = tt
+  fault_given (Err (faults.At clause place)) given = fault_from (file_tree f) (faults.At clause place) refl given
+  fault_given (Err (faults.Clause clause)) given = fault_from (file_tree f) (faults.Clause clause) refl given
+
+module _ (ts : List Lexeme) (file : written.File) (only : (g : File) → IsSyntaxTree ts g → GivesFile (Ok file) (Ok g)) where
+  same_answer : (g : File) → IsSyntaxTree ts g → answer_of (syntax.file_of file) ≡ answer_of g
+  same_answer g is = let reads = only g is in let same : syntax.file_of file ≡ g = cc in ap answer_of same
+
+  -- no other tree
+  pub only_tree : (r : Result declared.FileTree ParseFault) (t : FileTree) → IsFileTree ts t → GivesTree r (answer_of (syntax.file_of file))
+      → GivesTree r (Ok t)
+  only_tree r t is given =
+      subst (GivesTree r) (same_answer is.file (record { nesting = is.nesting; sentence = is.sentence }) ∙ ap tree_or_fault is.tree) given
+
+  -- no other clause, where declarations break a rule
+  pub only_declarations : (r : Result declared.FileTree ParseFault) → BreaksDeclarations ts → GivesTree r (answer_of (syntax.file_of file))
+      → GivesTree r (Err (faults.Clause 8))
+  only_declarations r is given =
+      subst (GivesTree r) (same_answer is.file (record { nesting = is.nesting; sentence = is.sentence }) ∙ ap tree_or_fault is.broken) given
+
+-- tokens with a syntax tree break neither the nesting nor the grammar
+pub no_fault : (file : written.File) (e : SyntaxFault) → GivesFile (Ok file) (Err e) → ⊥
+no_fault file e reads = absurd (cc)

@@ -1,0 +1,25 @@
+-- A file that is read to its end, and one with tokens left.
+use Rattle.std.proofs.Common.{◌≡◌, ◌==◌, ℕ, true, false, List, [], ◌∷◌, length, Ok, refl, arith}
+use Rattle.std.proofs.lemmas.Bool.{eqb-true}
+use Rattle.rnc_text.specs.declared.token.Token.{Token}
+use Rattle.rnc_syntax.specs.declared.fault.Stop.TheVariants.{Unexpected}
+use Rattle.rnc_syntax.specs.declared.fault.ReadFault.{ReadFault}
+use Rattle.rnc_syntax.specs.declared.fault.ReadFault.TheVariants as read_faults
+use Rattle.rnc_syntax.specs.Lexeme.{Lexeme, lexemes_in}
+use Rattle.rnc_syntax.specs.Fault.{FailsAs, stop_of}
+use Rattle.rnc_syntax.specs.Productions.{Inside, declarations_at, body_with, file_with}
+use Rattle.rnc_syntax.specs.Syntax.{Declaration, Body}
+
+module _ (inside : Inside) (total : ℕ) (ts rest : List Lexeme) (declarations : List Declaration) (body : Body) where
+  pub file_ends : (left : List Token) → declarations_at ts ≡ Ok (declarations, rest) → body_with inside rest ≡ Ok (body, lexemes_in total left)
+      → (length left == 0) ≡ true → file_with inside ts ≡ Ok (record { declarations = declarations; body = body })
+  unfolding file_with
+  file_ends [] d b none = rw (d, b) refl
+  file_ends (t ∷ left) d b none = absurd (omega (arith, eqb-true _ _ none))
+
+  pub file_goes_on : (left : List Token) (fault : ReadFault) → declarations_at ts ≡ Ok (declarations, rest)
+      → body_with inside rest ≡ Ok (body, lexemes_in total left) → (length left == 0) ≡ false
+      → fault ≡ read_faults.Stop (Unexpected (length (lexemes_in total left))) → FailsAs (file_with inside ts) (stop_of fault)
+  unfolding file_with
+  file_goes_on [] fault d b some is = absurd cc
+  file_goes_on (t ∷ left) fault d b some is = rw (is, d, b) refl

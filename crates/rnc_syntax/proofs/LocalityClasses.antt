@@ -1,0 +1,87 @@
+-- What a reader answers depends on what it took and on the one token after it: name classes.
+use Rattle.std.proofs.Common.{ℕ, List, [], ◌∷◌, Option, Some, None, Ok, refl}
+use Rattle.rnc_text.specs.declared.token.Sign.TheVariants.{Bar, Star, Minus, OpenParenthesis, CloseParenthesis}
+use Rattle.rnc_syntax.specs.Lexeme.{Lexeme, keyword, identifier, cname, ns_name, sign}
+use Rattle.rnc_syntax.specs.Syntax as syntax
+use Rattle.rnc_syntax.specs.Syntax.{NameClass}
+use Rattle.rnc_syntax.specs.Combinators.{Outcome, ◌>>=◌, follow, either_way, many}
+use Rattle.rnc_syntax.specs.Productions.{class_in_parens, basic_with, choice_with, excepted, class_with}
+use Rattle.rnc_syntax.proofs.Locality.{IsLocal, ok_local, stuck_end, stuck_front, cons_local, bind_local}
+use Rattle.rnc_syntax.proofs.LocalityFronts.{token_local, kept_local, FrontAt, closes, opens, either_local, follow_front, follow_heads}
+use Rattle.rnc_syntax.proofs.LocalityItems.{many_local}
+use Rattle.rnc_syntax.proofs.LocalityLiterals.{made_local, ended_local}
+
+-- `-` in front, and a value beside the tokens after it
+abbrev minus_after : Option (List ℕ) → List Lexeme → Option (Option (List ℕ) × List Lexeme)
+minus_after p us = either_way (follow Minus us) None (λ vs. Some (p, vs))
+
+minus_front : {A : Type 0} (p : Option (List ℕ)) (f g : Option (List ℕ) × List Lexeme → Outcome A) (t : Lexeme) → FrontAt (follow Minus) (λ us. f (p, us))
+    (λ us. g (p, us)) t → FrontAt (minus_after p) f g t
+minus_front p f g t (closes e) = closes (λ us. rw (e us) refl)
+minus_front p f g t (opens part e l) = opens (λ us. (p, part us)) (λ us. rw (e us) refl) l
+
+parens_local : (class deeper : List Lexeme → Outcome NameClass) → IsLocal class deeper → IsLocal (class_in_parens class) (class_in_parens deeper)
+unfolding class_in_parens
+parens_local class deeper l = ended_local CloseParenthesis class deeper l
+
+pub basic_local : (class deeper : List Lexeme → Outcome NameClass) → IsLocal class deeper → IsLocal (basic_with class) (basic_with deeper)
+unfolding basic_with
+basic_local class deeper l [] = stuck_end (basic_with class) (basic_with deeper) refl refl
+basic_local class deeper l (sign OpenParenthesis ∷ ts) = cons_local (basic_with class) (basic_with deeper) (class_in_parens class) (class_in_parens deeper)
+    (sign OpenParenthesis) ts (λ us. refl) (λ us. refl) (parens_local class deeper l ts)
+basic_local class deeper l (sign Star ∷ ts) = cons_local (basic_with class) (basic_with deeper) (λ us. Ok (syntax.any_name, us))
+    (λ us. Ok (syntax.any_name, us)) (sign Star) ts (λ us. refl) (λ us. refl) (ok_local syntax.any_name ts)
+basic_local class deeper l (identifier w ∷ ts) =
+    let c = syntax.name_is (syntax.unprefixed w) in
+    cons_local (basic_with class) (basic_with deeper) (λ us. Ok (c, us)) (λ us. Ok (c, us)) (identifier w) ts (λ us. refl) (λ us. refl) (ok_local c ts)
+basic_local class deeper l (keyword k s ∷ ts) =
+    let c = syntax.name_is (syntax.unprefixed s.text) in
+    cons_local (basic_with class) (basic_with deeper) (λ us. Ok (c, us)) (λ us. Ok (c, us)) (keyword k s) ts (λ us. refl) (λ us. refl) (ok_local c ts)
+basic_local class deeper l (cname p w ∷ ts) =
+    let c = syntax.name_is (syntax.prefixed p w) in
+    cons_local (basic_with class) (basic_with deeper) (λ us. Ok (c, us)) (λ us. Ok (c, us)) (cname p w) ts (λ us. refl) (λ us. refl) (ok_local c ts)
+basic_local class deeper l (ns_name p ∷ ts) = cons_local (basic_with class) (basic_with deeper) (λ us. Ok (syntax.ns_name p, us))
+    (λ us. Ok (syntax.ns_name p, us)) (ns_name p) ts (λ us. refl) (λ us. refl) (ok_local (syntax.ns_name p) ts)
+basic_local class deeper l (t ∷ ts) = stuck_front (basic_with class) (basic_with deeper) t ts (λ us. refl) (λ us. refl)
+
+-- ---- classes with `|` between them
+
+module _ (basic deeper : List Lexeme → Outcome NameClass) (l : IsLocal basic deeper) (self : IsLocal deeper deeper) where
+  choice_local : (c : NameClass) → IsLocal (choice_with basic c) (choice_with deeper c)
+  unfolding choice_with
+  choice_local c ts =
+      let others = many_local (follow Bar) refl basic deeper (follow_front basic deeper l Bar) (follow_front deeper deeper self Bar) in
+      kept_local (follow Bar) (follow_heads Bar) (λ us. Ok (c, us)) (λ us. Ok (c, us)) (λ us. many (follow Bar) basic us
+      >>= λ x. Ok (syntax.choice_of (c ∷ x.0), x.1)) (λ us. many (follow Bar) deeper us >>= λ x. Ok (syntax.choice_of (c ∷ x.0), x.1)) ts
+      (ok_local c ts) (made_local (many (follow Bar) basic) (many (follow Bar) deeper) (λ cs. syntax.choice_of (c ∷ cs)) others ts)
+
+  -- what is left out of `*` or `p:*`
+  left_out : (p : Option (List ℕ)) → IsLocal (λ us. basic us >>= λ c. Ok (excepted p c.0, c.1)) (λ us. deeper us >>= λ c. Ok (excepted p c.0, c.1))
+  left_out p = made_local basic deeper (excepted p) l
+
+  -- behind `*` or `p:*`
+  wide_local : (p : Option (List ℕ)) (c : NameClass)
+      → IsLocal (λ us. either_way (minus_after p us) (choice_with basic c us) (λ x. basic x.1 >>= λ c. Ok (excepted x.0 c.0, c.1)))
+      (λ us. either_way (minus_after p us) (choice_with deeper c us) (λ x. deeper x.1 >>= λ c. Ok (excepted x.0 c.0, c.1)))
+  wide_local p c ts =
+      let f = λ (x : Option (List ℕ) × List Lexeme). basic x.1 >>= λ c. Ok (excepted x.0 c.0, c.1) in
+      let g = λ (x : Option (List ℕ) × List Lexeme). deeper x.1 >>= λ c. Ok (excepted x.0 c.0, c.1) in
+      either_local (minus_after p) refl f g (λ t. minus_front p f g t (follow_front (λ us. f (p, us)) (λ us. g (p, us)) (left_out p) Minus t))
+      (choice_with basic c) (choice_with deeper c) ts (choice_local c ts)
+
+  many_classes : IsLocal (λ us. basic us >>= λ c. choice_with basic c.0 c.1) (λ us. deeper us >>= λ c. choice_with deeper c.0 c.1)
+  many_classes ts = bind_local basic deeper (choice_with basic) (choice_with deeper) ts (l ts) (λ c rest e. choice_local c rest)
+
+pub class_local : (class deeper : List Lexeme → Outcome NameClass) → IsLocal class deeper → IsLocal deeper deeper → IsLocal (class_with (basic_with class))
+    (class_with (basic_with deeper))
+unfolding class_with basic_with
+class_local class deeper l self [] = stuck_end (class_with (basic_with class)) (class_with (basic_with deeper)) refl refl
+class_local class deeper l self (sign Star ∷ ts) =
+    cons_local (class_with (basic_with class)) (class_with (basic_with deeper)) _ _ (sign Star) ts (λ us. refl) (λ us. refl)
+    (wide_local (basic_with class) (basic_with deeper) (basic_local class deeper l) (basic_local deeper deeper self) None syntax.any_name ts)
+class_local class deeper l self (ns_name p ∷ ts) =
+    cons_local (class_with (basic_with class)) (class_with (basic_with deeper)) _ _ (ns_name p) ts (λ us. refl) (λ us. refl)
+    (wide_local (basic_with class) (basic_with deeper) (basic_local class deeper l) (basic_local deeper deeper self) (Some p) (syntax.ns_name p) ts)
+class_local class deeper l self (t ∷ ts) =
+    token_local (class_with (basic_with class)) (class_with (basic_with deeper)) _ _ t ts (λ us. refl) (λ us. refl)
+    (many_classes (basic_with class) (basic_with deeper) (basic_local class deeper l) (basic_local deeper deeper self) (t ∷ ts))

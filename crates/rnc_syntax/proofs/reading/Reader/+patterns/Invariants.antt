@@ -1,0 +1,72 @@
+use Rattle.std.proofs.Common.{map, length, ◌≤◌, ◌+◌, ◌*◌}
+use Rattle.rnc_syntax.specs.Lexeme.{lexemes_in}
+use Rattle.rnc_syntax.specs.Combinators.{follow, many, with_front}
+use Rattle.rnc_syntax.specs.Productions.{particle_with, component_front, component_with, components_with, inside_at}
+use Rattle.rnc_syntax.specs.SyntaxView.{pattern_of, component_of, setting_of}
+use Rattle.rnc_syntax.proofs.Items.{Goes}
+use Rattle.rnc_syntax.proofs.reading.Reader.+patterns.Given as goal
+
+abbrev pub decreases-inner_pattern : goal.decreases-inner_pattern
+decreases-inner_pattern l = 16 * l.levels
+
+abbrev pub decreases-inner_components : goal.decreases-inner_components
+decreases-inner_components l = 16 * l.levels
+
+abbrev pub decreases-braced : goal.decreases-braced
+decreases-braced l = 16 * l.levels + 1
+
+abbrev pub decreases-contents : goal.decreases-contents
+decreases-contents l = 16 * l.levels + 1
+
+abbrev pub decreases-primary : goal.decreases-primary
+decreases-primary l = 16 * l.levels + 3
+
+abbrev pub decreases-opened : goal.decreases-opened
+decreases-opened l = 16 * l.levels + 2
+
+abbrev pub decreases-particle : goal.decreases-particle
+decreases-particle l = 16 * l.levels + 4
+
+abbrev pub decreases-more : goal.decreases-more
+decreases-more l = 16 * l.levels + 5
+
+abbrev pub decreases-members : goal.decreases-members
+decreases-members l = 16 * l.levels + 6
+
+abbrev pub decreases-pattern_from : goal.decreases-pattern_from
+decreases-pattern_from l = 16 * l.levels + 7
+
+abbrev pub decreases-data : goal.decreases-data
+decreases-data l = 16 * l.levels + 8
+
+abbrev pub decreases-pattern : goal.decreases-pattern
+decreases-pattern l = 16 * l.levels + 9
+
+abbrev pub decreases-overrides : goal.decreases-overrides
+decreases-overrides l = 16 * l.levels + 2
+
+abbrev pub decreases-component : goal.decreases-component
+decreases-component l = 16 * l.levels + 10
+
+abbrev pub decreases-components : goal.decreases-components
+decreases-components l = 16 * l.levels + 11
+
+abbrev pub invariant-more-loop-after : goal.invariant-more-loop-after
+invariant-more-loop-after l = record {
+  goes : Goes (follow l.sign) (particle_with (inside_at l.levels)) (map pattern_of l.all.items) (lexemes_in l.self.count l.rest)
+      (with_front (map pattern_of l.fn.all.items) (many (follow l.sign) (particle_with (inside_at l.levels)) (lexemes_in l.self.count l.tokens)));
+  within : length l.rest ≤ length l.tokens;
+}
+
+abbrev pub decreases-more-loop-after : goal.decreases-more-loop-after
+decreases-more-loop-after l = length l.rest
+
+abbrev pub invariant-components-loop-self : goal.invariant-components-loop-self
+invariant-components-loop-self l = record {
+  goes : Goes (component_front (setting_of l.setting)) (component_with (inside_at l.levels) (setting_of l.setting)) (map component_of l.all.items)
+      (lexemes_in l.self.count l.rest) (components_with (inside_at l.levels) (setting_of l.setting) (lexemes_in l.self.count l.tokens));
+  within : length l.rest ≤ length l.tokens;
+}
+
+abbrev pub decreases-components-loop-self : goal.decreases-components-loop-self
+decreases-components-loop-self l = length l.rest

@@ -1,0 +1,85 @@
+-- Which tokens are a sentence that nests within the limit, and where they are none.
+use Rattle.std.specs.Prelude.{◌≡◌, ℕ, ◌+◌, ◌-◌, ◌<◌, ◌≤◌, Bool, true, false, List, length, take}
+use Rattle.std.specs.List.{count_by}
+use Rattle.rnc_text.specs.declared.token.Sign.TheVariants.{OpenBrace, CloseBrace, OpenParenthesis, CloseParenthesis}
+use Rattle.rnc_syntax.specs.declared.fault.SyntaxFault.{SyntaxFault}
+use Rattle.rnc_syntax.specs.declared.fault.SyntaxFault.TheVariants as faults
+use Rattle.rnc_syntax.specs.Lexeme.{Lexeme, sign}
+use Rattle.rnc_syntax.specs.Syntax.{File}
+use Rattle.rnc_syntax.specs.Grammar.{IsFile}
+
+-- ---- nesting
+
+-- `{` and `(`
+abbrev pub is_opening : Lexeme → Bool
+is_opening (sign OpenBrace) = true
+is_opening (sign OpenParenthesis) = true
+is_opening _ = false
+
+-- `}` and `)`
+abbrev pub is_closing : Lexeme → Bool
+is_closing (sign CloseBrace) = true
+is_closing (sign CloseParenthesis) = true
+is_closing _ = false
+
+-- how many of the tokens open a bracket
+abbrev pub openings : List Lexeme → ℕ
+openings ts = count_by is_opening ts
+
+-- how many close one
+abbrev pub closings : List Lexeme → ℕ
+closings ts = count_by is_closing ts
+
+-- how many brackets may be open
+abbrev pub nesting_limit : ℕ
+nesting_limit = 128
+
+-- at no token do the opening brackets up to it exceed the closing ones up to it by more than the limit
+abbrev pub NestsWithin : ℕ → List Lexeme → Type 0
+NestsWithin limit ts = (k : ℕ) → openings (take k ts) ≤ closings (take k ts) + limit
+
+-- at some token they do (clause 7)
+abbrev pub BreaksNesting : List Lexeme → Type 0
+BreaksNesting ts = (k : ℕ) × (closings (take k ts) + nesting_limit < openings (take k ts))
+
+-- ---- sentences
+
+-- the tokens are a sentence of the grammar
+abbrev pub IsSentence : List Lexeme → Type 0
+IsSentence ts = (f : File) × IsFile ts f
+
+-- a list begins as this one does, up to and with the token at this place; where the place is past the end, it is this one
+abbrev pub BeginsAlike : ℕ → List Lexeme → List Lexeme → Type 0
+BeginsAlike place ts us = (place ≤ length ts → take place us ≡ take place ts) × (length ts < place → us ≡ ts)
+
+-- some sentence begins with so many of the tokens
+abbrev pub BeginsSentence : ℕ → List Lexeme → Type 0
+BeginsSentence count ts = (us : List Lexeme) × (take count us ≡ take count ts) × IsSentence us
+
+-- Some sentence begins with the tokens before this place, from 1, and none with the tokens up to and with the one at it; or the
+-- place is the one after the last token, and they are no sentence.
+pub record IsStuckAt (ts : List Lexeme) (place : ℕ) : Type 0 where
+  pub positive : 0 < place
+  pub within : place ≤ length ts + 1
+  pub begins : BeginsSentence (place - 1) ts
+  pub stuck : (us : List Lexeme) → BeginsAlike place ts us → ¬ IsSentence us
+
+-- the tokens nest within the limit and are no sentence (clause 6)
+abbrev pub BreaksGrammar : List Lexeme → Type 0
+BreaksGrammar ts = NestsWithin nesting_limit ts × ¬ IsSentence ts
+
+-- the same, at this place
+pub record BreaksGrammarAt (ts : List Lexeme) (place : ℕ) : Type 0 where
+  pub nesting : NestsWithin nesting_limit ts
+  pub stuck : IsStuckAt ts place
+
+-- they nest within the limit, and this is their syntax tree
+pub record IsSyntaxTree (ts : List Lexeme) (f : File) : Type 0 where
+  pub nesting : NestsWithin nesting_limit ts
+  pub sentence : IsFile ts f
+
+-- this fault, unless memory ran out
+abbrev pub IsFaultOf : List Lexeme → SyntaxFault → Type 0
+IsFaultOf ts faults.Memory = Unit {0}
+IsFaultOf ts faults.TooDeep = BreaksNesting ts
+IsFaultOf ts (faults.Unexpected place) = BreaksGrammarAt ts place

@@ -1,0 +1,370 @@
+// Reading the parts of patterns and components that hold no other pattern.
+ghost use Rattle.std.specs.Prelude.{
+  ◌≡◌,
+  [],
+  ◌∷◌,
+  ◌<◌,
+  ◌≤◌,
+  Ok,
+  map,
+  option_map,
+  length,
+  IfOk,
+  IfSome,
+};
+ghost use Rattle.rnc_syntax.specs.Lexeme.{lexemes_in, local_in, prefix_in};
+ghost use Rattle.rnc_syntax.specs.Fault.{Gives, stop_of};
+ghost use Rattle.rnc_syntax.specs.Productions.{
+  atom_at,
+  begins_component as is_component_front,
+  begins_segment,
+  data_front,
+  joined,
+  lone_front,
+  method_at,
+  other_at,
+  repeated as repeated_of,
+  separator_of,
+  type_front,
+  typed_at,
+};
+ghost use Rattle.rnc_syntax.specs.Productions.{include_front, opening_front};
+ghost use Rattle.rnc_syntax.specs.Productions.{assigned_at};
+ghost use Rattle.rnc_syntax.specs.Productions.{assigned as assigned_of};
+ghost use Rattle.rnc_syntax.specs.Syntax as syntax;
+ghost use Rattle.rnc_syntax.specs.SyntaxView.{component_of, pattern_of, setting_of, type_of};
+
+use crate::fault::ReadFault;
+use crate::reading::{Reader, split_name};
+use crate::syntax_tree::{Component, DatatypeName, Method, Pattern};
+use rnc_text::{Keyword, Sign, Token, TokenKind};
+
+/// Where a component stands: in a grammar, or in the braces of an include.
+#[derive(Clone, Copy)]
+pub enum Setting {
+    Content,
+    Override,
+}
+
+/// What a primary that holds other patterns begins with.
+#[derive(Clone, Copy)]
+pub enum Opening {
+    Element,
+    Attribute,
+    List,
+    Mixed,
+    Grammar,
+    Parenthesis,
+}
+
+/// The name of a datatype that is written with a prefix.
+fn prefixed_type(text: &str) -> DatatypeName<'_>
+    ensures { type_of result ≡ syntax.prefixed_type (prefix_in text.now) (local_in text.now) }
+{
+    let (prefix, local) = split_name(text);
+    DatatypeName::Prefixed { prefix, local }
+}
+
+/// Two patterns or more about their connector.
+pub fn join<'a>(sign: Sign, all: Vec<Pattern<'a>>) -> Pattern<'a>
+    ensures { pattern_of result ≡ joined sign (map pattern_of all.entry.items) }
+{
+    match sign {
+        Sign::Comma => Pattern::Group(all),
+        Sign::And => Pattern::Interleave(all),
+        _ => Pattern::Choice(all),
+    }
+}
+
+/// A define of the name, or a start.
+pub fn component<'a>(name: Option<&'a str>, method: Method, body: Pattern<'a>) -> Component<'a>
+    ensures { component_of result ≡ assigned_of (option_map (λ n. n.now) name.entry) method (pattern_of body.entry) }
+{
+    match name {
+        None => Component::Start(method, body),
+        Some(name) => Component::Define(name, method, body),
+    }
+}
+
+impl Reader {
+    /// Whether a segment stands in front.
+    fn begins_with_segment(self, tokens: &[Token<'_>]) -> bool
+        ensures { result ≡ begins_segment (lexemes_in self.count tokens.now) }
+    {
+        match tokens {
+            [first, ..] => match first.kind {
+                TokenKind::Segment | TokenKind::TripleSegment => true,
+                _ => false,
+            },
+            [] => false,
+        }
+    }
+
+    /// Whether a component begins here.
+    pub fn begins_component(self, setting: Setting, tokens: &[Token<'_>]) -> bool
+        ensures { result ≡ is_component_front (setting_of setting) (lexemes_in self.count tokens.now) }
+    {
+        match tokens {
+            [first, ..] => match first.kind {
+                TokenKind::Identifier | TokenKind::QuotedIdentifier => true,
+                TokenKind::Keyword(Keyword::Start) => true,
+                TokenKind::Keyword(Keyword::Div) => true,
+                TokenKind::Keyword(Keyword::Include) => match setting {
+                    Setting::Content => true,
+                    Setting::Override => false,
+                },
+                _ => false,
+            },
+            [] => false,
+        }
+    }
+
+    /// The keyword or the parenthesis of a primary that holds other patterns, and the tokens after it.
+    pub fn find_opening<'t, 'a>(self, tokens: &'t [Token<'a>]) -> Option<(Opening, &'t [Token<'a>])>
+        ensures reads { option_map (λ x. (x.0, lexemes_in self.count x.1.now)) result ≡ opening_front (lexemes_in self.count tokens.now) }
+        ensures shorter { IfSome result (λ x. length x.1.now < length tokens.now) }
+    {
+        match tokens {
+            [first, rest @ ..] => match first.kind {
+                TokenKind::Keyword(Keyword::Element) => Some((Opening::Element, rest)),
+                TokenKind::Keyword(Keyword::Attribute) => Some((Opening::Attribute, rest)),
+                TokenKind::Keyword(Keyword::List) => Some((Opening::List, rest)),
+                TokenKind::Keyword(Keyword::Mixed) => Some((Opening::Mixed, rest)),
+                TokenKind::Keyword(Keyword::Grammar) => Some((Opening::Grammar, rest)),
+                TokenKind::Sign(Sign::OpenParenthesis) => Some((Opening::Parenthesis, rest)),
+                _ => None,
+            },
+            [] => None,
+        }
+    }
+
+    /// A define's name, or nothing for a start, with its method.
+    #[tactic(auto, unfolding(crate::specs::Productions::assigned_at))]
+    pub fn assigned<'t, 'a>(
+        self,
+        tokens: &'t [Token<'a>],
+    ) -> Result<(Option<&'a str>, Method, &'t [Token<'a>]), ReadFault>
+        ensures reads { Gives stop_of (λ x. ((option_map (λ n. n.now) x.0, x.1), lexemes_in self.count x.2.now)) result (assigned_at (lexemes_in self.count tokens.now)) }
+        ensures shorter { IfOk result (λ x. length x.2.now < length tokens.now) }
+    {
+        match tokens {
+            [first, rest @ ..] => match first.kind {
+                TokenKind::Identifier | TokenKind::QuotedIdentifier => {
+                    let (method, rest) = self.method(rest)?;
+                    Ok((Some(first.text), method, rest))
+                }
+                TokenKind::Keyword(Keyword::Start) => {
+                    let (method, rest) = self.method(rest)?;
+                    Ok((None, method, rest))
+                }
+                _ => Err(self.unexpected(tokens)),
+            },
+            [] => Err(self.unexpected(tokens)),
+        }
+    }
+
+    /// The place of `include`, if it stands in front, and the tokens after it.
+    pub fn find_include<'t, 'a>(self, tokens: &'t [Token<'a>]) -> Option<(usize, &'t [Token<'a>])>
+        ensures reads { option_map (λ x. (x.0, lexemes_in self.count x.1.now)) result ≡ include_front (lexemes_in self.count tokens.now) }
+        ensures shorter { IfSome result (λ x. length x.1.now < length tokens.now) }
+    {
+        match tokens {
+            [first, rest @ ..] => match first.kind {
+                TokenKind::Keyword(Keyword::Include) => {
+                    Some((self.count.saturating_sub(rest.len()), rest))
+                }
+                _ => None,
+            },
+            [] => None,
+        }
+    }
+
+    /// One pattern in a list of its own.
+    pub fn alone<'a>(self, pattern: Pattern<'a>) -> Result<Vec<Pattern<'a>>, ReadFault>
+        ensures { Gives stop_of (λ all. map pattern_of all.items) result (Ok (pattern_of pattern.entry ∷ [])) }
+    {
+        let mut all = Vec::new(self.alloc);
+        all.push(pattern)?;
+        Ok(all)
+    }
+
+    /// The connector in front.
+    pub fn separator(self, tokens: &[Token<'_>]) -> Option<Sign>
+        ensures { result ≡ separator_of (lexemes_in self.count tokens.now) }
+    {
+        match tokens {
+            [first, ..] => match first.kind {
+                TokenKind::Sign(Sign::Comma) => Some(Sign::Comma),
+                TokenKind::Sign(Sign::And) => Some(Sign::And),
+                TokenKind::Sign(Sign::Bar) => Some(Sign::Bar),
+                _ => None,
+            },
+            [] => None,
+        }
+    }
+
+    /// The name of a datatype in front, and the tokens after it.
+    fn find_type<'t, 'a>(
+        self,
+        tokens: &'t [Token<'a>],
+    ) -> Option<(DatatypeName<'a>, &'t [Token<'a>])>
+        ensures reads { option_map (λ x. (type_of x.0, lexemes_in self.count x.1.now)) result ≡ type_front (lexemes_in self.count tokens.now) }
+        ensures shorter { IfSome result (λ x. length x.1.now < length tokens.now) }
+    {
+        match tokens {
+            [first, rest @ ..] => match first.kind {
+                TokenKind::CName => Some((prefixed_type(first.text), rest)),
+                TokenKind::Keyword(Keyword::String) => Some((DatatypeName::String, rest)),
+                TokenKind::Keyword(Keyword::Token) => Some((DatatypeName::Token, rest)),
+                _ => None,
+            },
+            [] => None,
+        }
+    }
+
+    /// The name of a datatype in front, and the tokens after it, where no segment follows.
+    pub fn find_data<'t, 'a>(
+        self,
+        tokens: &'t [Token<'a>],
+    ) -> Option<(DatatypeName<'a>, &'t [Token<'a>])>
+        ensures reads { option_map (λ x. (type_of x.0, lexemes_in self.count x.1.now)) result ≡ data_front (lexemes_in self.count tokens.now) }
+        ensures shorter { IfSome result (λ x. length x.1.now < length tokens.now) }
+    {
+        let (type_name, rest) = self.find_type(tokens)?;
+        if self.begins_with_segment(rest) {
+            return None;
+        }
+        Some((type_name, rest))
+    }
+
+    /// A value or a datatype after its name: `literal` or `[params]`.
+    #[tactic(auto, unfolding(crate::specs::Productions::typed_at))]
+    fn typed<'t, 'a>(
+        self,
+        type_name: DatatypeName<'a>,
+        tokens: &'t [Token<'a>],
+    ) -> Result<(Pattern<'a>, &'t [Token<'a>]), ReadFault>
+        ensures reads { Gives stop_of (λ x. (pattern_of x.0, lexemes_in self.count x.1.now)) result (typed_at (type_of type_name.entry) (lexemes_in self.count tokens.now)) }
+        ensures shorter { IfOk result (λ x. length x.1.now ≤ length tokens.now) }
+    {
+        if self.begins_with_segment(tokens) {
+            let (text, rest) = self.literal(tokens)?;
+            return Ok((Pattern::Value(type_name, text), rest));
+        }
+        let (parameters, rest) = self.parameters(tokens)?;
+        Ok((Pattern::Data(type_name, parameters), rest))
+    }
+
+    /// A pattern that one token is, and the tokens after it.
+    fn find_lone<'t, 'a>(self, tokens: &'t [Token<'a>]) -> Option<(Pattern<'a>, &'t [Token<'a>])>
+        ensures reads { option_map (λ x. (pattern_of x.0, lexemes_in self.count x.1.now)) result ≡ lone_front (lexemes_in self.count tokens.now) }
+        ensures shorter { IfSome result (λ x. length x.1.now < length tokens.now) }
+    {
+        match tokens {
+            [first, rest @ ..] => match first.kind {
+                TokenKind::Keyword(Keyword::Empty) => Some((Pattern::Empty, rest)),
+                TokenKind::Keyword(Keyword::Text) => Some((Pattern::Text, rest)),
+                TokenKind::Keyword(Keyword::NotAllowed) => Some((Pattern::NotAllowed, rest)),
+                TokenKind::Identifier | TokenKind::QuotedIdentifier => {
+                    Some((Pattern::Ref(first.text), rest))
+                }
+                _ => None,
+            },
+            [] => None,
+        }
+    }
+
+    /// A primary of more tokens that begins with no datatype and holds no other pattern.
+    #[tactic(auto, unfolding(crate::specs::Productions::other_at))]
+    fn other<'t, 'a>(
+        self,
+        tokens: &'t [Token<'a>],
+    ) -> Result<(Pattern<'a>, &'t [Token<'a>]), ReadFault>
+        ensures reads { Gives stop_of (λ x. (pattern_of x.0, lexemes_in self.count x.1.now)) result (other_at (lexemes_in self.count tokens.now)) }
+        ensures shorter { IfOk result (λ x. length x.1.now < length tokens.now) }
+    {
+        match tokens {
+            [first, rest @ ..] => match first.kind {
+                TokenKind::Keyword(Keyword::Parent) => {
+                    let (name, rest) = self.identifier(rest)?;
+                    Ok((Pattern::ParentRef(name), rest))
+                }
+                TokenKind::Keyword(Keyword::External) => {
+                    let place = self.count.saturating_sub(rest.len());
+                    let (mention, rest) = self.mention(place, rest)?;
+                    Ok((Pattern::External(mention), rest))
+                }
+                TokenKind::Segment | TokenKind::TripleSegment => {
+                    let (text, rest) = self.literal(tokens)?;
+                    Ok((Pattern::Value(DatatypeName::Token, text), rest))
+                }
+                _ => Err(self.unexpected(tokens)),
+            },
+            [] => Err(self.unexpected(tokens)),
+        }
+    }
+
+    /// A primary that holds no other pattern.
+    #[tactic(auto, unfolding(crate::specs::Productions::atom_at))]
+    pub fn atom<'t, 'a>(
+        self,
+        tokens: &'t [Token<'a>],
+    ) -> Result<(Pattern<'a>, &'t [Token<'a>]), ReadFault>
+        ensures reads { Gives stop_of (λ x. (pattern_of x.0, lexemes_in self.count x.1.now)) result (atom_at (lexemes_in self.count tokens.now)) }
+        ensures shorter { IfOk result (λ x. length x.1.now < length tokens.now) }
+    {
+        match self.find_type(tokens) {
+            Some((type_name, rest)) => self.typed(type_name, rest),
+            None => match self.find_lone(tokens) {
+                Some((pattern, rest)) => Ok((pattern, rest)),
+                None => self.other(tokens),
+            },
+        }
+    }
+
+    /// How a component is joined with others: `"=" | "|=" | "&="`.
+    #[tactic(auto, unfolding(crate::specs::Productions::method_at))]
+    pub fn method<'t, 'a>(
+        self,
+        tokens: &'t [Token<'a>],
+    ) -> Result<(Method, &'t [Token<'a>]), ReadFault>
+        ensures reads { Gives stop_of (λ x. (x.0, lexemes_in self.count x.1.now)) result (method_at (lexemes_in self.count tokens.now)) }
+        ensures shorter { IfOk result (λ x. length x.1.now < length tokens.now) }
+    {
+        match tokens {
+            [first, rest @ ..] => match first.kind {
+                TokenKind::Sign(Sign::Equal) => Ok((Method::Plain, rest)),
+                TokenKind::Sign(Sign::BarEqual) => Ok((Method::Choice, rest)),
+                TokenKind::Sign(Sign::AndEqual) => Ok((Method::Interleave, rest)),
+                _ => Err(self.unexpected(tokens)),
+            },
+            [] => Err(self.unexpected(tokens)),
+        }
+    }
+
+    /// What `?`, `*` or `+` in front makes of a pattern.
+    pub fn repeated<'t, 'a>(
+        self,
+        pattern: Pattern<'a>,
+        tokens: &'t [Token<'a>],
+    ) -> Result<(Pattern<'a>, &'t [Token<'a>]), ReadFault>
+        ensures reads { Gives stop_of (λ x. (pattern_of x.0, lexemes_in self.count x.1.now)) result (Ok (repeated_of (pattern_of pattern.entry) (lexemes_in self.count tokens.now))) }
+        ensures shorter { IfOk result (λ x. length x.1.now ≤ length tokens.now) }
+    {
+        match tokens {
+            [first, rest @ ..] => match first.kind {
+                TokenKind::Sign(Sign::Question) => {
+                    Ok((Pattern::Optional(Box::new(self.alloc, pattern)?), rest))
+                }
+                TokenKind::Sign(Sign::Star) => {
+                    Ok((Pattern::ZeroOrMore(Box::new(self.alloc, pattern)?), rest))
+                }
+                TokenKind::Sign(Sign::Plus) => {
+                    Ok((Pattern::OneOrMore(Box::new(self.alloc, pattern)?), rest))
+                }
+                _ => Ok((pattern, tokens)),
+            },
+            [] => Ok((pattern, tokens)),
+        }
+    }
+}

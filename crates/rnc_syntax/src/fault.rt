@@ -1,0 +1,48 @@
+// Why tokens have no syntax tree.
+ghost use Rattle.std.specs.Prelude.{◌≡◌};
+ghost use Rattle.rnc_syntax.specs.declared.fault.ReadFault.TheVariants as read_faults;
+
+use std::alloc::{AllocError, AllocFailed};
+
+/// Why tokens have no syntax tree.
+#[derive(Clone, Copy)]
+pub enum SyntaxFault {
+    /// At some token the brackets open up to it are more than 128.
+    TooDeep,
+    /// The tokens are no sentence: some sentence begins with the tokens before this place, from 1, and none with the
+    /// tokens up to and with the one at it. The place after the last token stands for their end.
+    Unexpected { place: u64 },
+    /// Memory ran out, which says nothing about the tokens.
+    Memory,
+}
+
+/// What stops the reading of tokens: a token that no production allows where it stands, counted with those after it,
+/// or the end of the tokens, which counts 0; or too many open brackets.
+#[derive(Clone, Copy)]
+pub enum Stop {
+    Unexpected(usize),
+    TooDeep,
+}
+
+/// Why nothing was read.
+#[derive(Clone, Copy)]
+pub enum ReadFault {
+    Stop(Stop),
+    Memory,
+}
+
+impl From<AllocError> for ReadFault {
+    ghost from_gives = { λ _ e. e ≡ read_faults.Memory };
+
+    fn from(_e: AllocError) -> ReadFault {
+        ReadFault::Memory
+    }
+}
+
+impl<T: Drop> From<AllocFailed<T>> for ReadFault {
+    ghost from_gives = { λ _ e. e ≡ read_faults.Memory };
+
+    fn from(_e: AllocFailed<T>) -> ReadFault {
+        ReadFault::Memory
+    }
+}

@@ -1,0 +1,212 @@
+// Reading files: declarations, and what follows them.
+ghost use Rattle.std.specs.Prelude.{◌≡◌, ◌<◌, ◌≤◌, map, length, IfOk};
+ghost use Rattle.rnc_syntax.specs.Lexeme.{lexemes_in};
+ghost use Rattle.rnc_syntax.specs.Fault.{Gives, stop_of};
+ghost use Rattle.rnc_syntax.specs.Productions.{
+  begins_declaration as is_declaration_front,
+  begins_method as is_method_front,
+  body_with,
+  declaration_at,
+  declarations_at,
+  default_at,
+  file_with,
+  inside_at,
+  is_grammar_body,
+  prefix_at,
+  uri_at,
+};
+ghost use Rattle.rnc_syntax.specs.SyntaxView.{body_of, declaration_of, file_of, uri_of};
+
+use crate::atoms::Setting;
+use crate::fault::ReadFault;
+use crate::reading::{Reader, onward};
+use crate::syntax_tree::{Body, Declaration, File, Uri};
+use rnc_text::{Keyword, Sign, Token, TokenKind};
+
+impl Reader {
+    /// Whether a declaration begins here.
+    fn begins_declaration(self, tokens: &[Token<'_>]) -> bool
+        ensures { result ≡ is_declaration_front (lexemes_in self.count tokens.now) }
+    {
+        match tokens {
+            [first, ..] => match first.kind {
+                TokenKind::Keyword(Keyword::Namespace) => true,
+                TokenKind::Keyword(Keyword::Default) => true,
+                TokenKind::Keyword(Keyword::Datatypes) => true,
+                _ => false,
+            },
+            [] => false,
+        }
+    }
+
+    /// Whether a method stands in front.
+    fn begins_with_method(self, tokens: &[Token<'_>]) -> bool
+        ensures { result ≡ is_method_front (lexemes_in self.count tokens.now) }
+    {
+        match tokens {
+            [first, ..] => match first.kind {
+                TokenKind::Sign(Sign::Equal) => true,
+                TokenKind::Sign(Sign::BarEqual) => true,
+                TokenKind::Sign(Sign::AndEqual) => true,
+                _ => false,
+            },
+            [] => false,
+        }
+    }
+
+    /// Whether what follows the declarations is a grammar: no tokens, a component's keyword, or an identifier and a
+    /// method.
+    fn begins_grammar(self, tokens: &[Token<'_>]) -> bool
+        ensures { result ≡ is_grammar_body (lexemes_in self.count tokens.now) }
+    {
+        match tokens {
+            [first, rest @ ..] => match first.kind {
+                TokenKind::Keyword(Keyword::Start) => true,
+                TokenKind::Keyword(Keyword::Div) => true,
+                TokenKind::Keyword(Keyword::Include) => true,
+                TokenKind::Identifier | TokenKind::QuotedIdentifier => {
+                    self.begins_with_method(rest)
+                }
+                _ => false,
+            },
+            [] => true,
+        }
+    }
+
+    /// `literal | "inherit"`.
+    #[tactic(auto, unfolding(crate::specs::Productions::uri_at))]
+    fn uri<'t, 'a>(self, tokens: &'t [Token<'a>]) -> Result<(Uri<'a>, &'t [Token<'a>]), ReadFault>
+        ensures reads { Gives stop_of (λ x. (uri_of x.0, lexemes_in self.count x.1.now)) result (uri_at (lexemes_in self.count tokens.now)) }
+        ensures shorter { IfOk result (λ x. length x.1.now < length tokens.now) }
+    {
+        match self.find_after_keyword(Keyword::Inherit, tokens) {
+            Some(rest) => Ok((Uri::Inherit, rest)),
+            None => {
+                let (uri, rest) = self.literal(tokens)?;
+                Ok((Uri::Literal(uri), rest))
+            }
+        }
+    }
+
+    /// `word "=" uri`.
+    #[tactic(auto, unfolding(crate::specs::Productions::prefix_at))]
+    fn prefix<'t, 'a>(
+        self,
+        tokens: &'t [Token<'a>],
+    ) -> Result<(&'a str, Uri<'a>, &'t [Token<'a>]), ReadFault>
+        ensures reads { Gives stop_of (λ x. ((x.0.now, uri_of x.1), lexemes_in self.count x.2.now)) result (prefix_at (lexemes_in self.count tokens.now)) }
+        ensures shorter { IfOk result (λ x. length x.2.now < length tokens.now) }
+    {
+        let (prefix, rest) = self.word(tokens)?;
+        let rest = self.skip(Sign::Equal, rest)?;
+        let (uri, rest) = self.uri(rest)?;
+        Ok((prefix, uri, rest))
+    }
+
+    /// What follows `default namespace`: `[word] "=" uri`.
+    #[tactic(auto, unfolding(crate::specs::Productions::default_at))]
+    fn default_namespace<'t, 'a>(
+        self,
+        tokens: &'t [Token<'a>],
+    ) -> Result<(Declaration<'a>, &'t [Token<'a>]), ReadFault>
+        ensures reads { Gives stop_of (λ x. (declaration_of x.0, lexemes_in self.count x.1.now)) result (default_at (lexemes_in self.count tokens.now)) }
+        ensures shorter { IfOk result (λ x. length x.1.now < length tokens.now) }
+    {
+        match self.find_after(Sign::Equal, tokens) {
+            Some(rest) => {
+                let (uri, rest) = self.uri(rest)?;
+                Ok((Declaration::Default { prefix: None, uri }, rest))
+            }
+            None => {
+                let (prefix, uri, rest) = self.prefix(tokens)?;
+                Ok((
+                    Declaration::Default {
+                        prefix: Some(prefix),
+                        uri,
+                    },
+                    rest,
+                ))
+            }
+        }
+    }
+
+    /// One declaration.
+    #[tactic(auto, unfolding(crate::specs::Productions::declaration_at))]
+    fn declaration<'t, 'a>(
+        self,
+        tokens: &'t [Token<'a>],
+    ) -> Result<(Declaration<'a>, &'t [Token<'a>]), ReadFault>
+        ensures reads { Gives stop_of (λ x. (declaration_of x.0, lexemes_in self.count x.1.now)) result (declaration_at (lexemes_in self.count tokens.now)) }
+        ensures shorter { IfOk result (λ x. length x.1.now < length tokens.now) }
+    {
+        match tokens {
+            [first, rest @ ..] => match first.kind {
+                TokenKind::Keyword(Keyword::Namespace) => {
+                    let (prefix, uri, rest) = self.prefix(rest)?;
+                    Ok((Declaration::Namespace { prefix, uri }, rest))
+                }
+                TokenKind::Keyword(Keyword::Default) => {
+                    let rest = self.skip_keyword(Keyword::Namespace, rest)?;
+                    self.default_namespace(rest)
+                }
+                TokenKind::Keyword(Keyword::Datatypes) => {
+                    let (declared, rest) = self.parameter(rest)?;
+                    Ok((Declaration::Datatypes(declared), rest))
+                }
+                _ => Err(self.unexpected(tokens)),
+            },
+            [] => Err(self.unexpected(tokens)),
+        }
+    }
+
+    /// The declarations at the start of a file.
+    #[tactic(auto, unfolding(crate::specs::Productions::declarations_at))]
+    fn declarations<'t, 'a>(
+        self,
+        tokens: &'t [Token<'a>],
+    ) -> Result<(Vec<Declaration<'a>>, &'t [Token<'a>]), ReadFault>
+        ensures reads { Gives stop_of (λ x. (map declaration_of x.0.items, lexemes_in self.count x.1.now)) result (declarations_at (lexemes_in self.count tokens.now)) }
+        ensures shorter { IfOk result (λ x. length x.1.now ≤ length tokens.now) }
+    {
+        let mut all = Vec::new(self.alloc);
+        let mut rest = tokens;
+        while self.begins_declaration(rest) {
+            let (next, after) = self.declaration(rest)?;
+            all.push(next)?;
+            rest = onward(after);
+        }
+        Ok((all, rest))
+    }
+
+    /// What follows the declarations.
+    #[tactic(auto, unfolding(crate::specs::Productions::body_with))]
+    fn body<'t, 'a>(
+        self,
+        levels: u8,
+        tokens: &'t [Token<'a>],
+    ) -> Result<(Body<'a>, &'t [Token<'a>]), ReadFault>
+        ensures reads { Gives stop_of (λ x. (body_of x.0, lexemes_in self.count x.1.now)) result (body_with (inside_at levels) (lexemes_in self.count tokens.now)) }
+        ensures shorter { IfOk result (λ x. length x.1.now ≤ length tokens.now) }
+    {
+        if self.begins_grammar(tokens) {
+            let (components, rest) = self.components(levels, Setting::Content, tokens)?;
+            Ok((Body::Grammar(components), rest))
+        } else {
+            let (pattern, rest) = self.pattern(levels, tokens)?;
+            Ok((Body::Pattern(pattern), rest))
+        }
+    }
+
+    /// A whole file, inside which so many brackets may be open.
+    #[tactic(auto, unfolding(crate::specs::Productions::file_with))]
+    pub fn file<'a>(self, levels: u8, tokens: &[Token<'a>]) -> Result<File<'a>, ReadFault>
+        ensures { Gives stop_of file_of result (file_with (inside_at levels) (lexemes_in self.count tokens.now)) }
+    {
+        let (declarations, rest) = self.declarations(tokens)?;
+        let (body, rest) = self.body(levels, rest)?;
+        if !rest.is_empty() {
+            return Err(self.unexpected(rest));
+        }
+        Ok(File { declarations, body })
+    }
+}

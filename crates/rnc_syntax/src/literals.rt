@@ -1,0 +1,156 @@
+// Reading literals, parameters of datatypes, and mentions.
+ghost use Rattle.std.specs.Prelude.{◌≡◌, ◌<◌, ◌≤◌, ℕ, ◌-◌, Some, None, if◌then◌else◌, map, option_map, length, IfOk};
+ghost use Rattle.rnc_syntax.specs.Lexeme.{lexemes_in};
+ghost use Rattle.rnc_syntax.specs.Combinators.{follow, many, segment_at, with_front};
+ghost use Rattle.rnc_syntax.specs.Fault.{Gives, stop_of};
+ghost use Rattle.rnc_syntax.specs.Productions.{inherit_at, literal_at, mention_at, parameter_at, parameters_at, word_front};
+ghost use Rattle.rnc_syntax.specs.SyntaxView.{mention_of, parameter_of, text_of};
+ghost use Rattle.rnc_text.specs.declared.token.Sign.TheVariants.{Tilde};
+
+use crate::fault::ReadFault;
+use crate::reading::{Reader, onward};
+use crate::syntax_tree::{Literal, Mention, Parameter};
+use rnc_text::{Keyword, Sign, Token, TokenKind};
+
+impl Reader {
+    /// The segments of a literal: `segment ("~" segment)*`.
+    #[tactic(auto, unfolding(crate::specs::Productions::literal_at))]
+    pub fn literal<'t, 'a>(
+        self,
+        tokens: &'t [Token<'a>],
+    ) -> Result<(Literal<'a>, &'t [Token<'a>]), ReadFault>
+        ensures reads { Gives stop_of (λ x. (text_of x.0, lexemes_in self.count x.1.now)) result (literal_at (lexemes_in self.count tokens.now)) }
+        ensures shorter { IfOk result (λ x. length x.1.now < length tokens.now) }
+    {
+        let (first, rest) = self.segment(tokens)?;
+        let mut segments = Vec::new(self.alloc);
+        segments.push(first)?;
+        let (segments, rest) = self.more_segments(segments, rest)?;
+        Ok((Literal { segments }, rest))
+    }
+
+    /// The segments so far and those that follow, each with `~` before it.
+    fn more_segments<'t, 'a>(
+        self,
+        mut segments: Vec<&'a str>,
+        tokens: &'t [Token<'a>],
+    ) -> Result<(Vec<&'a str>, &'t [Token<'a>]), ReadFault>
+        ensures reads { Gives stop_of (λ x. (map (λ s. s.now) x.0.items, lexemes_in self.count x.1.now)) result (with_front (map (λ s. s.now) segments.entry.items) (many (follow Tilde) segment_at (lexemes_in self.count tokens.now))) }
+        ensures shorter { IfOk result (λ x. length x.1.now ≤ length tokens.now) }
+    {
+        let mut rest = tokens;
+        while let Some(after) = self.find_after(Sign::Tilde, rest) {
+            let (next, after) = self.segment(after)?;
+            segments.push(next)?;
+            rest = onward(after);
+        }
+        Ok((segments, rest))
+    }
+
+    /// A parameter: `word "=" literal`.
+    #[tactic(auto, unfolding(crate::specs::Productions::parameter_at))]
+    pub fn parameter<'t, 'a>(
+        self,
+        tokens: &'t [Token<'a>],
+    ) -> Result<(Parameter<'a>, &'t [Token<'a>]), ReadFault>
+        ensures reads { Gives stop_of (λ x. (parameter_of x.0, lexemes_in self.count x.1.now)) result (parameter_at (lexemes_in self.count tokens.now)) }
+        ensures shorter { IfOk result (λ x. length x.1.now < length tokens.now) }
+    {
+        let (name, rest) = self.word(tokens)?;
+        let rest = self.skip(Sign::Equal, rest)?;
+        let (value, rest) = self.literal(rest)?;
+        Ok((Parameter { name, value }, rest))
+    }
+
+    /// The parameters of a datatype, in braces, if a brace opens: `["{" param* "}"]`.
+    #[tactic(auto, unfolding(crate::specs::Productions::parameters_at, crate::specs::Productions::in_braces_at))]
+    pub fn parameters<'t, 'a>(
+        self,
+        tokens: &'t [Token<'a>],
+    ) -> Result<(Vec<Parameter<'a>>, &'t [Token<'a>]), ReadFault>
+        ensures reads { Gives stop_of (λ x. (map parameter_of x.0.items, lexemes_in self.count x.1.now)) result (parameters_at (lexemes_in self.count tokens.now)) }
+        ensures shorter { IfOk result (λ x. length x.1.now ≤ length tokens.now) }
+    {
+        match self.find_after(Sign::OpenBrace, tokens) {
+            None => Ok((Vec::new(self.alloc), tokens)),
+            Some(rest) => {
+                let (parameters, rest) = self.parameter_list(rest)?;
+                let rest = self.skip(Sign::CloseBrace, rest)?;
+                Ok((parameters, rest))
+            }
+        }
+    }
+
+    /// Parameters one after another.
+    fn parameter_list<'t, 'a>(
+        self,
+        tokens: &'t [Token<'a>],
+    ) -> Result<(Vec<Parameter<'a>>, &'t [Token<'a>]), ReadFault>
+        ensures reads { Gives stop_of (λ x. (map parameter_of x.0.items, lexemes_in self.count x.1.now)) result (many word_front parameter_at (lexemes_in self.count tokens.now)) }
+        ensures shorter { IfOk result (λ x. length x.1.now ≤ length tokens.now) }
+    {
+        let mut parameters = Vec::new(self.alloc);
+        let mut rest = tokens;
+        while begins_with_word(rest) {
+            let (next, after) = self.parameter(rest)?;
+            parameters.push(next)?;
+            rest = onward(after);
+        }
+        Ok((parameters, rest))
+    }
+
+    /// The prefix that a mention names: `["inherit" "=" word]`.
+    #[tactic(auto, unfolding(crate::specs::Productions::inherit_at, crate::specs::Productions::word_after_equal))]
+    pub fn inherit<'t, 'a>(
+        self,
+        tokens: &'t [Token<'a>],
+    ) -> Result<(Option<&'a str>, &'t [Token<'a>]), ReadFault>
+        ensures reads { Gives stop_of (λ x. (option_map (λ p. p.now) x.0, lexemes_in self.count x.1.now)) result (inherit_at (lexemes_in self.count tokens.now)) }
+        ensures shorter { IfOk result (λ x. length x.1.now ≤ length tokens.now) }
+    {
+        match self.find_after_keyword(Keyword::Inherit, tokens) {
+            None => Ok((None, tokens)),
+            Some(rest) => {
+                let rest = self.skip(Sign::Equal, rest)?;
+                let (prefix, rest) = self.word(rest)?;
+                Ok((Some(prefix), rest))
+            }
+        }
+    }
+
+    /// A mention, after its keyword, which stands at this place: `literal [inherit]`.
+    #[tactic(auto, unfolding(crate::specs::Productions::mention_at))]
+    pub fn mention<'t, 'a>(
+        self,
+        token: usize,
+        tokens: &'t [Token<'a>],
+    ) -> Result<(Mention<'a>, &'t [Token<'a>]), ReadFault>
+        ensures reads { Gives stop_of (λ x. (mention_of x.0, lexemes_in self.count x.1.now)) result (mention_at token (lexemes_in self.count tokens.now)) }
+        ensures shorter { IfOk result (λ x. length x.1.now < length tokens.now) }
+    {
+        let (href, rest) = self.literal(tokens)?;
+        let (inherit, rest) = self.inherit(rest)?;
+        Ok((
+            Mention {
+                href,
+                inherit,
+                token,
+            },
+            rest,
+        ))
+    }
+}
+
+/// Whether a word stands in front.
+fn begins_with_word(tokens: &[Token<'_>]) -> bool
+    ensures { (count : ℕ) → word_front (lexemes_in count tokens.now) ≡ (if result then Some (lexemes_in count tokens.now) else None) }
+{
+    match tokens {
+        [first, ..] => match first.kind {
+            TokenKind::Identifier | TokenKind::QuotedIdentifier => true,
+            TokenKind::Keyword(_) => true,
+            _ => false,
+        },
+        [] => false,
+    }
+}

@@ -1,0 +1,193 @@
+// Reading name classes.
+ghost use Rattle.std.specs.Prelude.{◌≡◌, ◌<◌, ◌≤◌, map, option_map, length, IfOk, IfSome};
+ghost use Rattle.rnc_syntax.specs.Lexeme.{lexemes_in, prefix_in, local_in};
+ghost use Rattle.rnc_syntax.specs.Combinators.{follow, many, with_front};
+ghost use Rattle.rnc_syntax.specs.Fault.{Gives, stop_of};
+ghost use Rattle.rnc_syntax.specs.Productions.{basic_with, choice_with, class_with, except_front, excepted, inside_at, wide_front};
+ghost use Rattle.rnc_syntax.specs.Syntax as syntax;
+ghost use Rattle.rnc_syntax.specs.SyntaxView.{class_of};
+ghost use Rattle.rnc_text.specs.declared.token.Sign.TheVariants.{Bar};
+
+use crate::fault::{ReadFault, Stop};
+use crate::reading::{Reader, onward, split_name};
+use crate::syntax_tree::{NameClass, QualifiedName};
+use rnc_text::{Sign, Token, TokenKind};
+
+/// A name without a prefix, as a class.
+fn unprefixed(local: &str) -> NameClass<'_>
+    ensures { class_of result ≡ syntax.name_is (syntax.unprefixed local.now) }
+{
+    NameClass::Name(QualifiedName {
+        prefix: None,
+        local,
+    })
+}
+
+/// A name with a prefix, as a class.
+fn prefixed(text: &str) -> NameClass<'_>
+    ensures { class_of result ≡ syntax.name_is (syntax.prefixed (prefix_in text.now) (local_in text.now)) }
+{
+    let (prefix, local) = split_name(text);
+    NameClass::Name(QualifiedName {
+        prefix: Some(prefix),
+        local,
+    })
+}
+
+/// All names, or those of a prefix, without those of a class.
+fn except<'a>(prefix: Option<&'a str>, class: Box<NameClass<'a>>) -> NameClass<'a>
+    ensures { class_of result ≡ excepted (option_map (λ p. p.now) prefix.entry) (class_of class.entry.value) }
+{
+    match prefix {
+        None => NameClass::AnyExcept(class),
+        Some(prefix) => NameClass::NsExcept(prefix, class),
+    }
+}
+
+impl Reader {
+    /// `*` or `p:*` in front, and the tokens after it.
+    fn find_wide<'t, 'a>(
+        self,
+        tokens: &'t [Token<'a>],
+    ) -> Option<(Option<&'a str>, &'t [Token<'a>])>
+        ensures reads { option_map (λ x. (option_map (λ p. p.now) x.0, lexemes_in self.count x.1.now)) result ≡ wide_front (lexemes_in self.count tokens.now) }
+        ensures shorter { IfSome result (λ x. length x.1.now < length tokens.now) }
+    {
+        match tokens {
+            [first, rest @ ..] => match first.kind {
+                TokenKind::Sign(Sign::Star) => Some((None, rest)),
+                TokenKind::NsName => Some((Some(split_name(first.text).0), rest)),
+                _ => None,
+            },
+            [] => None,
+        }
+    }
+
+    /// `*` or `p:*` in front, with `-` after it, and the tokens after that.
+    fn find_except<'t, 'a>(
+        self,
+        tokens: &'t [Token<'a>],
+    ) -> Option<(Option<&'a str>, &'t [Token<'a>])>
+        ensures reads { option_map (λ x. (option_map (λ p. p.now) x.0, lexemes_in self.count x.1.now)) result ≡ except_front (lexemes_in self.count tokens.now) }
+        ensures shorter { IfSome result (λ x. length x.1.now < length tokens.now) }
+    {
+        let (prefix, rest) = self.find_wide(tokens)?;
+        let rest = self.find_after(Sign::Minus, rest)?;
+        Some((prefix, rest))
+    }
+
+    /// A name class that stands in so many brackets less than may be open:
+    /// `basic | basic ("|" basic)+ | (nsName | "*") "-" basic`.
+    #[cycle(classes)]
+    #[tactic(auto, unfolding(crate::specs::Productions::class_with))]
+    pub fn class<'t, 'a>(
+        self,
+        levels: u8,
+        tokens: &'t [Token<'a>],
+    ) -> Result<(NameClass<'a>, &'t [Token<'a>]), ReadFault>
+        ensures reads { Gives stop_of (λ x. (class_of x.0, lexemes_in self.count x.1.now)) result (class_with (basic_with (inside_at levels).class) (lexemes_in self.count tokens.now)) }
+        ensures shorter { IfOk result (λ x. length x.1.now < length tokens.now) }
+    {
+        match self.find_except(tokens) {
+            Some((prefix, rest)) => {
+                let (class, rest) = self.basic(levels, rest)?;
+                let class = Box::new(self.alloc, class)?;
+                Ok((except(prefix, class), rest))
+            }
+            None => {
+                let (class, rest) = self.basic(levels, tokens)?;
+                self.choice(levels, class, rest)
+            }
+        }
+    }
+
+    /// A class and those that follow, each with `|` before it.
+    #[cycle(classes)]
+    #[tactic(auto, unfolding(crate::specs::Productions::choice_with))]
+    fn choice<'t, 'a>(
+        self,
+        levels: u8,
+        first: NameClass<'a>,
+        tokens: &'t [Token<'a>],
+    ) -> Result<(NameClass<'a>, &'t [Token<'a>]), ReadFault>
+        ensures reads { Gives stop_of (λ x. (class_of x.0, lexemes_in self.count x.1.now)) result (choice_with (basic_with (inside_at levels).class) (class_of first.entry) (lexemes_in self.count tokens.now)) }
+        ensures shorter { IfOk result (λ x. length x.1.now ≤ length tokens.now) }
+    {
+        match self.find_after(Sign::Bar, tokens) {
+            None => Ok((first, tokens)),
+            Some(_) => {
+                let mut all = Vec::new(self.alloc);
+                all.push(first)?;
+                let (all, rest) = self.more_classes(levels, all, tokens)?;
+                Ok((NameClass::Choice(all), rest))
+            }
+        }
+    }
+
+    /// The classes so far and those that follow, each with `|` before it.
+    #[cycle(classes)]
+    fn more_classes<'t, 'a>(
+        self,
+        levels: u8,
+        mut all: Vec<NameClass<'a>>,
+        tokens: &'t [Token<'a>],
+    ) -> Result<(Vec<NameClass<'a>>, &'t [Token<'a>]), ReadFault>
+        ensures reads { Gives stop_of (λ x. (map class_of x.0.items, lexemes_in self.count x.1.now)) result (with_front (map class_of all.entry.items) (many (follow Bar) (basic_with (inside_at levels).class) (lexemes_in self.count tokens.now))) }
+        ensures shorter { IfOk result (λ x. length x.1.now ≤ length tokens.now) }
+    {
+        let mut rest = tokens;
+        while let Some(after) = self.find_after(Sign::Bar, rest) {
+            let (next, after) = self.basic(levels, after)?;
+            all.push(next)?;
+            rest = onward(after);
+        }
+        Ok((all, rest))
+    }
+
+    /// `word | CName | nsName | "*" | "(" class ")"`.
+    #[cycle(classes)]
+    #[tactic(auto, unfolding(crate::specs::Productions::basic_with, crate::specs::Productions::class_in_parens))]
+    fn basic<'t, 'a>(
+        self,
+        levels: u8,
+        tokens: &'t [Token<'a>],
+    ) -> Result<(NameClass<'a>, &'t [Token<'a>]), ReadFault>
+        ensures reads { Gives stop_of (λ x. (class_of x.0, lexemes_in self.count x.1.now)) result (basic_with (inside_at levels).class (lexemes_in self.count tokens.now)) }
+        ensures shorter { IfOk result (λ x. length x.1.now < length tokens.now) }
+    {
+        match tokens {
+            [first, rest @ ..] => match first.kind {
+                TokenKind::Identifier | TokenKind::QuotedIdentifier | TokenKind::Keyword(_) => {
+                    Ok((unprefixed(first.text), rest))
+                }
+                TokenKind::CName => Ok((prefixed(first.text), rest)),
+                TokenKind::NsName => Ok((NameClass::Ns(split_name(first.text).0), rest)),
+                TokenKind::Sign(Sign::Star) => Ok((NameClass::Any, rest)),
+                TokenKind::Sign(Sign::OpenParenthesis) => {
+                    let (class, rest) = self.inner_class(levels, rest)?;
+                    let rest = self.skip(Sign::CloseParenthesis, rest)?;
+                    Ok((class, rest))
+                }
+                _ => Err(self.unexpected(tokens)),
+            },
+            [] => Err(self.unexpected(tokens)),
+        }
+    }
+
+    /// A name class in one bracket more.
+    #[cycle(classes)]
+    #[tactic(auto, using(crate::proofs::InsideBrackets::class_step, crate::proofs::InsideBrackets::class_too_deep))]
+    fn inner_class<'t, 'a>(
+        self,
+        levels: u8,
+        tokens: &'t [Token<'a>],
+    ) -> Result<(NameClass<'a>, &'t [Token<'a>]), ReadFault>
+        ensures reads { Gives stop_of (λ x. (class_of x.0, lexemes_in self.count x.1.now)) result ((inside_at levels).class (lexemes_in self.count tokens.now)) }
+        ensures shorter { IfOk result (λ x. length x.1.now < length tokens.now) }
+    {
+        if levels == 0 {
+            return Err(ReadFault::Stop(Stop::TooDeep));
+        }
+        self.class(levels - 1, tokens)
+    }
+}

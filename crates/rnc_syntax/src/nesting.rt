@@ -1,0 +1,51 @@
+// How deep brackets nest.
+ghost use Rattle.std.specs.Prelude.{◌≡◌, [], MatchBool};
+ghost use Rattle.rnc_syntax.specs.Lexeme.{lexeme_at, lexemes};
+ghost use Rattle.rnc_syntax.specs.Sentence.{
+  BreaksNesting,
+  NestsWithin,
+  is_closing,
+  is_opening,
+  nesting_limit,
+};
+
+use rnc_text::{Sign, Token, TokenKind};
+
+/// How many brackets may be open.
+pub const NESTING_LIMIT: u8 = 128;
+
+/// Whether a token of this kind opens a bracket.
+fn opens(kind: TokenKind) -> bool
+    ensures { result ≡ is_opening (lexeme_at kind [] 0) }
+{
+    match kind {
+        TokenKind::Sign(Sign::OpenBrace | Sign::OpenParenthesis) => true,
+        _ => false,
+    }
+}
+
+/// Whether a token of this kind closes a bracket.
+fn closes(kind: TokenKind) -> bool
+    ensures { result ≡ is_closing (lexeme_at kind [] 0) }
+{
+    match kind {
+        TokenKind::Sign(Sign::CloseBrace | Sign::CloseParenthesis) => true,
+        _ => false,
+    }
+}
+
+/// Whether at no token the opening brackets up to it exceed the closing ones up to it by more than the limit.
+pub fn nests_within_limit(tokens: &[Token<'_>]) -> bool
+    ensures { MatchBool result (NestsWithin nesting_limit (lexemes tokens.now)) (BreaksNesting (lexemes tokens.now)) }
+{
+    let mut opened = 0usize;
+    let mut closed = 0usize;
+    for token in tokens {
+        opened += usize::from(opens(token.kind));
+        closed += usize::from(closes(token.kind));
+        if opened.saturating_sub(closed) > usize::from(NESTING_LIMIT) {
+            return false;
+        }
+    }
+    true
+}

@@ -1,0 +1,161 @@
+// Reading tokens from left to right.
+ghost use Rattle.std.specs.Prelude.{◌≡◌, ◌<◌, option_map, length, IfOk, IfSome};
+ghost use Rattle.rnc_syntax.specs.Lexeme.{lexemes_in, local_in, prefix_in};
+ghost use Rattle.rnc_syntax.specs.Combinators.{after, after_keyword, follow, follow_keyword, word_at, identifier_at, segment_at};
+ghost use Rattle.rnc_syntax.specs.Fault.{Gives, stop_of};
+ghost use Rattle.rnc_syntax.specs.declared.fault.Stop.TheVariants.{Unexpected};
+ghost use Rattle.rnc_syntax.specs.declared.fault.ReadFault.TheVariants as read_faults;
+
+use crate::fault::{ReadFault, Stop};
+use rnc_text::{Keyword, Sign, Token, TokenKind};
+use std::alloc::Global;
+
+/// The same tokens. A loop that goes on with tokens out of an answer takes them through this call, by which the check
+/// knows how long they live.
+pub fn onward<'t, 'a>(tokens: &'t [Token<'a>]) -> &'t [Token<'a>]
+    ensures { result.now ≡ tokens.now }
+{
+    tokens
+}
+
+/// The prefix of a name, which is all before its first colon, and the local part, which is all after it.
+pub fn split_name(text: &str) -> (&str, &str)
+    ensures prefix { result.0.now ≡ prefix_in text.now }
+    ensures local { result.1.now ≡ local_in text.now }
+{
+    match text.split_once(':') {
+        Some((prefix, local)) => (prefix, local),
+        None => (text, ""),
+    }
+}
+
+/// A reader of the tokens of a file, which are so many.
+#[derive(Clone, Copy)]
+pub struct Reader {
+    pub alloc: Global,
+    pub count: usize,
+}
+
+impl Reader {
+    /// The fault where no production allows the first of these tokens, or their end.
+    #[tactic(auto, using(crate::proofs::Lexemes::length_of_lexemes))]
+    pub fn unexpected(self, tokens: &[Token<'_>]) -> ReadFault
+        ensures { result ≡ read_faults.Stop (Unexpected (length (lexemes_in self.count tokens.now))) }
+    {
+        ReadFault::Stop(Stop::Unexpected(tokens.len()))
+    }
+
+    /// The tokens after this sign, where it stands in front.
+    pub fn find_after<'t, 'a>(self, sign: Sign, tokens: &'t [Token<'a>]) -> Option<&'t [Token<'a>]>
+        ensures reads { option_map (λ x. lexemes_in self.count x.now) result ≡ follow sign (lexemes_in self.count tokens.now) }
+        ensures shorter { IfSome result (λ x. length x.now < length tokens.now) }
+    {
+        match tokens {
+            [first, rest @ ..] if first.kind == TokenKind::Sign(sign) => Some(rest),
+            _ => None,
+        }
+    }
+
+    /// The tokens after this sign, which has to stand in front.
+    #[tactic(auto, unfolding(crate::specs::Combinators::after))]
+    pub fn skip<'t, 'a>(
+        self,
+        sign: Sign,
+        tokens: &'t [Token<'a>],
+    ) -> Result<&'t [Token<'a>], ReadFault>
+        ensures reads { Gives stop_of (λ x. (tt, lexemes_in self.count x.now)) result (after sign (lexemes_in self.count tokens.now)) }
+        ensures shorter { IfOk result (λ x. length x.now < length tokens.now) }
+    {
+        match self.find_after(sign, tokens) {
+            Some(rest) => Ok(rest),
+            None => Err(self.unexpected(tokens)),
+        }
+    }
+
+    /// The tokens after this keyword, where it stands in front.
+    pub fn find_after_keyword<'t, 'a>(
+        self,
+        keyword: Keyword,
+        tokens: &'t [Token<'a>],
+    ) -> Option<&'t [Token<'a>]>
+        ensures reads { option_map (λ x. lexemes_in self.count x.now) result ≡ follow_keyword keyword (lexemes_in self.count tokens.now) }
+        ensures shorter { IfSome result (λ x. length x.now < length tokens.now) }
+    {
+        match tokens {
+            [first, rest @ ..] if first.kind == TokenKind::Keyword(keyword) => Some(rest),
+            _ => None,
+        }
+    }
+
+    /// The tokens after this keyword, which has to stand in front.
+    #[tactic(auto, unfolding(crate::specs::Combinators::after_keyword))]
+    pub fn skip_keyword<'t, 'a>(
+        self,
+        keyword: Keyword,
+        tokens: &'t [Token<'a>],
+    ) -> Result<&'t [Token<'a>], ReadFault>
+        ensures reads { Gives stop_of (λ x. (tt, lexemes_in self.count x.now)) result (after_keyword keyword (lexemes_in self.count tokens.now)) }
+        ensures shorter { IfOk result (λ x. length x.now < length tokens.now) }
+    {
+        match self.find_after_keyword(keyword, tokens) {
+            Some(rest) => Ok(rest),
+            None => Err(self.unexpected(tokens)),
+        }
+    }
+
+    /// The name that a word in front says: an identifier or a keyword.
+    #[tactic(auto, unfolding(crate::specs::Combinators::word_at))]
+    pub fn word<'t, 'a>(
+        self,
+        tokens: &'t [Token<'a>],
+    ) -> Result<(&'a str, &'t [Token<'a>]), ReadFault>
+        ensures reads { Gives stop_of (λ x. (x.0.now, lexemes_in self.count x.1.now)) result (word_at (lexemes_in self.count tokens.now)) }
+        ensures shorter { IfOk result (λ x. length x.1.now < length tokens.now) }
+    {
+        match tokens {
+            [first, rest @ ..] => match first.kind {
+                TokenKind::Identifier | TokenKind::QuotedIdentifier | TokenKind::Keyword(_) => Ok((
+                    first.text, rest,
+                )),
+                _ => Err(self.unexpected(tokens)),
+            },
+            [] => Err(self.unexpected(tokens)),
+        }
+    }
+
+    /// The name that an identifier in front says.
+    #[tactic(auto, unfolding(crate::specs::Combinators::identifier_at))]
+    pub fn identifier<'t, 'a>(
+        self,
+        tokens: &'t [Token<'a>],
+    ) -> Result<(&'a str, &'t [Token<'a>]), ReadFault>
+        ensures reads { Gives stop_of (λ x. (x.0.now, lexemes_in self.count x.1.now)) result (identifier_at (lexemes_in self.count tokens.now)) }
+        ensures shorter { IfOk result (λ x. length x.1.now < length tokens.now) }
+    {
+        match tokens {
+            [first, rest @ ..] => match first.kind {
+                TokenKind::Identifier | TokenKind::QuotedIdentifier => Ok((first.text, rest)),
+                _ => Err(self.unexpected(tokens)),
+            },
+            [] => Err(self.unexpected(tokens)),
+        }
+    }
+
+    /// What a segment in front holds.
+    #[tactic(auto, unfolding(crate::specs::Combinators::segment_at))]
+    pub fn segment<'t, 'a>(
+        self,
+        tokens: &'t [Token<'a>],
+    ) -> Result<(&'a str, &'t [Token<'a>]), ReadFault>
+        ensures reads { Gives stop_of (λ x. (x.0.now, lexemes_in self.count x.1.now)) result (segment_at (lexemes_in self.count tokens.now)) }
+        ensures shorter { IfOk result (λ x. length x.1.now < length tokens.now) }
+    {
+        match tokens {
+            [first, rest @ ..] => match first.kind {
+                TokenKind::Segment | TokenKind::TripleSegment => Ok((first.text, rest)),
+                _ => Err(self.unexpected(tokens)),
+            },
+            [] => Err(self.unexpected(tokens)),
+        }
+    }
+}

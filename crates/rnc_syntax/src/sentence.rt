@@ -1,0 +1,83 @@
+// From the tokens of a schema file to its syntax tree.
+ghost use Rattle.std.specs.Prelude.{◌≡◌, ℕ, Err, IfErr, IfOk, Ok, length};
+ghost use Rattle.rnc_syntax.specs.Fault.{Gives, fault_at, told, unless_memory};
+ghost use Rattle.rnc_syntax.specs.Grammar.{IsFile};
+ghost use Rattle.rnc_syntax.specs.Lexeme.{lexemes};
+ghost use Rattle.rnc_syntax.specs.Productions.{file_with, inside_at};
+ghost use Rattle.rnc_syntax.specs.Sentence.{
+  BreaksGrammar,
+  BreaksNesting,
+  IsFaultOf,
+  IsSyntaxTree,
+  nesting_limit,
+};
+ghost use Rattle.rnc_syntax.specs.Syntax as syntax;
+ghost use Rattle.rnc_syntax.specs.SyntaxView.{file_of};
+ghost use Rattle.rnc_syntax.specs.declared.fault.SyntaxFault.TheVariants as faults;
+
+use crate::fault::{ReadFault, Stop, SyntaxFault};
+use crate::nesting::{NESTING_LIMIT, nests_within_limit};
+use crate::reading::Reader;
+use crate::syntax_tree::File;
+use rnc_text::Token;
+use std::alloc::Global;
+
+/// The fault of tokens whose reading stopped so.
+#[tactic(auto, using(crate::proofs::Lexemes::length_of_lexemes))]
+fn fault_of(tokens: &[Token<'_>], stop: Stop) -> SyntaxFault
+    ensures { result ≡ fault_at (length (lexemes tokens.now)) stop }
+{
+    match stop {
+        Stop::TooDeep => SyntaxFault::TooDeep,
+        Stop::Unexpected(left) => SyntaxFault::Unexpected {
+            place: tokens.len().saturating_sub(left) as u64 + 1,
+        },
+    }
+}
+
+/// The syntax tree of these tokens, or the fault where their reading stops.
+fn read<'a>(alloc: Global, tokens: &[Token<'a>]) -> Result<File<'a>, SyntaxFault>
+    ensures { Gives unless_memory file_of result (told (length (lexemes tokens.now)) (file_with (inside_at nesting_limit) (lexemes tokens.now))) }
+{
+    let reader = Reader {
+        alloc,
+        count: tokens.len(),
+    };
+    match reader.file(NESTING_LIMIT, tokens) {
+        Ok(file) => Ok(file),
+        Err(ReadFault::Memory) => Err(SyntaxFault::Memory),
+        Err(ReadFault::Stop(stop)) => Err(fault_of(tokens, stop)),
+    }
+}
+
+/// The syntax tree of the schema file that has these tokens.
+///
+/// The tokens are all of the file's, in order. Of each its kind and its text count, and of the word `include` or
+/// `external` its place too, which the tree tells; where a token lies in the text does not matter. A sentence of the
+/// grammar has one syntax tree, and it is answered where the brackets nest within the limit; else the fault is
+///
+/// - `TooDeep`, where at some token the `{` and `(` up to it exceed the `}` and `)` up to it by more than 128;
+/// - `Unexpected`, where they do so at none and the tokens are no sentence, with the place of the first token, from 1,
+///   such that no sentence begins with the tokens up to and with it, or with the number of tokens plus one.
+///
+/// `Memory` answers that there was no memory for the tree, and says nothing about the tokens.
+///
+/// Takes time and memory in proportion to the tokens; the tree borrows their texts. Recurses as deep as the brackets
+/// nest.
+///
+/// RELAX NG Compact Syntax, "Syntax".
+#[tactic(auto, using(crate::proofs::CompletenessFiles::unique))]
+pub fn read_syntax<'a>(alloc: Global, tokens: &[Token<'a>]) -> Result<File<'a>, SyntaxFault>
+    ensures tree { IfOk result (λ f. IsSyntaxTree (lexemes tokens.now) (file_of f)) }
+    ensures fault { IfErr result (IsFaultOf (lexemes tokens.now)) }
+    ensures only { (f : syntax.File) → IsSyntaxTree (lexemes tokens.now) f → Gives unless_memory file_of result (Ok f) }
+    ensures nesting { BreaksNesting (lexemes tokens.now) → Gives unless_memory file_of result (Err faults.TooDeep) }
+    ensures grammar { BreaksGrammar (lexemes tokens.now) → (place : ℕ) × Gives unless_memory file_of result (Err (faults.Unexpected place)) }
+    ensures one { (f g : syntax.File) → IsFile (lexemes tokens.now) f → IsFile (lexemes tokens.now) g → f ≡ g }
+{
+    if nests_within_limit(tokens) {
+        read(alloc, tokens)
+    } else {
+        Err(SyntaxFault::TooDeep)
+    }
+}
