@@ -1,7 +1,8 @@
 -- Pieces one after the other, that there is one cut, and where it stops.
-use Rattle.std.proofs.Common.{◌≡◌, ℕ, ◌+◌, ◌-◌, ◌<◌, ◌≤◌, ◌⊎◌, inl, inr, List, [], ◌∷◌, ◌++◌, length, Option, Some, None, Result, Ok, Err, refl, sym, ap, subst, ◌∙◌, arith}
+use Rattle.std.proofs.Common.{◌≡◌, ℕ, ◌+◌, ◌-◌, ◌<◌, ◌≤◌, ◌⊎◌, inl, inr, List, [], ◌∷◌, ◌++◌, length, Option, Some, None, Result, Ok, Err, refl, sym, ap, subst}
+use Rattle.std.proofs.Common.{◌∙◌, arith}
 use Rattle.std.specs.Prelude.{IfOk, IfErr}
-use Rattle.std.proofs.lemmas.List.{length-append, append-nil}
+use Rattle.std.proofs.lemmas.List.{length-append, append-nil, append_cancel_left}
 use Rattle.std.proofs.lemmas.Option.{none-some, some_pair_parts}
 use Rattle.std.specs.Char.{encode_utf8}
 use Rattle.std.proofs.lemmas.Str.{length-le-encodes}
@@ -17,7 +18,7 @@ use Rattle.rnc_text.specs.Cut.{IsNext, NothingBegins, Cuts, here, next_is, Lexem
 use Rattle.rnc_text.specs.Answers.{GivesOk, GivesFault, IfBroken}
 use Rattle.rnc_text.specs.CutSteps.{Found, piece_of}
 use Rattle.rnc_text.specs.Cursors.{remaining, FindsPart, said, told}
-use Rattle.rnc_text.proofs.Places.{bytes_append}
+use Rattle.rnc_text.proofs.Cursors.{bytes_append}
 use Rattle.rnc_text.proofs.Pieces.{piece_front}
 use Rattle.rnc_text.proofs.Scans.{piece_none}
 use Rattle.rnc_text.proofs.Longest.{Covered, covers}
@@ -25,7 +26,8 @@ use Rattle.rnc_text.proofs.Longest.{Covered, covers}
 -- ---- a piece takes something
 
 piece_takes : (q : Piece) → IsPiece q → 0 < length (characters_in q)
-piece_takes q is = takes (characters_in q) refl (λ e. covered_none q (subst (Covered q) (piece_none [] refl) (covers is [] [] (sym (append-nil (characters_in q) ∙ e)))))
+piece_takes q is =
+    takes (characters_in q) refl (λ e. covered_none q (subst (Covered q) (piece_none [] refl) (covers is [] [] (sym (append-nil (characters_in q) ∙ e)))))
   where
     covered_none : (q : Piece) → Covered q None → ⊥
     covered_none q h = h
@@ -36,7 +38,8 @@ piece_takes q is = takes (characters_in q) refl (λ e. covered_none q (subst (Co
 
 -- ---- what is next
 
-longest_at : (cs : List Character) (p : Piece) (rest : List Character) → piece_of cs ≡ Some (p, rest) → (q : Piece) (after : List Character) → IsPiece q → cs ≡ characters_in q ++ after → (length (characters_in q) < length (characters_in p)) ⊎ (q ≡ p)
+longest_at : (cs : List Character) (p : Piece) (rest : List Character) → piece_of cs ≡ Some (p, rest) → (q : Piece) (after : List Character) → IsPiece q
+    → cs ≡ characters_in q ++ after → (length (characters_in q) < length (characters_in p)) ⊎ (q ≡ p)
 longest_at cs p rest e q after is parts = subst (Covered q) e (covers is cs after parts)
 
 no_longer : (p q : Piece) → (length (characters_in q) < length (characters_in p)) ⊎ (q ≡ p) → length (characters_in q) ≤ length (characters_in p)
@@ -51,19 +54,20 @@ found_next cs p rest e =
 pub none_begins : (cs : List Character) → piece_of cs ≡ None → NothingBegins cs
 none_begins cs e = λ q after is parts. subst (Covered q) e (covers is cs after parts)
 
-same_tail : (xs ys zs : List Character) → xs ++ ys ≡ xs ++ zs → ys ≡ zs
-same_tail [] ys zs e = e
-same_tail (x ∷ xs) ys zs e = same_tail xs ys zs (cc)
-
 next_found : (cs : List Character) (p q : Piece) (rest after : List Character) → piece_of cs ≡ Some (p, rest) → IsNext cs q after → (q ≡ p) × (after ≡ rest)
 next_found cs p q rest after e n = go (longest_at cs p rest e q after n.is n.parts)
   where
     go : (length (characters_in q) < length (characters_in p)) ⊎ (q ≡ p) → (q ≡ p) × (after ≡ rest)
     go (inl lt) = let f = piece_front cs p rest e in absurd (omega (arith, lt, n.longest p rest f.is f.parts))
-    go (inr same) = (same, same_tail (characters_in p) after rest (ap (λ (x : Piece). characters_in x ++ after) (sym same) ∙ sym n.parts ∙ (piece_front cs p rest e).parts))
+    go (inr same) = (
+      same,
+      append_cancel_left (characters_in p) after rest
+          (ap (λ (x : Piece). characters_in x ++ after) (sym same) ∙ sym n.parts ∙ (piece_front cs p rest e).parts),
+    )
 
 -- there is one next piece
-one_at : (cs : List Character) (o : Found) (p q : Piece) (rest after : List Character) → piece_of cs ≡ o → IsNext cs p rest → IsNext cs q after → (p ≡ q) × (rest ≡ after)
+one_at : (cs : List Character) (o : Found) (p q : Piece) (rest after : List Character) → piece_of cs ≡ o → IsNext cs p rest → IsNext cs q after
+    → (p ≡ q) × (rest ≡ after)
 one_at cs None p q rest after e m n = absurd (none_begins cs e p rest m.is m.parts)
 one_at cs (Some x) p q rest after e m n =
     let a = next_found cs x.0 p x.1 rest e m in
@@ -79,12 +83,14 @@ nothing_in_none = none_begins [] (piece_none [] refl)
 -- ---- cuts
 
 -- one more piece
-pub cuts_then : {cs : List Character} {ps : List Piece} {mid : List Character} → Cuts cs ps mid → (p : Piece) (rest : List Character) → IsNext mid p rest → Cuts cs (ps ++ p ∷ []) rest
+pub cuts_then : {cs : List Character} {ps : List Piece} {mid : List Character} → Cuts cs ps mid → (p : Piece) (rest : List Character) → IsNext mid p rest
+    → Cuts cs (ps ++ p ∷ []) rest
 cuts_then (here {cs} {rest = mid} e) p rest n = subst (λ (cs : List Character). Cuts cs (p ∷ []) rest) (sym e) (next_is n (here refl) refl)
 cuts_then (next_is {piece = q} {pieces = ps} m c e) p rest n = next_is m (cuts_then c p rest n) (ap (λ (x : List Piece). x ++ p ∷ []) e)
 
 -- two cuts that go as far as they can are one
-pub one_cut : {cs : List Character} {ps : List Piece} {rest : List Character} → Cuts cs ps rest → NothingBegins rest → (qs : List Piece) (end : List Character) → Cuts cs qs end → NothingBegins end → (ps ≡ qs) × (rest ≡ end)
+pub one_cut : {cs : List Character} {ps : List Piece} {rest : List Character} → Cuts cs ps rest → NothingBegins rest → (qs : List Piece) (end : List Character)
+    → Cuts cs qs end → NothingBegins end → (ps ≡ qs) × (rest ≡ end)
 one_cut (here {cs} {rest} e) stops qs end (here f) ends = (refl, sym e ∙ f)
 one_cut (here {cs} {rest} e) stops qs end (next_is {piece = q} {after = after} n c f) ends = absurd (stops q after n.is (sym e ∙ n.parts))
 one_cut (next_is {piece = p} {after = after} n c e) stops qs end (here f) ends = absurd (ends p after n.is (sym f ∙ n.parts))
@@ -109,12 +115,14 @@ one_place cs place next p q = omega (arith, p.place_is, q.place_is, ap byte_leng
 abbrev pub BreaksFive : List Character → ℕ → ℕ → Type 0
 BreaksFive cs clause place = (clause ≡ 5) × BreaksTokensAt cs place
 
-pub gives_tokens : {X : Type 0} (view : X → List Lexeme) (cs : List Character) (r : Result X TextFault) → IfOk r (λ v. HasTokens cs (view v)) → IfErr r (IfBroken (BreaksFive cs)) → (ts : List Lexeme) → HasTokens cs ts → GivesOk view r ts
+pub gives_tokens : {X : Type 0} (view : X → List Lexeme) (cs : List Character) (r : Result X TextFault) → IfOk r (λ v. HasTokens cs (view v))
+    → IfErr r (IfBroken (BreaksFive cs)) → (ts : List Lexeme) → HasTokens cs ts → GivesOk view r ts
 gives_tokens view cs (Ok v) found fault ts is = tokens_one cs (view v) ts found is
 gives_tokens view cs (Err Memory) found fault ts is = tt
 gives_tokens view cs (Err (At c p)) found fault ts is = not_both cs ts p is fault.1
 
-pub gives_five : {X : Type 0} (view : X → List Lexeme) (cs : List Character) (r : Result X TextFault) → IfOk r (λ v. HasTokens cs (view v)) → IfErr r (IfBroken (BreaksFive cs)) → (place : ℕ) → BreaksTokensAt cs place → GivesFault r 5 place
+pub gives_five : {X : Type 0} (view : X → List Lexeme) (cs : List Character) (r : Result X TextFault) → IfOk r (λ v. HasTokens cs (view v))
+    → IfErr r (IfBroken (BreaksFive cs)) → (place : ℕ) → BreaksTokensAt cs place → GivesFault r 5 place
 gives_five view cs (Ok v) found fault place is = not_both cs (view v) place found is
 gives_five view cs (Err Memory) found fault place is = tt
 gives_five view cs (Err (At c p)) found fault place is = (fault.0, one_place cs p place fault.1 is)
@@ -132,7 +140,9 @@ ends_push start (q ∷ ps) p = ends_push (start + byte_length (characters_in q))
 lexemes_push : (start : ℕ) (ps : List Piece) (p : Piece) → lexemes_at start (ps ++ p ∷ []) ≡ lexemes_at start ps ++ lexemes_at (ends_at start ps) (p ∷ [])
 lexemes_push start [] p = refl
 lexemes_push start (gap all ∷ ps) p = lexemes_push (start + byte_length all) ps p
-lexemes_push start (token kind says all ∷ ps) p = ap (λ (x : List Lexeme). record { kind = kind; text = bytes_of says; starts = start; ends = start + byte_length all } ∷ x) (lexemes_push (start + byte_length all) ps p)
+lexemes_push start (token kind says all ∷ ps) p =
+    ap (λ (x : List Lexeme). record { kind = kind; text = bytes_of says; starts = start; ends = start + byte_length all } ∷ x)
+    (lexemes_push (start + byte_length all) ps p)
 
 -- the characters before a place are cut, and these are their tokens
 pub record HasCut (cs : List Character) (tokens : List Lexeme) (place : Cursor) : Type 0 where
@@ -143,7 +153,8 @@ pub record HasCut (cs : List Character) (tokens : List Lexeme) (place : Cursor) 
   pub left : byte_length (remaining place) ≡ length place.rest.now
   pub whole : place.length ≡ byte_length cs
 
-pub cut_none : (cs : List Character) (place : Cursor) → remaining place ≡ cs → place.rest.now ≡ bytes_of cs → place.length ≡ length place.rest.now → HasCut cs [] place
+pub cut_none : (cs : List Character) (place : Cursor) → remaining place ≡ cs → place.rest.now ≡ bytes_of cs → place.length ≡ length place.rest.now
+    → HasCut cs [] place
 cut_none cs place rest bytes whole = record {
   pieces = [];
   cut = here (sym rest);
@@ -155,26 +166,38 @@ cut_none cs place rest bytes whole = record {
 
 some_bytes : (cs : List Character) → 0 < length cs → 0 < byte_length cs
 some_bytes [] lt = absurd (omega (arith, lt))
-some_bytes (c ∷ cs) lt = omega (arith, length-append (encode_utf8 (number_of c)) (bytes_of cs), length-le-encodes (number_of c ∷ []), length-append (encode_utf8 (number_of c)) [])
+some_bytes (c ∷ cs) lt =
+    omega (arith, length-append (encode_utf8 (number_of c)) (bytes_of cs), length-le-encodes (number_of c ∷ []), length-append (encode_utf8 (number_of c)) [])
 
 pub shorter_rest : (from to : Cursor) (part : Part) → FindsPart from part to (piece_of (remaining from)) → length to.rest.now < length from.rest.now
 shorter_rest from to part f =
     let some = some_bytes (characters_in f.piece) (piece_takes f.piece (piece_front (remaining from) f.piece (remaining to) f.is).is) in
     omega (arith, ap length f.past.bytes, length-append (bytes_of (characters_in f.piece)) to.rest.now, some)
 
-left_after : (from to : Cursor) (part : Part) → FindsPart from part to (piece_of (remaining from)) → byte_length (remaining from) ≡ length from.rest.now → byte_length (remaining to) ≡ length to.rest.now
+left_after : (from to : Cursor) (part : Part) → FindsPart from part to (piece_of (remaining from)) → byte_length (remaining from) ≡ length from.rest.now
+    → byte_length (remaining to) ≡ length to.rest.now
 left_after from to part f left =
     let all = characters_in f.piece in
-    omega (arith, left, ap length f.past.bytes, length-append (bytes_of all) to.rest.now, ap byte_length f.past.rest, ap length (bytes_append all (remaining to)), length-append (bytes_of all) (bytes_of (remaining to)))
+    omega (
+      arith,
+      left,
+      ap length f.past.bytes,
+      length-append (bytes_of all) to.rest.now,
+      ap byte_length f.past.rest,
+      ap length (bytes_append all (remaining to)),
+      length-append (bytes_of all) (bytes_of (remaining to)),
+    )
 
-pub cut_on : (cs : List Character) (ts us : List Lexeme) (from to : Cursor) (part : Part) → HasCut cs ts from → (f : FindsPart from part to (piece_of (remaining from))) → us ≡ ts ++ lexemes_at (from.length - length from.rest.now) (f.piece ∷ []) → HasCut cs us to
+pub cut_on : (cs : List Character) (ts us : List Lexeme) (from to : Cursor) (part : Part) → HasCut cs ts from
+    → (f : FindsPart from part to (piece_of (remaining from))) → us ≡ ts ++ lexemes_at (from.length - length from.rest.now) (f.piece ∷ []) → HasCut cs us to
 cut_on cs ts us from to part h f e =
     let all = characters_in f.piece in
     let start : from.length - length from.rest.now ≡ ends_at 0 h.pieces = omega (arith, h.at) in
     record {
       pieces = h.pieces ++ f.piece ∷ [];
       cut = cuts_then h.cut f.piece (remaining to) (found_next (remaining from) f.piece (remaining to) f.is);
-      are = e ∙ ap (λ (x : List Lexeme). x ++ lexemes_at (from.length - length from.rest.now) (f.piece ∷ [])) h.are ∙ ap (λ (n : ℕ). lexemes_at 0 h.pieces ++ lexemes_at n (f.piece ∷ [])) start ∙ sym (lexemes_push 0 h.pieces f.piece);
+      are = e ∙ ap (λ (x : List Lexeme). x ++ lexemes_at (from.length - length from.rest.now) (f.piece ∷ [])) h.are
+          ∙ ap (λ (n : ℕ). lexemes_at 0 h.pieces ++ lexemes_at n (f.piece ∷ [])) start ∙ sym (lexemes_push 0 h.pieces f.piece);
       at = omega (arith, h.at, f.past.whole, ends_push 0 h.pieces f.piece, ap length f.past.bytes, length-append (bytes_of all) to.rest.now);
       left = left_after from to part f h.left;
       whole = f.past.whole ∙ h.whole;
@@ -185,31 +208,40 @@ gap_of : (p : Piece) (start : ℕ) → None ≡ said p → lexemes_at start (p �
 gap_of (gap all) start e = refl
 gap_of (token kind says all) start e = absurd (none-some _ e)
 
-token_of : (p : Piece) (start : ℕ) (kind : TokenKind) (text : List ℕ) → ◌≡◌ {A = Option (TokenKind × List ℕ)} (Some (kind, text)) (said p) → lexemes_at start (p ∷ []) ≡ record { kind = kind; text = text; starts = start; ends = start + byte_length (characters_in p) } ∷ []
+token_of : (p : Piece) (start : ℕ) (kind : TokenKind) (text : List ℕ) → ◌≡◌ {A = Option (TokenKind × List ℕ)} (Some (kind, text)) (said p)
+    → lexemes_at start (p ∷ []) ≡ record { kind = kind; text = text; starts = start; ends = start + byte_length (characters_in p) } ∷ []
 token_of (gap all) start kind text e = absurd (none-some _ (sym e))
 token_of (token k says all) start kind text e = let s = some_pair_parts _ _ _ _ e in
-    ap (λ (k : TokenKind). (record { kind = k; text = bytes_of says; starts = start; ends = start + byte_length all } ∷ [])) (sym s.0) ∙ ap (λ (t : List ℕ). (record { kind = kind; text = t; starts = start; ends = start + byte_length all } ∷ [])) (sym s.1)
+    ap (λ (k : TokenKind). (record { kind = k; text = bytes_of says; starts = start; ends = start + byte_length all } ∷ [])) (sym s.0)
+    ∙ ap (λ (t : List ℕ). (record { kind = kind; text = t; starts = start; ends = start + byte_length all } ∷ [])) (sym s.1)
 
-pub cut_gap : (cs : List Character) (ts : List Lexeme) (from to : Cursor) (part : Part) → HasCut cs ts from → told part ≡ None → FindsPart from part to (piece_of (remaining from)) → HasCut cs ts to
-cut_gap cs ts from to part h none f = cut_on cs ts ts from to part h f (sym (ap (λ (x : List Lexeme). ts ++ x) (gap_of f.piece _ (sym none ∙ f.says)) ∙ append-nil ts))
+pub cut_gap : (cs : List Character) (ts : List Lexeme) (from to : Cursor) (part : Part) → HasCut cs ts from → told part ≡ None
+    → FindsPart from part to (piece_of (remaining from)) → HasCut cs ts to
+cut_gap cs ts from to part h none f =
+    cut_on cs ts ts from to part h f (sym (ap (λ (x : List Lexeme). ts ++ x) (gap_of f.piece _ (sym none ∙ f.says)) ∙ append-nil ts))
 
-pub cut_token : (cs : List Character) (ts us : List Lexeme) (from to : Cursor) (part : Part) (kind : TokenKind) (text : List ℕ) (start end : ℕ) → HasCut cs ts from → told part ≡ Some (kind, text) → (f : FindsPart from part to (piece_of (remaining from))) → start ≡ from.length - length from.rest.now → end ≡ to.length - length to.rest.now → us ≡ ts ++ record { kind = kind; text = text; starts = start; ends = end } ∷ [] → HasCut cs us to
+pub cut_token : (cs : List Character) (ts us : List Lexeme) (from to : Cursor) (part : Part) (kind : TokenKind) (text : List ℕ) (start end : ℕ)
+    → HasCut cs ts from → told part ≡ Some (kind, text) → (f : FindsPart from part to (piece_of (remaining from))) → start ≡ from.length - length from.rest.now
+    → end ≡ to.length - length to.rest.now → us ≡ ts ++ record { kind = kind; text = text; starts = start; ends = end } ∷ [] → HasCut cs us to
 cut_token cs ts us from to part kind text start end h is f s e new =
     let all = characters_in f.piece in
-    let end-is : end ≡ (from.length - length from.rest.now) + byte_length all = omega (arith, e, h.at, f.past.whole, ap length f.past.bytes, length-append (bytes_of all) to.rest.now) in
+    let end-is : end ≡ (from.length - length from.rest.now) + byte_length all =
+    omega (arith, e, h.at, f.past.whole, ap length f.past.bytes, length-append (bytes_of all) to.rest.now) in
     cut_on cs ts us from to part h f (new
     ∙ ap (λ (n : ℕ). ts ++ record { kind = kind; text = text; starts = n; ends = end } ∷ []) s
     ∙ ap (λ (n : ℕ). ts ++ record { kind = kind; text = text; starts = from.length - length from.rest.now; ends = n } ∷ []) end-is
     ∙ ap (λ (x : List Lexeme). ts ++ x) (sym (token_of f.piece _ kind text (sym is ∙ f.says))))
 
 pub cut_done : (cs : List Character) (ts : List Lexeme) (place : Cursor) → HasCut cs ts place → length place.rest.now ≡ 0 → HasTokens cs ts
-cut_done cs ts place h e = record { pieces = h.pieces; cut = subst (λ (x : List Character). Cuts cs h.pieces x) (no_characters (remaining place) (h.left ∙ e)) h.cut; are = h.are }
+cut_done cs ts place h e =
+    record { pieces = h.pieces; cut = subst (λ (x : List Character). Cuts cs h.pieces x) (no_characters (remaining place) (h.left ∙ e)) h.cut; are = h.are }
   where
     no_characters : (cs : List Character) → byte_length cs ≡ 0 → cs ≡ []
     no_characters [] e = refl
     no_characters (c ∷ cs) e = absurd (omega (arith, e, some_bytes (c ∷ cs) (omega arith)))
 
-pub cut_stops : (cs : List Character) (ts : List Lexeme) (place : Cursor) → HasCut cs ts place → 0 < length place.rest.now → piece_of (remaining place) ≡ None → BreaksTokensAt cs (place.length - length place.rest.now)
+pub cut_stops : (cs : List Character) (ts : List Lexeme) (place : Cursor) → HasCut cs ts place → 0 < length place.rest.now → piece_of (remaining place) ≡ None
+    → BreaksTokensAt cs (place.length - length place.rest.now)
 cut_stops cs ts place h lt none = record {
   pieces = h.pieces;
   rest = remaining place;
@@ -225,14 +257,18 @@ cut_stops cs ts place h lt none = record {
 
 -- ---- spans
 
-order_piece : (p : Piece) (ps : List Piece) (start n : ℕ) → start ≤ n → IsPiece p → ((start n : ℕ) → start ≤ n → AreInOrder start (lexemes_at n ps)) → AreInOrder start (lexemes_at n (p ∷ ps))
+order_piece : (p : Piece) (ps : List Piece) (start n : ℕ) → start ≤ n → IsPiece p → ((start n : ℕ) → start ≤ n → AreInOrder start (lexemes_at n ps))
+    → AreInOrder start (lexemes_at n (p ∷ ps))
 order_piece (gap all) ps start n le is more = more start (n + byte_length all) (omega (arith, le))
-order_piece (token kind says all) ps start n le is more = (le, omega (arith, some_bytes all (piece_takes (token kind says all) is)), more (n + byte_length all) (n + byte_length all) (omega arith))
+order_piece (token kind says all) ps start n le is more =
+    (le, omega (arith, some_bytes all (piece_takes (token kind says all) is)), more (n + byte_length all) (n + byte_length all) (omega arith))
 
 order_of : {cs : List Character} {ps : List Piece} {rest : List Character} → Cuts cs ps rest → (start n : ℕ) → start ≤ n → AreInOrder start (lexemes_at n ps)
 order_of (here e) start n le = tt
-order_of (next_is {piece = p} {pieces = ps} m c e) start n le = subst (λ (x : List Piece). AreInOrder start (lexemes_at n x)) (sym e) (order_piece p ps start n le m.is (λ start n le. order_of c start n le))
+order_of (next_is {piece = p} {pieces = ps} m c e) start n le =
+    subst (λ (x : List Piece). AreInOrder start (lexemes_at n x)) (sym e) (order_piece p ps start n le m.is (λ start n le. order_of c start n le))
 
-pub in_order : {X : Type 0} (view : X → List Lexeme) (cs : List Character) (r : Result X TextFault) → IfOk r (λ v. HasTokens cs (view v)) → IfOk r (λ v. AreInOrder 0 (view v))
+pub in_order : {X : Type 0} (view : X → List Lexeme) (cs : List Character) (r : Result X TextFault) → IfOk r (λ v. HasTokens cs (view v))
+    → IfOk r (λ v. AreInOrder 0 (view v))
 in_order view cs (Ok v) h = subst (AreInOrder 0) (sym h.are) (order_of h.cut 0 0 (omega arith))
 in_order view cs (Err e) h = tt

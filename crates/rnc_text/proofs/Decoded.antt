@@ -1,10 +1,12 @@
 -- Characters one after the other, that there is one decoding, and one place at which it stops.
-use Rattle.std.proofs.Common.{◌≡◌, ℕ, ◌+◌, ◌<◌, false, eqb, inl, inr, List, [], ◌∷◌, ◌++◌, length, Result, Ok, Err, refl, sym, ap, subst, ◌∙◌, arith, append_assoc}
+use Rattle.std.proofs.Common.{◌≡◌, ℕ, ◌+◌, ◌<◌, false, eqb, inl, inr, List, [], ◌∷◌, ◌++◌, length, Result, Ok, Err, refl, sym, ap, subst, ◌∙◌, arith}
+use Rattle.std.proofs.Common.{append_assoc}
 use Rattle.std.specs.Prelude.{IfOk, IfErr}
 use Rattle.std.specs.Str.{chars, IsUtf8, encode_utf8_all}
 use Rattle.std.proofs.lemmas.List.{length-append}
 use Rattle.std.proofs.lemmas.Str.{encodes-chars, scalars-chars, encodes_same, utf8_valid_len-IsValidUpTo, length-le-encodes, encodes-append}
-use Rattle.rnc_text.specs.Decoding.{Begins, carriage_return_line_feed, carriage_return, line_feed, escape, other, Decodes, here, next_is, IsSpelling, IsDecoded, BreaksCharactersAt, BreaksTextAt}
+use Rattle.rnc_text.specs.Decoding.{Begins, carriage_return_line_feed, carriage_return, line_feed, escape, other, Decodes, here, next_is, IsSpelling, IsDecoded}
+use Rattle.rnc_text.specs.Decoding.{BreaksCharactersAt, BreaksTextAt}
 use Rattle.rnc_text.specs.Answers.{GivesOk, GivesFault, IfBroken}
 use Rattle.rnc_text.specs.Held.{characters_of}
 use Rattle.rnc_text.proofs.Fronts.{begins_one, begins_none}
@@ -14,7 +16,8 @@ use Rattle.rnc_text.specs.declared.fault.TextFault.{TextFault}
 use Rattle.rnc_text.specs.declared.fault.TextFault.TheVariants.{At, Memory}
 
 -- one more character
-pub decodes_then : {ns : List ℕ} {cs : List Character} {mid : List ℕ} → Decodes ns cs mid → (c : Character) (all : List Character) (rest : List ℕ) → Begins mid c rest → all ≡ cs ++ c ∷ [] → Decodes ns all rest
+pub decodes_then : {ns : List ℕ} {cs : List Character} {mid : List ℕ} → Decodes ns cs mid → (c : Character) (all : List Character) (rest : List ℕ)
+    → Begins mid c rest → all ≡ cs ++ c ∷ [] → Decodes ns all rest
 decodes_then (here {numbers = ns} {rest = mid} e) c all rest is all-is = subst (λ (ns : List ℕ). Decodes ns all rest) (sym e) (next_is is (here refl) all-is)
 decodes_then (next_is {c = d} {cs = cs} p q e) c all rest is all-is =
     next_is p (decodes_then q c (cs ++ c ∷ []) rest is refl) (all-is ∙ ap (λ (x : List Character). x ++ c ∷ []) e)
@@ -23,9 +26,11 @@ abbrev Stops : List ℕ → Type 0
 Stops ns = (c : Character) (rest : List ℕ) → Begins ns c rest → ⊥
 
 -- two decodings that go as far as they can are one
-pub one_decoding : {ns : List ℕ} {cs : List Character} {rest : List ℕ} → Decodes ns cs rest → Stops rest → (ds : List Character) (end : List ℕ) → Decodes ns ds end → Stops end → (cs ≡ ds) × (rest ≡ end)
+pub one_decoding : {ns : List ℕ} {cs : List Character} {rest : List ℕ} → Decodes ns cs rest → Stops rest → (ds : List Character) (end : List ℕ)
+    → Decodes ns ds end → Stops end → (cs ≡ ds) × (rest ≡ end)
 one_decoding (here {numbers = ns} {rest = rest} e) stops ds end (here f) ends = (refl, sym e ∙ f)
-one_decoding (here {numbers = ns} {rest = rest} e) stops ds end (next_is {c = c} {after = after} p q f) ends = absurd (stops c after (subst (λ (ns : List ℕ). Begins ns c after) e p))
+one_decoding (here {numbers = ns} {rest = rest} e) stops ds end (next_is {c = c} {after = after} p q f) ends =
+    absurd (stops c after (subst (λ (ns : List ℕ). Begins ns c after) e p))
 one_decoding (next_is {c = c} {after = after} p q e) stops ds end (here f) ends = absurd (ends c after (subst (λ (ns : List ℕ). Begins ns c after) f p))
 one_decoding (next_is {c = c} {after = after} {cs = cs} p q e) stops ds end (next_is {c = d} {after = after'} {cs = ds'} p' q' f) ends =
     let same = begins_one c d after after' p p' in
@@ -66,12 +71,14 @@ fault_one bytes c p d q (inr a) (inl b) = absurd (b.1.0 (spelling_utf8 bytes a.1
 fault_one bytes c p d q (inr a) (inr b) = (a.0 ∙ sym b.0, one_place bytes p q a.1 b.1)
 
 -- what a call answers, by what it found
-pub gives_text : (bytes : List ℕ) (r : Result Text TextFault) → IfOk r (λ t. IsDecoded bytes (characters_of t)) → IfErr r (IfBroken (BreaksTextAt bytes)) → (cs : List Character) → IsDecoded bytes cs → GivesOk characters_of r cs
+pub gives_text : (bytes : List ℕ) (r : Result Text TextFault) → IfOk r (λ t. IsDecoded bytes (characters_of t)) → IfErr r (IfBroken (BreaksTextAt bytes))
+    → (cs : List Character) → IsDecoded bytes cs → GivesOk characters_of r cs
 gives_text bytes (Ok t) found fault cs is = decoded_one bytes (characters_of t) cs found is
 gives_text bytes (Err Memory) found fault cs is = tt
 gives_text bytes (Err (At c p)) found fault cs is = not_decoded bytes cs c p is fault
 
-pub gives_fault : (bytes : List ℕ) (r : Result Text TextFault) → IfOk r (λ t. IsDecoded bytes (characters_of t)) → IfErr r (IfBroken (BreaksTextAt bytes)) → (clause place : ℕ) → BreaksTextAt bytes clause place → GivesFault r clause place
+pub gives_fault : (bytes : List ℕ) (r : Result Text TextFault) → IfOk r (λ t. IsDecoded bytes (characters_of t)) → IfErr r (IfBroken (BreaksTextAt bytes))
+    → (clause place : ℕ) → BreaksTextAt bytes clause place → GivesFault r clause place
 gives_fault bytes (Ok t) found fault clause place is = not_decoded bytes (characters_of t) clause place found is
 gives_fault bytes (Err Memory) found fault clause place is = tt
 gives_fault bytes (Err (At c p)) found fault clause place is = fault_one bytes c p clause place fault is
@@ -84,9 +91,19 @@ text_spelling bs u = record { scalars = scalars-chars bs u; spelled = encodes-ch
 pub text_decoded : (bs : List ℕ) (cs : List Character) (rest : List ℕ) → IsUtf8 bs → Decodes (chars bs) cs rest → rest ≡ [] → IsDecoded bs cs
 text_decoded bs cs rest u d e = record { numbers = chars bs; spelling = text_spelling bs u; decoded = subst (λ (r : List ℕ). Decodes (chars bs) cs r) e d }
 
-pub text_broken : (bs rest : List ℕ) (cs : List Character) (place : ℕ) → IsUtf8 bs → IsUtf8 rest → Decodes (chars bs) cs (chars rest) → 0 < length (chars rest) → Stops (chars rest) → place + length rest ≡ length bs → BreaksCharactersAt bs place
+pub text_broken : (bs rest : List ℕ) (cs : List Character) (place : ℕ) → IsUtf8 bs → IsUtf8 rest → Decodes (chars bs) cs (chars rest) → 0 < length (chars rest)
+    → Stops (chars rest) → place + length rest ≡ length bs → BreaksCharactersAt bs place
 text_broken bs rest cs place u v d some stops is =
-    record { numbers = chars bs; spelling = text_spelling bs u; front = cs; rest = chars rest; decoded = d; some = some; nothing = stops; place_is = omega (arith, is, ap length (encodes-chars rest v)) }
+    record {
+      numbers = chars bs;
+      spelling = text_spelling bs u;
+      front = cs;
+      rest = chars rest;
+      decoded = d;
+      some = some;
+      nothing = stops;
+      place_is = omega (arith, is, ap length (encodes-chars rest v));
+    }
 
 pub some_chars : (bs : List ℕ) → IsUtf8 bs → 0 < length bs → 0 < length (chars bs)
 some_chars bs u lt = go (chars bs) (encodes-chars bs u)
@@ -114,13 +131,19 @@ parts : {ns : List ℕ} {c : Character} {rest : List ℕ} → Begins ns c rest �
 parts (carriage_return_line_feed is) = record { front = 0xD ∷ 0xA ∷ []; is = is; some = omega arith }
 parts (carriage_return is h) = record { front = 0xD ∷ []; is = is; some = omega arith }
 parts (line_feed is) = record { front = 0xA ∷ []; is = is; some = omega arith }
-parts (escape {rest = rest} {digits = digits} are c-is h is) = record { front = 0x5C ∷ 0x78 ∷ 0x7B ∷ (digits ++ 0x7D ∷ []); is = is ∙ ap (λ (x : List ℕ). 0x5C ∷ 0x78 ∷ 0x7B ∷ x) (sym (append_assoc digits (0x7D ∷ []) rest)); some = omega arith }
+parts (escape {rest = rest} {digits = digits} are c-is h is) =
+    record {
+      front = 0x5C ∷ 0x78 ∷ 0x7B ∷ (digits ++ 0x7D ∷ []);
+      is = is ∙ ap (λ (x : List ℕ). 0x5C ∷ 0x78 ∷ 0x7B ∷ x) (sym (append_assoc digits (0x7D ∷ []) rest));
+      some = omega arith;
+    }
 parts (other {c = c} h1 h2 h3 h4 is) = record { front = c ∷ []; is = is; some = omega arith }
 
 pub front_shorter : (bs after : List ℕ) (c : Character) → IsUtf8 bs → IsUtf8 after → Begins (chars bs) c (chars after) → length after < length bs
 front_shorter bs after c u v b =
     let p = parts b in
-    let e : bs ≡ encode_utf8_all p.front ++ after = sym (encodes-chars bs u) ∙ ap encode_utf8_all p.is ∙ encodes-append p.front (chars after) ∙ ap (λ (x : List ℕ). encode_utf8_all p.front ++ x) (encodes-chars after v) in
+    let e : bs ≡ encode_utf8_all p.front ++ after = sym (encodes-chars bs u) ∙ ap encode_utf8_all p.is ∙ encodes-append p.front (chars after)
+    ∙ ap (λ (x : List ℕ). encode_utf8_all p.front ++ x) (encodes-chars after v) in
     omega (arith, ap length e, length-append (encode_utf8_all p.front) after, length-le-encodes p.front, p.some)
 
 pub not_empty : (bs : List ℕ) → eqb (length bs) 0 ≡ false → 0 < length bs

@@ -2,14 +2,16 @@
 use Rattle.std.proofs.Common.{◌≡◌, ◌≢◌, ℕ, true, false, eqb, inl, inr, List, [], ◌∷◌, ◌++◌, Option, Some, None, refl, sym, ap, subst, ◌∙◌, arith}
 use Rattle.std.specs.Prelude.{◌&&◌}
 use Rattle.std.specs.List.{slice_get}
-use Rattle.std.proofs.lemmas.Bool.{eqb-true, eqb-false, ne_eqb, and_parts, false_from_ne_true}
+use Rattle.std.proofs.lemmas.Bool.{eqb-true, eqb-false, ne_eqb, and_parts, false_from_ne_true, false≢true}
 use Rattle.std.proofs.lemmas.Option.{none-some, some_pair_parts}
 use Rattle.rng_model.specs.Characters.{is_xml_char}
 use Rattle.rnc_text.specs.Decoding.{AreDigits, hexadecimal, OpensEscape, Begins, carriage_return_line_feed, carriage_return, line_feed, escape, other}
-use Rattle.rnc_text.specs.DecodingSteps.{first_and_rest, without_line_feed, hexadecimal_end, opens_from, escape_front, ordinary_if_char, after_brace, plain_front, front_of}
-use Rattle.rnc_text.proofs.Escapes.{chosen, false_true, escape_opens, opens_escape, hexadecimal_read, digits_found}
+use Rattle.rnc_text.specs.DecodingSteps.{first_and_rest, without_line_feed, hexadecimal_end, opens_from, escape_front, ordinary_if_char, after_brace}
+use Rattle.rnc_text.specs.DecodingSteps.{plain_front, front_of}
+use Rattle.rnc_text.proofs.Escapes.{escape_opens, opens_escape, hexadecimal_read, digits_found}
 use Rattle.rnc_text.specs.declared.character.Character.{Character}
 use Rattle.rnc_text.specs.declared.character.Character.TheVariants.{LineEnd, Ordinary}
+use Rattle.rnc_text.proofs.Basics.{chosen}
 
 abbrev Front : Type 0
 Front = Option (Character × List ℕ)
@@ -18,15 +20,19 @@ Front = Option (Character × List ℕ)
 
 return_begins : (cs : List ℕ) (d : Character) (rest : List ℕ) → LineEnd ≡ d → without_line_feed cs ≡ rest → Begins (0xD ∷ cs) d rest
 unfolding without_line_feed
-return_begins [] d rest e f = subst (λ (d : Character). Begins (0xD ∷ []) d rest) e (carriage_return (ap (λ (x : List ℕ). 0xD ∷ x) f) (λ h. let g : None ≡ Some 0xA = ap (λ (x : List ℕ). slice_get x 0) f ∙ h in absurd (none-some _ g)))
+return_begins [] d rest e f =
+    subst (λ (d : Character). Begins (0xD ∷ []) d rest) e
+    (carriage_return (ap (λ (x : List ℕ). 0xD ∷ x) f) (λ h. let g : None ≡ Some 0xA = ap (λ (x : List ℕ). slice_get x 0) f ∙ h in absurd (none-some _ g)))
 return_begins (c ∷ cs) d rest e f =
     subst (λ (d : Character). Begins (0xD ∷ c ∷ cs) d rest) e
     (elim (chosen (eqb c 0xA) _ _ _ f) [
       | inl h ↦ carriage_return_line_feed (let a = eqb-true c 0xA h.0 in let b = h.1 in cc)
-      | inr h ↦ carriage_return (ap (λ (x : List ℕ). 0xD ∷ x) h.1) (λ g. let a : Some c ≡ Some 0xA = ap (λ (x : List ℕ). slice_get x 0) h.1 ∙ g in eqb-false c 0xA h.0 (cc))
+      | inr h ↦ carriage_return (ap (λ (x : List ℕ). 0xD ∷ x) h.1)
+          (λ g. let a : Some c ≡ Some 0xA = ap (λ (x : List ℕ). slice_get x 0) h.1 ∙ g in eqb-false c 0xA h.0 (cc))
     ])
 
-escape_begins : (cs : List ℕ) (d : Character) (rest : List ℕ) → ordinary_if_char (hexadecimal_end 7 0 cs) ≡ Some (d, rest) → Begins (0x5C ∷ 0x78 ∷ 0x7B ∷ cs) d rest
+escape_begins : (cs : List ℕ) (d : Character) (rest : List ℕ) → ordinary_if_char (hexadecimal_end 7 0 cs) ≡ Some (d, rest)
+    → Begins (0x5C ∷ 0x78 ∷ 0x7B ∷ cs) d rest
 escape_begins cs d rest e = go (hexadecimal_end 7 0 cs) refl e
   where
     go : (o : Option (ℕ × List ℕ)) → hexadecimal_end 7 0 cs ≡ o → ordinary_if_char o ≡ Some (d, rest) → Begins (0x5C ∷ 0x78 ∷ 0x7B ∷ cs) d rest
@@ -59,12 +65,13 @@ backslash_begins (c ∷ cs) d rest e =
       | inr h ↦ absurd (none-some _ h.1)
     ]
 
-plain_begins : (c : ℕ) (cs : List ℕ) (d : Character) (rest : List ℕ) → eqb c 0xD ≡ false → eqb c 0xA ≡ false → (eqb c 0x5C && opens_from false cs) ≡ false → plain_front c cs ≡ Some (d, rest) → Begins (c ∷ cs) d rest
+plain_begins : (c : ℕ) (cs : List ℕ) (d : Character) (rest : List ℕ) → eqb c 0xD ≡ false → eqb c 0xA ≡ false → (eqb c 0x5C && opens_from false cs) ≡ false
+    → plain_front c cs ≡ Some (d, rest) → Begins (c ∷ cs) d rest
 plain_begins c cs d rest h1 h2 h3 e =
     elim (chosen (is_xml_char c) _ _ _ e) [
       | inl h ↦ let p = some_pair_parts _ _ _ _ h.1 in
           subst (λ (d : Character). Begins (c ∷ cs) d rest) p.0
-          (other (eqb-false c 0xD h1) (eqb-false c 0xA h2) h.0 (λ o. false_true (sym h3 ∙ escape_opens c cs o)) (ap (λ (x : List ℕ). c ∷ x) p.1))
+          (other (eqb-false c 0xD h1) (eqb-false c 0xA h2) h.0 (λ o. false≢true (sym h3 ∙ escape_opens c cs o)) (ap (λ (x : List ℕ). c ∷ x) p.1))
       | inr h ↦ absurd (none-some _ h.1)
     ]
 
@@ -102,21 +109,25 @@ line_feed_found : (rest : List ℕ) → front_of (0xA ∷ rest) ≡ found LineEn
 unfolding front_of
 line_feed_found rest = refl
 
-escape_found : (digits rest : List ℕ) → AreDigits digits → is_xml_char (hexadecimal digits) ≡ true → front_of (0x5C ∷ 0x78 ∷ 0x7B ∷ (digits ++ 0x7D ∷ rest)) ≡ found (Ordinary (hexadecimal digits)) rest
+escape_found : (digits rest : List ℕ) → AreDigits digits → is_xml_char (hexadecimal digits) ≡ true
+    → front_of (0x5C ∷ 0x78 ∷ 0x7B ∷ (digits ++ 0x7D ∷ rest)) ≡ found (Ordinary (hexadecimal digits)) rest
 unfolding front_of opens_from escape_front
 escape_found digits rest are h = rw (hexadecimal_read digits rest are, h) refl
 
 other_found : (c : ℕ) (rest : List ℕ) → c ≢ 0xD → c ≢ 0xA → is_xml_char c ≡ true → (OpensEscape (c ∷ rest) → ⊥) → front_of (c ∷ rest) ≡ found (Ordinary c) rest
 unfolding front_of
 other_found c rest h1 h2 h3 h4 =
-    let e : (eqb c 0x5C && opens_from false rest) ≡ false = false_from_ne_true _ (λ e. let p = and_parts _ _ e in h4 (subst (λ (c : ℕ). OpensEscape (c ∷ rest)) (sym (eqb-true c 0x5C p.0)) (opens_escape rest p.1))) in
+    let e : (eqb c 0x5C && opens_from false rest) ≡ false =
+    false_from_ne_true _
+    (λ e. let p = and_parts _ _ e in h4 (subst (λ (c : ℕ). OpensEscape (c ∷ rest)) (sym (eqb-true c 0x5C p.0)) (opens_escape rest p.1))) in
     rw (ne_eqb c 0xD h1, ne_eqb c 0xA h2, e, h3) refl
 
 pub begins_found : {cs : List ℕ} {d : Character} {rest : List ℕ} → Begins cs d rest → front_of cs ≡ Some (d, rest)
 begins_found (carriage_return_line_feed {numbers = cs} {rest} is) = ap front_of is ∙ both_found rest
 begins_found (carriage_return {numbers = cs} {rest} is h) = ap front_of is ∙ return_found rest h
 begins_found (line_feed {numbers = cs} {rest} is) = ap front_of is ∙ line_feed_found rest
-begins_found (escape {numbers = cs} {c} {rest} {digits} are c-is h is) = ap front_of is ∙ escape_found digits rest are (subst (λ (c : ℕ). is_xml_char c ≡ true) c-is h) ∙ ap (λ (c : ℕ). found (Ordinary c) rest) (sym c-is)
+begins_found (escape {numbers = cs} {c} {rest} {digits} are c-is h is) = ap front_of is
+    ∙ escape_found digits rest are (subst (λ (c : ℕ). is_xml_char c ≡ true) c-is h) ∙ ap (λ (c : ℕ). found (Ordinary c) rest) (sym c-is)
 begins_found (other {numbers = cs} {c} {rest} h1 h2 h3 h4 is) = ap front_of is ∙ other_found c rest h1 h2 h3 (λ o. h4 (subst OpensEscape (sym is) o))
 
 -- there is one character in front

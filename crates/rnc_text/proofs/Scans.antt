@@ -13,9 +13,10 @@ use Rattle.rnc_text.specs.declared.token.TokenKind.{TokenKind}
 use Rattle.rnc_text.specs.declared.token.TokenKind.TheVariants as kinds
 use Rattle.rnc_text.specs.Characters.{number_of, bytes_of}
 use Rattle.rnc_text.specs.Tokens.{sign_of, Piece, gap, token, three, word_kind}
-use Rattle.rnc_text.specs.CutSteps.{Found, is_in, front, after, first_of, behind, behind_three, here_or, with_first, until_three, begins_ncname, star_at, colon_at, name_at, quoted_at, segment_at, triple_at, signed, long_sign, sign_at, starts_ncname, piece_by, piece_of, or_else}
+use Rattle.rnc_text.specs.CutSteps.{Found, is_in, front, after, first_of, behind, behind_three, here_or, with_first, until_three, begins_ncname, star_at}
+use Rattle.rnc_text.specs.CutSteps.{colon_at, name_at, quoted_at, segment_at, triple_at, signed, long_sign, sign_at, starts_ncname, piece_by, piece_of, or_else}
 use Rattle.rnc_text.specs.Cursors.{remaining, IsPast, told, FindsPart, Finds, FindsThree}
-use Rattle.rnc_text.proofs.Places.{past_none, past_then}
+use Rattle.rnc_text.proofs.Cursors.{past_none, past_then}
 use Rattle.rnc_text.proofs.Classes.{front_in, front_out, after_in, after_out}
 
 -- ---- the loop over a class
@@ -30,11 +31,13 @@ pub record Walks (class : Class) (from to : Cursor) : Type 0 where
 pub walks_none : (class : Class) (from : Cursor) → Walks class from from
 walks_none class from = record { taken = []; past = past_none from; front = refl; after = refl }
 
-pub walks_on : (class : Class) (from to next : Cursor) (c : Character) → Walks class from to → IsPast to (c ∷ []) next → is_in class c ≡ true → Walks class from next
+pub walks_on : (class : Class) (from to next : Cursor) (c : Character) → Walks class from to → IsPast to (c ∷ []) next → is_in class c ≡ true
+    → Walks class from next
 walks_on class from to next c w p h = record {
   taken = w.taken ++ c ∷ [];
   past = past_then from to next w.taken (c ∷ []) w.past p;
-  front = w.front ∙ ap (λ (x : List Character). w.taken ++ x) (ap (front class) p.rest ∙ front_in class c (remaining next) h) ∙ sym (append_assoc w.taken (c ∷ []) (front class (remaining next)));
+  front = w.front ∙ ap (λ (x : List Character). w.taken ++ x) (ap (front class) p.rest ∙ front_in class c (remaining next) h)
+      ∙ sym (append_assoc w.taken (c ∷ []) (front class (remaining next)));
   after = w.after ∙ ap (after class) p.rest ∙ after_in class c (remaining next) h;
 }
 
@@ -43,14 +46,18 @@ pub record Passed (class : Class) (from to : Cursor) : Type 0 where
   pub past : IsPast from (front class (remaining from)) to
   pub rest : remaining to ≡ after class (remaining from)
 
-passed : (class : Class) (from to : Cursor) → Walks class from to → front class (remaining to) ≡ [] → after class (remaining to) ≡ remaining to → Passed class from to
+passed : (class : Class) (from to : Cursor) → Walks class from to → front class (remaining to) ≡ [] → after class (remaining to) ≡ remaining to
+    → Passed class from to
 passed class from to w e f = record {
   past = subst (λ (x : List Character). IsPast from x to) (sym (w.front ∙ ap (λ (x : List Character). w.taken ++ x) e ∙ append-nil w.taken)) w.past;
   rest = sym (w.after ∙ f);
 }
 
-pub walks_out : (class : Class) (from to next : Cursor) (c : Character) → Walks class from to → IsPast to (c ∷ []) next → is_in class c ≡ false → Passed class from to
-walks_out class from to next c w p h = passed class from to w (ap (front class) p.rest ∙ front_out class c (remaining next) h) (ap (after class) p.rest ∙ after_out class c (remaining next) h ∙ sym p.rest)
+pub walks_out : (class : Class) (from to next : Cursor) (c : Character) → Walks class from to → IsPast to (c ∷ []) next → is_in class c ≡ false
+    → Passed class from to
+walks_out class from to next c w p h =
+    passed class from to w (ap (front class) p.rest ∙ front_out class c (remaining next) h)
+    (ap (after class) p.rest ∙ after_out class c (remaining next) h ∙ sym p.rest)
 
 none_front : (class : Class) → front class [] ≡ []
 unfolding front
@@ -91,14 +98,18 @@ until_none : (n : ℕ) → until_three n [] ≡ None
 unfolding until_three
 until_none n = refl
 
-before_more : (xs : List Character) (c : Character) (o : Option (List Character × List Character)) → with_before xs (with_first c o) ≡ with_before (xs ++ c ∷ []) o
+before_more : (xs : List Character) (c : Character) (o : Option (List Character × List Character))
+    → with_before xs (with_first c o) ≡ with_before (xs ++ c ∷ []) o
 unfolding with_before
 before_more xs c None = refl
 before_more xs c (Some x) = ap (λ (y : List Character). Some (y, x.1)) (sym (append_assoc xs (c ∷ []) x.0))
 
-pub looks_on : (quote : ℕ) (from end next : Cursor) (c : Character) → Looks quote from end → IsPast end (c ∷ []) next → behind_three quote (remaining end) ≡ None → Looks quote from next
+pub looks_on : (quote : ℕ) (from end next : Cursor) (c : Character) → Looks quote from end → IsPast end (c ∷ []) next
+    → behind_three quote (remaining end) ≡ None → Looks quote from next
 looks_on quote from end next c w p h =
-    let e : until_three quote (remaining end) ≡ with_first c (until_three quote (remaining next)) = ap (until_three quote) p.rest ∙ until_at quote c (remaining next) ∙ ap (λ (o : Option (List Character)). here_or o (with_first c (until_three quote (remaining next)))) (sym (ap (behind_three quote) p.rest) ∙ h) in
+    let e : until_three quote (remaining end) ≡ with_first c (until_three quote (remaining next)) = ap (until_three quote) p.rest
+    ∙ until_at quote c (remaining next)
+    ∙ ap (λ (o : Option (List Character)). here_or o (with_first c (until_three quote (remaining next)))) (sym (ap (behind_three quote) p.rest) ∙ h) in
     record {
       before = w.before ++ c ∷ [];
       past = past_then from end next w.before (c ∷ []) w.past p;
@@ -109,9 +120,12 @@ before_here : (xs ys : List Character) → with_before xs (Some ([], ys)) ≡ So
 unfolding with_before
 before_here xs ys = ap (λ (x : List Character). Some (x, ys)) (append-nil xs)
 
-pub looks_found : (quote : ℕ) (from end next to : Cursor) (c : Character) → Looks quote from end → IsPast end (c ∷ []) next → behind_three quote (remaining end) ≡ Some (remaining to) → IsPast end (three quote []) to → FindsThree from end to quote (until_three quote (remaining from))
+pub looks_found : (quote : ℕ) (from end next to : Cursor) (c : Character) → Looks quote from end → IsPast end (c ∷ []) next
+    → behind_three quote (remaining end) ≡ Some (remaining to) → IsPast end (three quote []) to
+    → FindsThree from end to quote (until_three quote (remaining from))
 looks_found quote from end next to c w p h q =
-    let e : until_three quote (remaining end) ≡ Some ([], remaining to) = ap (until_three quote) p.rest ∙ until_at quote c (remaining next) ∙ ap (λ (o : Option (List Character)). here_or o (with_first c (until_three quote (remaining next)))) (sym (ap (behind_three quote) p.rest) ∙ h) in
+    let e : until_three quote (remaining end) ≡ Some ([], remaining to) = ap (until_three quote) p.rest ∙ until_at quote c (remaining next)
+    ∙ ap (λ (o : Option (List Character)). here_or o (with_first c (until_three quote (remaining next)))) (sym (ap (behind_three quote) p.rest) ∙ h) in
     record { content = w.before; is = w.found ∙ ap (with_before w.before) e ∙ before_here w.before (remaining to); past = w.past; quotes = q }
 
 before_nothing : (xs : List Character) → with_before xs None ≡ None
@@ -124,10 +138,12 @@ looks_end quote from end w e = w.found ∙ ap (with_before w.before) (ap (until_
 -- ---- the pieces
 
 -- a token with what it says, between two places
-pub finds_token : (from to : Cursor) (part : Part) (found : Found) (kind : TokenKind) (says all : List Character) → found ≡ Some (token kind says all, remaining to) → IsPast from all to → told part ≡ Some (kind, bytes_of says) → FindsPart from part to found
+pub finds_token : (from to : Cursor) (part : Part) (found : Found) (kind : TokenKind) (says all : List Character)
+    → found ≡ Some (token kind says all, remaining to) → IsPast from all to → told part ≡ Some (kind, bytes_of says) → FindsPart from part to found
 finds_token from to part found kind says all is past told = record { piece = token kind says all; is = is; past = past; says = told }
 
-pub finds_gap : (from to : Cursor) (part : Part) (found : Found) (all : List Character) → found ≡ Some (gap all, remaining to) → IsPast from all to → told part ≡ None → FindsPart from part to found
+pub finds_gap : (from to : Cursor) (part : Part) (found : Found) (all : List Character) → found ≡ Some (gap all, remaining to) → IsPast from all to
+    → told part ≡ None → FindsPart from part to found
 finds_gap from to part found all is past told = record { piece = gap all; is = is; past = past; says = told }
 
 -- the place that a piece ends at, another by the same name
@@ -138,16 +154,23 @@ name_found : (cs : List Character) → name_at cs ≡ colon_at (front classes.Nc
 unfolding name_at
 name_found cs = refl
 
-pub name_colon : (cs rest local : List Character) → rest ≡ after classes.Ncname cs → behind 0x3A rest ≡ Some local → name_at cs ≡ star_at (front classes.Ncname cs) rest local (behind 0x2A local)
-name_colon cs rest local e h = name_found cs ∙ ap (λ (x : List Character). colon_at (front classes.Ncname cs) x (behind 0x3A x)) (sym e) ∙ ap (colon_at (front classes.Ncname cs) rest) h
+pub name_colon : (cs rest local : List Character) → rest ≡ after classes.Ncname cs → behind 0x3A rest ≡ Some local
+    → name_at cs ≡ star_at (front classes.Ncname cs) rest local (behind 0x2A local)
+name_colon cs rest local e h = name_found cs ∙ ap (λ (x : List Character). colon_at (front classes.Ncname cs) x (behind 0x3A x)) (sym e)
+    ∙ ap (colon_at (front classes.Ncname cs) rest) h
 
-pub name_word : (cs rest : List Character) → rest ≡ after classes.Ncname cs → behind 0x3A rest ≡ None → name_at cs ≡ Some (token (word_kind (front classes.Ncname cs)) (front classes.Ncname cs) (front classes.Ncname cs), rest)
-name_word cs rest e h = name_found cs ∙ ap (λ (x : List Character). colon_at (front classes.Ncname cs) x (behind 0x3A x)) (sym e) ∙ ap (colon_at (front classes.Ncname cs) rest) h
+pub name_word : (cs rest : List Character) → rest ≡ after classes.Ncname cs → behind 0x3A rest ≡ None
+    → name_at cs ≡ Some (token (word_kind (front classes.Ncname cs)) (front classes.Ncname cs) (front classes.Ncname cs), rest)
+name_word cs rest e h = name_found cs ∙ ap (λ (x : List Character). colon_at (front classes.Ncname cs) x (behind 0x3A x)) (sym e)
+    ∙ ap (colon_at (front classes.Ncname cs) rest) h
 
-pub colon_past : (from end local : Cursor) (name : List Character) → IsPast from name end → IsPast end (Ordinary 0x3A ∷ []) local → (after : Cursor) (more : List Character) → IsPast local more after → IsPast from (name ++ Ordinary 0x3A ∷ more) after
-colon_past from end local name p q after more r = past_then from end after name (Ordinary 0x3A ∷ more) p (past_then end local after (Ordinary 0x3A ∷ []) more q r)
+pub colon_past : (from end local : Cursor) (name : List Character) → IsPast from name end → IsPast end (Ordinary 0x3A ∷ []) local
+    → (after : Cursor) (more : List Character) → IsPast local more after → IsPast from (name ++ Ordinary 0x3A ∷ more) after
+colon_past from end local name p q after more r =
+    past_then from end after name (Ordinary 0x3A ∷ more) p (past_then end local after (Ordinary 0x3A ∷ []) more q r)
 
-pub quoted_name : (cs rest : List Character) → begins_ncname cs ≡ true → rest ≡ after classes.Ncname cs → quoted_at cs ≡ Some (token kinds.QuotedIdentifier (front classes.Ncname cs) (Ordinary 0x5C ∷ front classes.Ncname cs), rest)
+pub quoted_name : (cs rest : List Character) → begins_ncname cs ≡ true → rest ≡ after classes.Ncname cs
+    → quoted_at cs ≡ Some (token kinds.QuotedIdentifier (front classes.Ncname cs) (Ordinary 0x5C ∷ front classes.Ncname cs), rest)
 unfolding quoted_at
 quoted_name cs rest b e = rw (b, e) refl
 
@@ -155,7 +178,9 @@ pub quoted_none : (cs : List Character) → begins_ncname cs ≡ false → quote
 unfolding quoted_at
 quoted_none cs b = rw b refl
 
-pub segment_some : (quote : ℕ) (cs rest end : List Character) → rest ≡ after (classes.Segment quote) cs → behind quote rest ≡ Some end → segment_at quote cs ≡ Some (token kinds.Segment (front (classes.Segment quote) cs) (Ordinary quote ∷ (front (classes.Segment quote) cs ++ Ordinary quote ∷ [])), end)
+pub segment_some : (quote : ℕ) (cs rest end : List Character) → rest ≡ after (classes.Segment quote) cs → behind quote rest ≡ Some end
+    → segment_at quote cs
+    ≡ Some (token kinds.Segment (front (classes.Segment quote) cs) (Ordinary quote ∷ (front (classes.Segment quote) cs ++ Ordinary quote ∷ [])), end)
 unfolding segment_at
 segment_some quote cs rest end e h = rw (← e, h) refl
 
@@ -163,7 +188,8 @@ pub segment_none : (quote : ℕ) (cs rest : List Character) → rest ≡ after (
 unfolding segment_at
 segment_none quote cs rest e h = rw (← e, h) refl
 
-pub triple_some : (quote : ℕ) (cs third content all end : List Character) → behind quote cs ≡ Some third → behind quote third ≡ Some content → until_three quote content ≡ Some (all, end) → triple_at quote cs ≡ Some (token kinds.TripleSegment all (three quote (all ++ three quote [])), end)
+pub triple_some : (quote : ℕ) (cs third content all end : List Character) → behind quote cs ≡ Some third → behind quote third ≡ Some content
+    → until_three quote content ≡ Some (all, end) → triple_at quote cs ≡ Some (token kinds.TripleSegment all (three quote (all ++ three quote [])), end)
 unfolding triple_at
 triple_some quote cs third content all end e f g = rw (e, f, g) refl
 
@@ -175,27 +201,35 @@ pub triple_no_third : (quote : ℕ) (cs third : List Character) → behind quote
 unfolding triple_at
 triple_no_third quote cs third e f = rw (e, f) refl
 
-pub triple_no_end : (quote : ℕ) (cs third content : List Character) → behind quote cs ≡ Some third → behind quote third ≡ Some content → until_three quote content ≡ None → triple_at quote cs ≡ None
+pub triple_no_end : (quote : ℕ) (cs third content : List Character) → behind quote cs ≡ Some third → behind quote third ≡ Some content
+    → until_three quote content ≡ None → triple_at quote cs ≡ None
 unfolding triple_at
 triple_no_end quote cs third content e f g = rw (e, f, g) refl
 
-pub token_told : (kind : TokenKind) (text : List ℕ) (says : List Character) → text ≡ bytes_of says → ◌≡◌ {A = Option (TokenKind × List ℕ)} (Some (kind, text)) (Some (kind, bytes_of says))
+pub token_told : (kind : TokenKind) (text : List ℕ) (says : List Character) → text ≡ bytes_of says
+    → ◌≡◌ {A = Option (TokenKind × List ℕ)} (Some (kind, text)) (Some (kind, bytes_of says))
 token_told kind text says e = ap (λ (x : List ℕ). Some (kind, x)) e
 
 -- ---- signs
 
-pub long_found : (c : ℕ) (d : Character) (s : Sign) (cs rest : List Character) → cs ≡ d ∷ rest → Some s ≡ sign_of (c ∷ number_of d ∷ []) → long_sign (Ordinary c) (first_of cs) ≡ Some (token (kinds.Sign s) (Ordinary c ∷ d ∷ []) (Ordinary c ∷ d ∷ []), rest)
-long_found c d s cs rest e h = ap (λ (x : List Character). long_sign (Ordinary c) (first_of x)) e ∙ ap (λ (o : Option Sign). signed o (Ordinary c ∷ d ∷ []) rest) (sym h)
+pub long_found : (c : ℕ) (d : Character) (s : Sign) (cs rest : List Character) → cs ≡ d ∷ rest → Some s ≡ sign_of (c ∷ number_of d ∷ [])
+    → long_sign (Ordinary c) (first_of cs) ≡ Some (token (kinds.Sign s) (Ordinary c ∷ d ∷ []) (Ordinary c ∷ d ∷ []), rest)
+long_found c d s cs rest e h = ap (λ (x : List Character). long_sign (Ordinary c) (first_of x)) e
+    ∙ ap (λ (o : Option Sign). signed o (Ordinary c ∷ d ∷ []) rest) (sym h)
 
-pub sign_found : (c : ℕ) (s : Sign) (cs : List Character) → long_sign (Ordinary c) (first_of cs) ≡ None → Some s ≡ sign_of (c ∷ []) → sign_at (Ordinary c) cs ≡ Some (token (kinds.Sign s) (Ordinary c ∷ []) (Ordinary c ∷ []), cs)
+pub sign_found : (c : ℕ) (s : Sign) (cs : List Character) → long_sign (Ordinary c) (first_of cs) ≡ None → Some s ≡ sign_of (c ∷ [])
+    → sign_at (Ordinary c) cs ≡ Some (token (kinds.Sign s) (Ordinary c ∷ []) (Ordinary c ∷ []), cs)
 sign_found c s cs e h = rw (e, ← h) refl
 
 -- ---- names
 
-pub local_found : (name rest local end : List Character) → behind 0x2A local ≡ None → begins_ncname local ≡ true → end ≡ after classes.Ncname local → star_at name rest local (behind 0x2A local) ≡ Some (token kinds.CName (name ++ Ordinary 0x3A ∷ front classes.Ncname local) (name ++ Ordinary 0x3A ∷ front classes.Ncname local), end)
+pub local_found : (name rest local end : List Character) → behind 0x2A local ≡ None → begins_ncname local ≡ true → end ≡ after classes.Ncname local
+    → star_at name rest local (behind 0x2A local)
+    ≡ Some (token kinds.CName (name ++ Ordinary 0x3A ∷ front classes.Ncname local) (name ++ Ordinary 0x3A ∷ front classes.Ncname local), end)
 local_found name rest local end h b e = ap (star_at name rest local) h ∙ rw (b, e) refl
 
-pub local_none : (name rest local : List Character) → behind 0x2A local ≡ None → begins_ncname local ≡ false → star_at name rest local (behind 0x2A local) ≡ Some (token (word_kind name) name name, rest)
+pub local_none : (name rest local : List Character) → behind 0x2A local ≡ None → begins_ncname local ≡ false
+    → star_at name rest local (behind 0x2A local) ≡ Some (token (word_kind name) name name, rest)
 local_none name rest local h b = ap (star_at name rest local) h ∙ rw b refl
 
 -- ---- what begins, by the first character
@@ -222,13 +256,16 @@ pub piece_blank : (c : ℕ) (cs rest : List Character) → cs ≡ Ordinary c ∷
 piece_blank c cs rest e (inl h) = piece_ordinary c cs rest e ∙ subst (λ (c : ℕ). piece_by c rest ≡ Some (gap (Ordinary c ∷ []), rest)) (sym h) refl
 piece_blank c cs rest e (inr h) = piece_ordinary c cs rest e ∙ subst (λ (c : ℕ). piece_by c rest ≡ Some (gap (Ordinary c ∷ []), rest)) (sym h) refl
 
-pub piece_hash : (c : ℕ) (cs rest : List Character) → cs ≡ Ordinary c ∷ rest → c ≡ 0x23 → piece_of cs ≡ Some (gap (Ordinary c ∷ front classes.Line rest), after classes.Line rest)
-piece_hash c cs rest e h = piece_ordinary c cs rest e ∙ subst (λ (c : ℕ). piece_by c rest ≡ Some (gap (Ordinary c ∷ front classes.Line rest), after classes.Line rest)) (sym h) refl
+pub piece_hash : (c : ℕ) (cs rest : List Character) → cs ≡ Ordinary c ∷ rest → c ≡ 0x23
+    → piece_of cs ≡ Some (gap (Ordinary c ∷ front classes.Line rest), after classes.Line rest)
+piece_hash c cs rest e h = piece_ordinary c cs rest e
+    ∙ subst (λ (c : ℕ). piece_by c rest ≡ Some (gap (Ordinary c ∷ front classes.Line rest), after classes.Line rest)) (sym h) refl
 
 pub piece_backslash : (c : ℕ) (cs rest : List Character) → cs ≡ Ordinary c ∷ rest → c ≡ 0x5C → piece_of cs ≡ quoted_at rest
 piece_backslash c cs rest e h = piece_ordinary c cs rest e ∙ subst (λ (c : ℕ). piece_by c rest ≡ quoted_at rest) (sym h) refl
 
-pub piece_quote : (c : ℕ) (cs rest : List Character) → cs ≡ Ordinary c ∷ rest → (c ≡ 0x22) ⊎ (c ≡ 0x27) → piece_of cs ≡ or_else (triple_at c rest) (segment_at c rest)
+pub piece_quote : (c : ℕ) (cs rest : List Character) → cs ≡ Ordinary c ∷ rest → (c ≡ 0x22) ⊎ (c ≡ 0x27)
+    → piece_of cs ≡ or_else (triple_at c rest) (segment_at c rest)
 piece_quote c cs rest e (inl h) = piece_ordinary c cs rest e ∙ subst (λ (c : ℕ). piece_by c rest ≡ or_else (triple_at c rest) (segment_at c rest)) (sym h) refl
 piece_quote c cs rest e (inr h) = piece_ordinary c cs rest e ∙ subst (λ (c : ℕ). piece_by c rest ≡ or_else (triple_at c rest) (segment_at c rest)) (sym h) refl
 
@@ -243,7 +280,16 @@ pub record IsOther (c : ℕ) : Type 0 where
   pub no_apostrophe : c ≡ 0x27 → ⊥
 
 pub piece_sign : (c : ℕ) (cs rest : List Character) → cs ≡ Ordinary c ∷ rest → IsOther c → piece_of cs ≡ sign_at (Ordinary c) rest
-piece_sign c cs rest e h = piece_ordinary c cs rest e ∙ rw (h.no_name, ne_eqb c 0x20 h.no_space, ne_eqb c 0x9 h.no_tab, ne_eqb c 0x23 h.no_hash, ne_eqb c 0x5C h.no_backslash, ne_eqb c 0x22 h.no_mark, ne_eqb c 0x27 h.no_apostrophe) refl
+piece_sign c cs rest e h = piece_ordinary c cs rest e
+    ∙ rw (
+      h.no_name,
+      ne_eqb c 0x20 h.no_space,
+      ne_eqb c 0x9 h.no_tab,
+      ne_eqb c 0x23 h.no_hash,
+      ne_eqb c 0x5C h.no_backslash,
+      ne_eqb c 0x22 h.no_mark,
+      ne_eqb c 0x27 h.no_apostrophe,
+    ) refl
 
 pub or_left : (a b : Found) (x : Piece × List Character) → a ≡ Some x → or_else a b ≡ Some x
 or_left a b x e = ap (λ (a : Found). or_else a b) e

@@ -11,7 +11,8 @@ use Rattle.rnc_text.specs.declared.token.Token.{Token}
 pub record IsNext (cs : List Character) (piece : Piece) (rest : List Character) : Type 0 where
   pub is : IsPiece piece
   pub parts : cs ≡ characters_in piece ++ rest
-  pub longest : (other : Piece) (after : List Character) → IsPiece other → cs ≡ characters_in other ++ after → length (characters_in other) ≤ length (characters_in piece)
+  pub longest : (other : Piece) (after : List Character) → IsPiece other → cs ≡ characters_in other ++ after
+      → length (characters_in other) ≤ length (characters_in piece)
 
 -- no piece begins
 abbrev pub NothingBegins : List Character → Type 0
@@ -20,7 +21,8 @@ NothingBegins cs = (other : Piece) (after : List Character) → IsPiece other �
 -- the characters are cut into these pieces, and the rest follows the last of them
 pub data Cuts : List Character → List Piece → List Character → Type 0 where
   here : {cs rest : List Character} → cs ≡ rest → Cuts cs [] rest
-  next_is : {cs : List Character} {all : List Piece} {rest : List Character} {piece : Piece} {after : List Character} {pieces : List Piece} → IsNext cs piece after → Cuts after pieces rest → all ≡ piece ∷ pieces → Cuts cs all rest
+  next_is : {cs : List Character} {all : List Piece} {rest : List Character} {piece : Piece} {after : List Character} {pieces : List Piece}
+      → IsNext cs piece after → Cuts after pieces rest → all ≡ piece ∷ pieces → Cuts cs all rest
 
 -- a token: its kind, what it says, and the offsets in the decoded text at which the whole of it starts and ends, all in bytes
 pub record Lexeme : Type 0 where
@@ -39,7 +41,8 @@ lexemes_of ts = map lexeme_of ts
 abbrev pub lexemes_at : ℕ → List Piece → List Lexeme
 lexemes_at start [] = []
 lexemes_at start (gap all ∷ pieces) = lexemes_at (start + byte_length all) pieces
-lexemes_at start (token kind says all ∷ pieces) = record { kind = kind; text = bytes_of says; starts = start; ends = start + byte_length all } ∷ lexemes_at (start + byte_length all) pieces
+lexemes_at start (token kind says all ∷ pieces) =
+    record { kind = kind; text = bytes_of says; starts = start; ends = start + byte_length all } ∷ lexemes_at (start + byte_length all) pieces
 
 -- these are the tokens of the characters
 pub record HasTokens (cs : List Character) (tokens : List Lexeme) : Type 0 where

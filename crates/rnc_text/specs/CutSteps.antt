@@ -64,7 +64,10 @@ Found = Option (Piece × List Character)
 -- a word, a CName or an nsName, of which the first NCName and what follows it are given
 abbrev pub local_at : List Character → List Character → List Character → Found
 local_at name rest local = if begins_ncname local
-    then Some (token kinds.CName (name ++ Ordinary 0x3A ∷ front classes.Ncname local) (name ++ Ordinary 0x3A ∷ front classes.Ncname local), after classes.Ncname local)
+    then Some (
+      token kinds.CName (name ++ Ordinary 0x3A ∷ front classes.Ncname local) (name ++ Ordinary 0x3A ∷ front classes.Ncname local),
+      after classes.Ncname local,
+    )
     else Some (token (word_kind name) name name, rest)
 
 abbrev pub star_at : List Character → List Character → List Character → Option (List Character) → Found
@@ -80,7 +83,9 @@ name_at cs = colon_at (front classes.Ncname cs) (after classes.Ncname cs) (behin
 
 -- a quoted identifier whose backslash is gone
 unfoldable pub quoted_at : List Character → Found
-quoted_at cs = if begins_ncname cs then Some (token kinds.QuotedIdentifier (front classes.Ncname cs) (Ordinary 0x5C ∷ front classes.Ncname cs), after classes.Ncname cs) else None
+quoted_at cs =
+    if begins_ncname cs then Some
+    (token kinds.QuotedIdentifier (front classes.Ncname cs) (Ordinary 0x5C ∷ front classes.Ncname cs), after classes.Ncname cs) else None
 
 -- a segment whose first quote is gone
 abbrev pub segment_with : ℕ → List Character → Option (List Character) → Found

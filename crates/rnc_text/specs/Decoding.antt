@@ -35,14 +35,17 @@ pub data Begins : List ℕ → Character → List ℕ → Type 0 where
   -- and an LF
   line_feed : {numbers rest : List ℕ} → numbers ≡ 0xA ∷ rest → Begins numbers LineEnd rest
   -- `\x{`, digits and `}`, for the Char with that number (XML 1.0 Fifth Edition, section 2.2)
-  escape : {numbers : List ℕ} {c : ℕ} {rest : List ℕ} {digits : List ℕ} → AreDigits digits → c ≡ hexadecimal digits → is_xml_char c ≡ true → numbers ≡ 0x5C ∷ 0x78 ∷ 0x7B ∷ (digits ++ 0x7D ∷ rest) → Begins numbers (Ordinary c) rest
+  escape : {numbers : List ℕ} {c : ℕ} {rest : List ℕ} {digits : List ℕ} → AreDigits digits → c ≡ hexadecimal digits → is_xml_char c ≡ true
+      → numbers ≡ 0x5C ∷ 0x78 ∷ 0x7B ∷ (digits ++ 0x7D ∷ rest) → Begins numbers (Ordinary c) rest
   -- any other Char at which no escape begins
-  other : {numbers : List ℕ} {c : ℕ} {rest : List ℕ} → c ≢ 0xD → c ≢ 0xA → is_xml_char c ≡ true → ¬ (OpensEscape numbers) → numbers ≡ c ∷ rest → Begins numbers (Ordinary c) rest
+  other : {numbers : List ℕ} {c : ℕ} {rest : List ℕ} → c ≢ 0xD → c ≢ 0xA → is_xml_char c ≡ true → ¬ (OpensEscape numbers) → numbers ≡ c ∷ rest
+      → Begins numbers (Ordinary c) rest
 
 -- the numbers begin with these characters, one after the other, and the rest follows them
 pub data Decodes : List ℕ → List Character → List ℕ → Type 0 where
   here : {numbers rest : List ℕ} → numbers ≡ rest → Decodes numbers [] rest
-  next_is : {numbers : List ℕ} {all : List Character} {rest : List ℕ} {c : Character} {after : List ℕ} {cs : List Character} → Begins numbers c after → Decodes after cs rest → all ≡ c ∷ cs → Decodes numbers all rest
+  next_is : {numbers : List ℕ} {all : List Character} {rest : List ℕ} {c : Character} {after : List ℕ} {cs : List Character} → Begins numbers c after
+      → Decodes after cs rest → all ≡ c ∷ cs → Decodes numbers all rest
 
 -- the bytes are the UTF-8 of these numbers
 pub record IsSpelling (bytes : List ℕ) (numbers : List ℕ) : Type 0 where

@@ -24,7 +24,8 @@ opens_from any (c ∷ cs) = if c == 0x78 then opens_from true cs else (if c == 0
 
 abbrev pub hexadecimal_step : (ℕ → List ℕ → Option (ℕ × List ℕ)) → ℕ → ℕ → Option (ℕ × List ℕ) → Option (ℕ × List ℕ)
 hexadecimal_step next k n None = None
-hexadecimal_step next k n (Some x) = if (x.0 == 0x7D) && nat_lt k 6 then Some (n, x.1) else (if is_digit x.0 16 then next (n * 16 + digit_value x.0) x.1 else None)
+hexadecimal_step next k n (Some x) =
+    if (x.0 == 0x7D) && nat_lt k 6 then Some (n, x.1) else (if is_digit x.0 16 then next (n * 16 + digit_value x.0) x.1 else None)
 
 -- Digits in front of a closing brace, after others with the number n: the number of all, and what follows the brace.
 -- At most k characters are looked at, of the seven that digits and brace can be.
@@ -52,7 +53,9 @@ abbrev pub plain_front : ℕ → List ℕ → Option (Character × List ℕ)
 plain_front c cs = if is_xml_char c then Some (Ordinary c, cs) else None
 
 abbrev pub front_by : ℕ → List ℕ → Option (Character × List ℕ)
-front_by c cs = if c == 0xD then Some (LineEnd, without_line_feed cs) else (if c == 0xA then Some (LineEnd, cs) else (if (c == 0x5C) && opens_from false cs then escape_front cs else plain_front c cs))
+front_by c cs =
+    if c == 0xD then Some (LineEnd, without_line_feed cs) else
+    (if c == 0xA then Some (LineEnd, cs) else (if (c == 0x5C) && opens_from false cs then escape_front cs else plain_front c cs))
 
 abbrev pub front_at : Option (ℕ × List ℕ) → Option (Character × List ℕ)
 front_at None = None

@@ -15,7 +15,8 @@ unmarked c = if c == 0xA then LineEnd else Ordinary c
 unfoldable pub marked : ℕ → List ℕ → List ℕ → List Character
 marked whole marks [] = []
 marked whole [] (c ∷ cs) = unmarked c ∷ marked whole [] cs
-marked whole (m ∷ marks) (c ∷ cs) = if m == whole - length (encode_utf8_all (c ∷ cs)) then Ordinary c ∷ marked whole marks cs else unmarked c ∷ marked whole (m ∷ marks) cs
+marked whole (m ∷ marks) (c ∷ cs) =
+    if m == whole - length (encode_utf8_all (c ∷ cs)) then Ordinary c ∷ marked whole marks cs else unmarked c ∷ marked whole (m ∷ marks) cs
 
 -- the marks that are left after these numbers
 unfoldable pub unused : ℕ → List ℕ → List ℕ → List ℕ

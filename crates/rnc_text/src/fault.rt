@@ -5,7 +5,7 @@ ghost use Rattle.rnc_text.specs.declared.fault.TextFault.TheVariants as faults;
 use std::alloc::{AllocError, AllocFailed};
 
 /// Why a text was not read, or not cut into tokens.
-#[derive(Clone, Copy, Debug, PartialEq, Eq)]
+#[derive(Clone, Copy, Debug)]
 pub enum TextFault {
     /// The text breaks a clause at a place, which is an offset in bytes.
     ///

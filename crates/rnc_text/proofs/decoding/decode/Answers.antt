@@ -11,8 +11,11 @@ rest-init c = record { text = c.utf8.text; within = omega arith; decoded = rw c.
 
 pub returns-in_default-clause-fault : goal.returns-in_default-clause-fault
 returns-in_default-clause-fault c =
-    let some = not_empty c.rest.rest.now (sym c.is_empty.ensures ∙ c.rest-test.true) in
-    (refl, text_broken _ _ _ _ c.utf8.text c.rest.invariant.text c.rest.invariant.decoded (some_chars _ c.rest.invariant.text some) (nothing_begins _ c.in_default.ensures) (omega (arith, c.rest.invariant.within)))
+    let some = not_empty c.rest.rest.now (sym c.is_empty.ensures ∙ c.rest-test.true) in (
+      refl,
+      text_broken _ _ _ _ c.utf8.text c.rest.invariant.text c.rest.invariant.decoded (some_chars _ c.rest.invariant.text some)
+          (nothing_begins _ c.in_default.ensures) (omega (arith, c.rest.invariant.within)),
+    )
 
 pub rest-smaller : goal.rest-smaller
 rest-smaller c =
@@ -31,4 +34,5 @@ rest-preserved c =
     }
 
 pub returns-clause-found : goal.returns-clause-found
-returns-clause-found c = text_decoded _ _ _ c.utf8.text c.rest.invariant.decoded (no_chars _ c.rest.invariant.text (eqb-true _ _ (sym c.is_empty.ensures ∙ c.rest-test.false)))
+returns-clause-found c =
+    text_decoded _ _ _ c.utf8.text c.rest.invariant.decoded (no_chars _ c.rest.invariant.text (eqb-true _ _ (sym c.is_empty.ensures ∙ c.rest-test.false)))

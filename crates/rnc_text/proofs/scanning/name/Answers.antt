@@ -12,4 +12,5 @@ pub returns-in-None : goal.returns-in-None
 returns-in-None c =
     let name = front classes.Ncname (remaining c.args.from) in
     finds_at _ _ _ _ _ c.word.ensures.end
-    (finds_token c.args.from c.past-end.result _ _ (word_kind name) name name (name_word _ _ c.past-end.ensures.rest c.in-None.ensures) c.past-end.ensures.past (c.word.ensures.part name c.past-end.ensures.past))
+    (finds_token c.args.from c.past-end.result _ _ (word_kind name) name name (name_word _ _ c.past-end.ensures.rest c.in-None.ensures) c.past-end.ensures.past
+    (c.word.ensures.part name c.past-end.ensures.past))

@@ -1,5 +1,5 @@
 use Rattle.std.proofs.Common.{sym, ◌∙◌}
-use Rattle.rnc_text.proofs.Places.{past_shorter}
+use Rattle.rnc_text.proofs.Cursors.{past_shorter}
 use Rattle.rnc_text.proofs.Scans.{walks_none, walks_on, walks_out, walks_end}
 use Rattle.rnc_text.proofs.scanning.past.Goals as goal
 
@@ -7,10 +7,12 @@ pub characters-init : goal.characters-init
 characters-init c = walks_none _ _
 
 pub returns-then-not-is_in-clause-past : goal.returns-then-not-is_in-clause-past
-returns-then-not-is_in-clause-past c = (walks_out _ _ _ c.in-Some.next _ c.characters.invariant c.in-Some.ensures (sym c.is_in.ensures ∙ c.if-not-is_in.true)).past
+returns-then-not-is_in-clause-past c =
+    (walks_out _ _ _ c.in-Some.next _ c.characters.invariant c.in-Some.ensures (sym c.is_in.ensures ∙ c.if-not-is_in.true)).past
 
 pub returns-then-not-is_in-clause-rest : goal.returns-then-not-is_in-clause-rest
-returns-then-not-is_in-clause-rest c = (walks_out _ _ _ c.in-Some.next _ c.characters.invariant c.in-Some.ensures (sym c.is_in.ensures ∙ c.if-not-is_in.true)).rest
+returns-then-not-is_in-clause-rest c =
+    (walks_out _ _ _ c.in-Some.next _ c.characters.invariant c.in-Some.ensures (sym c.is_in.ensures ∙ c.if-not-is_in.true)).rest
 
 pub characters-smaller : goal.characters-smaller
 characters-smaller c = past_shorter _ _ _ c.in-Some.ensures

@@ -11,4 +11,5 @@ pub returns-in_ok-sign-in-None : goal.returns-in_ok-sign-in-None
 returns-in_ok-sign-in-None c =
     let all = Ordinary c.args.first ∷ [] in
     finds_token c.args.from c.args.after _ _ (kinds.Sign c.in_ok-sign-in-None.sign) all all
-    (sign_found c.args.first c.in_ok-sign-in-None.sign _ c.in-None.ensures c.in_ok-sign-in-None.ensures) c.requires (token_told (kinds.Sign c.in_ok-sign-in-None.sign) _ all (c.text_to.ensures all c.requires))
+    (sign_found c.args.first c.in_ok-sign-in-None.sign _ c.in-None.ensures c.in_ok-sign-in-None.ensures) c.requires
+    (token_told (kinds.Sign c.in_ok-sign-in-None.sign) _ all (c.text_to.ensures all c.requires))

@@ -3,7 +3,7 @@ use Rattle.std.specs.Str.{IsUtf8, chars}
 use Rattle.rnc_text.specs.Held.{marked}
 use Rattle.rnc_text.specs.declared.character.Character.{Character}
 use Rattle.rnc_text.specs.declared.character.Character.TheVariants.{Ordinary}
-use Rattle.rnc_text.proofs.Places.{nothing_left, steps_marked, steps_plain, bytes_first, number_unmarked}
+use Rattle.rnc_text.proofs.Cursors.{nothing_left, steps_marked, steps_plain, bytes_first, number_unmarked}
 use Rattle.rnc_text.proofs.cursor.Cursor.step.Goals as goal
 
 pub returns-in_err-first : goal.returns-in_err-first
@@ -23,7 +23,9 @@ returns-in-None c =
     let u : IsUtf8 c.args.self.rest.now = search rules in
     let e = c.unmarked.ensures in
     record {
-      rest = steps_plain _ _ _ _ _ u c.in_ok-first.ensures.chars c.in-None.ensures ∙ ap (λ (d : Character). d ∷ marked c.args.self.length c.args.self.escaped.now (chars c.in_ok-first.rest.now)) (sym e);
-      bytes = bytes_first _ c.in_ok-first.rest.now c.in_ok-first.first c.unmarked.result (rw e (number_unmarked c.in_ok-first.first)) c.in_ok-first.ensures.bytes;
+      rest = steps_plain _ _ _ _ _ u c.in_ok-first.ensures.chars c.in-None.ensures
+          ∙ ap (λ (d : Character). d ∷ marked c.args.self.length c.args.self.escaped.now (chars c.in_ok-first.rest.now)) (sym e);
+      bytes = bytes_first _ c.in_ok-first.rest.now c.in_ok-first.first c.unmarked.result
+          (rw e (number_unmarked c.in_ok-first.first)) c.in_ok-first.ensures.bytes;
       whole = refl;
     }

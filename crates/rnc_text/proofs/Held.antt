@@ -1,5 +1,6 @@
 -- What a text keeps, as it grows by one character.
-use Rattle.std.proofs.Common.{◌≡◌, ℕ, ◌+◌, ◌-◌, ◌≤◌, Bool, true, false, cond, eqb, Result, Ok, Err, List, [], ◌∷◌, ◌++◌, length, refl, sym, ap, subst, ◌∙◌, arith}
+use Rattle.std.proofs.Common.{◌≡◌, ℕ, ◌+◌, ◌-◌, ◌≤◌, Bool, true, false, cond, eqb, Result, Ok, Err, List, [], ◌∷◌, ◌++◌, length, refl, sym, ap, subst, ◌∙◌}
+use Rattle.std.proofs.Common.{arith}
 use Rattle.std.specs.Prelude.{IfOk, is_ok}
 use Rattle.std.specs.Str.{chars, IsUtf8, encode_utf8_all}
 use Rattle.std.specs.Char.{encode_utf8}
@@ -23,9 +24,11 @@ pub numbers_marked : (whole : ℕ) (ms cs : List ℕ) → numbers_of (marked who
 unfolding marked
 numbers_marked whole ms [] = refl
 numbers_marked whole [] (c ∷ cs) = let a = number_unmarked c in let b = numbers_marked whole [] cs in cc
-numbers_marked whole (m ∷ ms) (c ∷ cs) = numbers_step whole m c ms cs (eqb m (whole - length (encode_utf8_all (c ∷ cs)))) refl (numbers_marked whole ms cs) (numbers_marked whole (m ∷ ms) cs)
+numbers_marked whole (m ∷ ms) (c ∷ cs) =
+    numbers_step whole m c ms cs (eqb m (whole - length (encode_utf8_all (c ∷ cs)))) refl (numbers_marked whole ms cs) (numbers_marked whole (m ∷ ms) cs)
   where
-    numbers_step : (whole m c : ℕ) (ms cs : List ℕ) (b : Bool) → eqb m (whole - length (encode_utf8_all (c ∷ cs))) ≡ b → numbers_of (marked whole ms cs) ≡ cs → numbers_of (marked whole (m ∷ ms) cs) ≡ cs → numbers_of (marked whole (m ∷ ms) (c ∷ cs)) ≡ c ∷ cs
+    numbers_step : (whole m c : ℕ) (ms cs : List ℕ) (b : Bool) → eqb m (whole - length (encode_utf8_all (c ∷ cs))) ≡ b → numbers_of (marked whole ms cs) ≡ cs
+        → numbers_of (marked whole (m ∷ ms) cs) ≡ cs → numbers_of (marked whole (m ∷ ms) (c ∷ cs)) ≡ c ∷ cs
     numbers_step whole m c ms cs true e p q = rw e (ap (λ (x : List ℕ). c ∷ x) p)
     numbers_step whole m c ms cs false e p q = rw e (let a = number_unmarked c in cc)
 
@@ -34,11 +37,13 @@ bytes_kept whole ms bs u = rw (numbers_marked whole ms (chars bs)) (sym (encodes
 
 -- ---- one more character
 
-grown : (whole c d : ℕ) (cs : List ℕ) → (whole + length (encode_utf8 d)) - length (encode_utf8_all (c ∷ (cs ++ d ∷ []))) ≡ whole - length (encode_utf8_all (c ∷ cs))
+grown : (whole c d : ℕ) (cs : List ℕ)
+    → (whole + length (encode_utf8 d)) - length (encode_utf8_all (c ∷ (cs ++ d ∷ []))) ≡ whole - length (encode_utf8_all (c ∷ cs))
 grown whole c d cs =
     let e : encode_utf8_all (c ∷ (cs ++ d ∷ [])) ≡ encode_utf8_all (c ∷ cs) ++ (encode_utf8 d ++ []) = encodes-append (c ∷ cs) (d ∷ []) in
     let f = append-nil (encode_utf8 d) in
-    let g : length (encode_utf8_all (c ∷ (cs ++ d ∷ []))) ≡ length (encode_utf8_all (c ∷ cs)) + length (encode_utf8 d) = ap length e ∙ length-append _ _ ∙ ap (λ (x : List ℕ). length (encode_utf8_all (c ∷ cs)) + length x) f in
+    let g : length (encode_utf8_all (c ∷ (cs ++ d ∷ []))) ≡ length (encode_utf8_all (c ∷ cs)) + length (encode_utf8 d) = ap length e ∙ length-append _ _
+    ∙ ap (λ (x : List ℕ). length (encode_utf8_all (c ∷ cs)) + length x) f in
     rw g (omega arith)
 
 -- after one more character with no mark
@@ -50,7 +55,8 @@ plain_first : (whole c d : ℕ) (cs : List ℕ) → Plain whole d [] cs → Plai
 unfolding marked unused
 plain_first whole c d cs p = record { is = ap (λ (x : List Character). unmarked c ∷ x) p.is; used = p.used }
 
-plain_next : (whole m c d : ℕ) (ms cs : List ℕ) (b : Bool) → eqb m (whole - length (encode_utf8_all (c ∷ cs))) ≡ b → unused whole (m ∷ ms) (c ∷ cs) ≡ [] → (unused whole ms cs ≡ [] → Plain whole d ms cs) → (unused whole (m ∷ ms) cs ≡ [] → Plain whole d (m ∷ ms) cs) → Plain whole d (m ∷ ms) (c ∷ cs)
+plain_next : (whole m c d : ℕ) (ms cs : List ℕ) (b : Bool) → eqb m (whole - length (encode_utf8_all (c ∷ cs))) ≡ b → unused whole (m ∷ ms) (c ∷ cs) ≡ []
+    → (unused whole ms cs ≡ [] → Plain whole d ms cs) → (unused whole (m ∷ ms) cs ≡ [] → Plain whole d (m ∷ ms) cs) → Plain whole d (m ∷ ms) (c ∷ cs)
 unfolding marked unused
 plain_next whole m c d ms cs true e u p q =
     let r = p (rw e at u) in
@@ -75,7 +81,8 @@ plain : (whole d : ℕ) (ms cs : List ℕ) → unused whole ms cs ≡ [] → Pla
 plain whole d [] [] u = plain_end whole d
 plain whole d (m ∷ ms) [] u = absurd (used_nil whole m ms u)
 plain whole d [] (c ∷ cs) u = plain_first whole c d cs (plain whole d [] cs (used_first whole c cs u))
-plain whole d (m ∷ ms) (c ∷ cs) u = plain_next whole m c d ms cs (eqb m (whole - length (encode_utf8_all (c ∷ cs)))) refl u (λ e. plain whole d ms cs e) (λ e. plain whole d (m ∷ ms) cs e)
+plain whole d (m ∷ ms) (c ∷ cs) u =
+    plain_next whole m c d ms cs (eqb m (whole - length (encode_utf8_all (c ∷ cs)))) refl u (λ e. plain whole d ms cs e) (λ e. plain whole d (m ∷ ms) cs e)
 
 -- after one more character whose offset is marked
 record Marked (whole d : ℕ) (ms cs : List ℕ) : Type 0 where
@@ -95,7 +102,8 @@ marked_first whole c d cs le p =
     let e : eqb whole (whole - length (encode_utf8_all (c ∷ cs))) ≡ false = ne_eqb _ _ (λ same. absurd (omega (arith, same, le, length-le-encodes (c ∷ cs)))) in
     record { is = rw (grown whole c d cs, e) (ap (λ (x : List Character). unmarked c ∷ x) p.is); used = rw (grown whole c d cs, e) p.used }
 
-marked_next : (whole m c d : ℕ) (ms cs : List ℕ) (b : Bool) → eqb m (whole - length (encode_utf8_all (c ∷ cs))) ≡ b → unused whole (m ∷ ms) (c ∷ cs) ≡ [] → (unused whole ms cs ≡ [] → Marked whole d ms cs) → (unused whole (m ∷ ms) cs ≡ [] → Marked whole d (m ∷ ms) cs) → Marked whole d (m ∷ ms) (c ∷ cs)
+marked_next : (whole m c d : ℕ) (ms cs : List ℕ) (b : Bool) → eqb m (whole - length (encode_utf8_all (c ∷ cs))) ≡ b → unused whole (m ∷ ms) (c ∷ cs) ≡ []
+    → (unused whole ms cs ≡ [] → Marked whole d ms cs) → (unused whole (m ∷ ms) cs ≡ [] → Marked whole d (m ∷ ms) cs) → Marked whole d (m ∷ ms) (c ∷ cs)
 unfolding marked unused
 marked_next whole m c d ms cs true e u p q =
     let r = p (rw e at u) in
@@ -111,26 +119,33 @@ with_mark : (whole d : ℕ) (ms cs : List ℕ) → length (encode_utf8_all cs) �
 with_mark whole d [] [] le u = marked_end whole d
 with_mark whole d (m ∷ ms) [] le u = absurd (used_nil whole m ms u)
 with_mark whole d [] (c ∷ cs) le u = marked_first whole c d cs le (with_mark whole d [] cs (fewer whole c cs le) (used_first whole c cs u))
-with_mark whole d (m ∷ ms) (c ∷ cs) le u = marked_next whole m c d ms cs (eqb m (whole - length (encode_utf8_all (c ∷ cs)))) refl u (λ e. with_mark whole d ms cs (fewer whole c cs le) e) (λ e. with_mark whole d (m ∷ ms) cs (fewer whole c cs le) e)
+with_mark whole d (m ∷ ms) (c ∷ cs) le u =
+    marked_next whole m c d ms cs (eqb m (whole - length (encode_utf8_all (c ∷ cs)))) refl u (λ e. with_mark whole d ms cs (fewer whole c cs le) e)
+    (λ e. with_mark whole d (m ∷ ms) cs (fewer whole c cs le) e)
 
 -- ---- at the bytes of a text
 
 chars_push : (old new : List ℕ) (c : ℕ) → IsUtf8 old → IsUtf8 new → new ≡ old ++ encode_utf8 c → chars new ≡ chars old ++ c ∷ []
 chars_push old new c u v e =
-    encodes_same (chars new) (chars old ++ c ∷ []) (encodes-chars new v ∙ e ∙ sym (encodes-append (chars old) (c ∷ []) ∙ ap (λ (x : List ℕ). x ++ (encode_utf8 c ++ [])) (encodes-chars old u) ∙ ap (λ (x : List ℕ). old ++ x) (append-nil (encode_utf8 c))))
+    encodes_same (chars new) (chars old ++ c ∷ [])
+    (encodes-chars new v ∙ e
+    ∙ sym (encodes-append (chars old) (c ∷ []) ∙ ap (λ (x : List ℕ). x ++ (encode_utf8 c ++ [])) (encodes-chars old u)
+    ∙ ap (λ (x : List ℕ). old ++ x) (append-nil (encode_utf8 c))))
 
 -- the bytes after and before, with the marks, have the character more and leave no mark
 pub record Grows (old new : List ℕ) (before after : List ℕ) (c : Character) : Type 0 where
   pub is : marked (length new) after (chars new) ≡ marked (length old) before (chars old) ++ c ∷ []
   pub used : unused (length new) after (chars new) ≡ []
 
-pub grows_plain : (old new ms : List ℕ) (c : ℕ) → IsUtf8 old → IsUtf8 new → new ≡ old ++ encode_utf8 c → unused (length old) ms (chars old) ≡ [] → Grows old new ms ms (unmarked c)
+pub grows_plain : (old new ms : List ℕ) (c : ℕ) → IsUtf8 old → IsUtf8 new → new ≡ old ++ encode_utf8 c → unused (length old) ms (chars old) ≡ []
+    → Grows old new ms ms (unmarked c)
 grows_plain old new ms c u v e used =
     let len : length new ≡ length old + length (encode_utf8 c) = ap length e ∙ length-append _ _ in
     let p = plain (length old) c ms (chars old) used in
     record { is = rw (chars_push old new c u v e, len) p.is; used = rw (chars_push old new c u v e, len) p.used }
 
-pub grows_marked : (old new ms after : List ℕ) (c : ℕ) → IsUtf8 old → IsUtf8 new → new ≡ old ++ encode_utf8 c → after ≡ ms ++ length old ∷ [] → unused (length old) ms (chars old) ≡ [] → Grows old new ms after (Ordinary c)
+pub grows_marked : (old new ms after : List ℕ) (c : ℕ) → IsUtf8 old → IsUtf8 new → new ≡ old ++ encode_utf8 c → after ≡ ms ++ length old ∷ []
+    → unused (length old) ms (chars old) ≡ [] → Grows old new ms after (Ordinary c)
 grows_marked old new ms after c u v e marks used =
     let len : length new ≡ length old + length (encode_utf8 c) = ap length e ∙ length-append _ _ in
     let p = with_mark (length old) c ms (chars old) (omega (arith, ap length (encodes-chars old u))) used in
@@ -148,8 +163,12 @@ if_ok (Ok x) f = f refl
 if_ok (Err e) f = tt
 
 -- a push that did not fail
-pub pushed_plain : {X E : Type 0} (r : Result X E) (old new ms : List ℕ) (c : ℕ) (d : Character) → new ≡ cond (is_ok r) (old ++ encode_utf8 c) old → IsUtf8 old → IsUtf8 new → unused (length old) ms (chars old) ≡ [] → unmarked c ≡ d → is_ok r ≡ true → Grows old new ms ms d
+pub pushed_plain : {X E : Type 0} (r : Result X E) (old new ms : List ℕ) (c : ℕ) (d : Character) → new ≡ cond (is_ok r) (old ++ encode_utf8 c) old → IsUtf8 old
+    → IsUtf8 new → unused (length old) ms (chars old) ≡ [] → unmarked c ≡ d → is_ok r ≡ true → Grows old new ms ms d
 pushed_plain r old new ms c d bytes u v used is ok = subst (λ (d : Character). Grows old new ms ms d) is (grows_plain old new ms c u v (rw ok at bytes) used)
 
-pub pushed_marked : {X E : Type 0} (r : Result X E) (old new ms after : List ℕ) (c : ℕ) (d : Character) → new ≡ cond (is_ok r) (old ++ encode_utf8 c) old → after ≡ ms ++ length old ∷ [] → IsUtf8 old → IsUtf8 new → unused (length old) ms (chars old) ≡ [] → Ordinary c ≡ d → is_ok r ≡ true → Grows old new ms after d
-pushed_marked r old new ms after c d bytes marks u v used is ok = subst (λ (d : Character). Grows old new ms after d) is (grows_marked old new ms after c u v (rw ok at bytes) marks used)
+pub pushed_marked : {X E : Type 0} (r : Result X E) (old new ms after : List ℕ) (c : ℕ) (d : Character) → new ≡ cond (is_ok r) (old ++ encode_utf8 c) old
+    → after ≡ ms ++ length old ∷ [] → IsUtf8 old → IsUtf8 new → unused (length old) ms (chars old) ≡ [] → Ordinary c ≡ d → is_ok r ≡ true
+    → Grows old new ms after d
+pushed_marked r old new ms after c d bytes marks u v used is ok =
+    subst (λ (d : Character). Grows old new ms after d) is (grows_marked old new ms after c u v (rw ok at bytes) marks used)

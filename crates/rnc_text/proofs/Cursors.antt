@@ -1,5 +1,6 @@
 -- Places in a text, and what stands between them.
-use Rattle.std.proofs.Common.{◌≡◌, ℕ, ◌-◌, ◌<◌, Bool, true, false, eqb, inl, inr, List, [], ◌∷◌, ◌++◌, length, take, Option, Some, None, refl, sym, ap, subst, ◌∙◌, append_assoc, arith}
+use Rattle.std.proofs.Common.{◌≡◌, ℕ, ◌-◌, ◌<◌, Bool, true, false, eqb, inl, inr, List, [], ◌∷◌, ◌++◌, length, take, Option, Some, None, refl, sym, ap, subst}
+use Rattle.std.proofs.Common.{◌∙◌, append_assoc, arith}
 use Rattle.std.specs.Str.{chars, IsUtf8, IsCharBoundary, encode_utf8_all}
 use Rattle.std.specs.Char.{encode_utf8}
 use Rattle.std.proofs.lemmas.Bool.{eqb-true}
@@ -7,7 +8,6 @@ use Rattle.std.proofs.lemmas.List.{length-append, append-nil, map-append}
 use Rattle.std.proofs.Math.Seq.{take-append_seam}
 use Rattle.std.proofs.lemmas.Str.{encodes-append, encodes-chars, length-le-encodes, IsCharBoundary-at_seam}
 use Rattle.std.proofs.lemmas.Option.{none-some, same_Some, some_pair_parts}
-use Rattle.rnc_text.proofs.Escapes.{chosen}
 use Rattle.rnc_text.specs.declared.character.Character.{Character}
 use Rattle.rnc_text.specs.declared.character.Character.TheVariants.{Ordinary}
 use Rattle.rnc_text.specs.declared.cursor.Cursor.{Cursor}
@@ -15,6 +15,7 @@ use Rattle.rnc_text.specs.Characters.{number_of, numbers_of, bytes_of}
 use Rattle.rnc_text.specs.Held.{unmarked, marked, next_marks}
 use Rattle.rnc_text.specs.DecodingSteps.{first_and_rest}
 use Rattle.rnc_text.specs.Cursors.{remaining, IsPast}
+use Rattle.rnc_text.proofs.Basics.{chosen}
 
 pub bytes_append : (xs ys : List Character) → bytes_of (xs ++ ys) ≡ bytes_of xs ++ bytes_of ys
 bytes_append xs ys = ap encode_utf8_all (map-append number_of xs ys) ∙ encodes-append (numbers_of xs) (numbers_of ys)
@@ -25,7 +26,8 @@ past_none a = record { rest = refl; bytes = refl; whole = refl }
 pub past_then : (a b c : Cursor) (xs ys : List Character) → IsPast a xs b → IsPast b ys c → IsPast a (xs ++ ys) c
 past_then a b c xs ys p q = record {
   rest = p.rest ∙ ap (λ (x : List Character). xs ++ x) q.rest ∙ sym (append_assoc xs ys (remaining c));
-  bytes = p.bytes ∙ ap (λ (x : List ℕ). bytes_of xs ++ x) q.bytes ∙ sym (append_assoc (bytes_of xs) (bytes_of ys) c.rest.now) ∙ ap (λ (x : List ℕ). x ++ c.rest.now) (sym (bytes_append xs ys));
+  bytes = p.bytes ∙ ap (λ (x : List ℕ). bytes_of xs ++ x) q.bytes ∙ sym (append_assoc (bytes_of xs) (bytes_of ys) c.rest.now)
+      ∙ ap (λ (x : List ℕ). x ++ c.rest.now) (sym (bytes_append xs ys));
   whole = q.whole ∙ p.whole;
 }
 
@@ -49,11 +51,13 @@ first_is : (c : ℕ) (cs ds : List ℕ) → ◌≡◌ {A = Option (ℕ × List �
 first_is c [] ds e = absurd (none-some _ (sym e))
 first_is c (d ∷ cs) ds e = let p = some_pair_parts _ _ _ _ e in let a = p.0 in let b = p.1 in cc
 
-mark_at : (whole place m c : ℕ) (ms cs : List ℕ) → length (encode_utf8_all (c ∷ cs)) ≡ place → eqb m (whole - place) ≡ true → marked whole (m ∷ ms) (c ∷ cs) ≡ Ordinary c ∷ marked whole ms cs
+mark_at : (whole place m c : ℕ) (ms cs : List ℕ) → length (encode_utf8_all (c ∷ cs)) ≡ place → eqb m (whole - place) ≡ true
+    → marked whole (m ∷ ms) (c ∷ cs) ≡ Ordinary c ∷ marked whole ms cs
 unfolding marked
 mark_at whole place m c ms cs e h = rw (e, h) refl
 
-plain_at : (whole place m c : ℕ) (ms cs : List ℕ) → length (encode_utf8_all (c ∷ cs)) ≡ place → eqb m (whole - place) ≡ false → marked whole (m ∷ ms) (c ∷ cs) ≡ unmarked c ∷ marked whole (m ∷ ms) cs
+plain_at : (whole place m c : ℕ) (ms cs : List ℕ) → length (encode_utf8_all (c ∷ cs)) ≡ place → eqb m (whole - place) ≡ false
+    → marked whole (m ∷ ms) (c ∷ cs) ≡ unmarked c ∷ marked whole (m ∷ ms) cs
 unfolding marked
 plain_at whole place m c ms cs e h = rw (e, h) refl
 
@@ -61,7 +65,8 @@ no_marks : (whole c : ℕ) (cs : List ℕ) → marked whole [] (c ∷ cs) ≡ un
 unfolding marked
 no_marks whole c cs = refl
 
-marked_step : (whole place c : ℕ) (ms ns cs : List ℕ) → length (encode_utf8_all (c ∷ cs)) ≡ place → next_marks (whole - place) ms ≡ Some ns → marked whole ms (c ∷ cs) ≡ Ordinary c ∷ marked whole ns cs
+marked_step : (whole place c : ℕ) (ms ns cs : List ℕ) → length (encode_utf8_all (c ∷ cs)) ≡ place → next_marks (whole - place) ms ≡ Some ns
+    → marked whole ms (c ∷ cs) ≡ Ordinary c ∷ marked whole ns cs
 marked_step whole place c [] ns cs len e = absurd (none-some _ e)
 marked_step whole place c (m ∷ ms) ns cs len e =
     elim (chosen (eqb m (whole - place)) _ _ _ e) [
@@ -69,7 +74,8 @@ marked_step whole place c (m ∷ ms) ns cs len e =
       | inr h ↦ absurd (none-some _ h.1)
     ]
 
-plain_step : (whole place c : ℕ) (ms cs : List ℕ) → length (encode_utf8_all (c ∷ cs)) ≡ place → next_marks (whole - place) ms ≡ None → marked whole ms (c ∷ cs) ≡ unmarked c ∷ marked whole ms cs
+plain_step : (whole place c : ℕ) (ms cs : List ℕ) → length (encode_utf8_all (c ∷ cs)) ≡ place → next_marks (whole - place) ms ≡ None
+    → marked whole ms (c ∷ cs) ≡ unmarked c ∷ marked whole ms cs
 plain_step whole place c [] cs len e = no_marks whole c cs
 plain_step whole place c (m ∷ ms) cs len e =
     elim (chosen (eqb m (whole - place)) _ _ _ e) [
@@ -80,12 +86,14 @@ plain_step whole place c (m ∷ ms) cs len e =
 chars_length : (bs cs : List ℕ) → IsUtf8 bs → chars bs ≡ cs → length (encode_utf8_all cs) ≡ length bs
 chars_length bs cs u e = ap (λ (x : List ℕ). length (encode_utf8_all x)) (sym e) ∙ ap length (encodes-chars bs u)
 
-pub steps_marked : (whole : ℕ) (ms ns bs rest : List ℕ) (c : ℕ) → IsUtf8 bs → ◌≡◌ {A = Option (ℕ × List ℕ)} (Some (c, chars rest)) (first_and_rest (chars bs)) → Some ns ≡ next_marks (whole - length bs) ms → marked whole ms (chars bs) ≡ Ordinary c ∷ marked whole ns (chars rest)
+pub steps_marked : (whole : ℕ) (ms ns bs rest : List ℕ) (c : ℕ) → IsUtf8 bs → ◌≡◌ {A = Option (ℕ × List ℕ)} (Some (c, chars rest)) (first_and_rest (chars bs))
+    → Some ns ≡ next_marks (whole - length bs) ms → marked whole ms (chars bs) ≡ Ordinary c ∷ marked whole ns (chars rest)
 steps_marked whole ms ns bs rest c u first next =
     let e = first_is c (chars bs) (chars rest) first in
     ap (marked whole ms) e ∙ marked_step whole (length bs) c ms ns (chars rest) (chars_length bs (c ∷ chars rest) u e) (sym next)
 
-pub steps_plain : (whole : ℕ) (ms bs rest : List ℕ) (c : ℕ) → IsUtf8 bs → ◌≡◌ {A = Option (ℕ × List ℕ)} (Some (c, chars rest)) (first_and_rest (chars bs)) → None ≡ next_marks (whole - length bs) ms → marked whole ms (chars bs) ≡ unmarked c ∷ marked whole ms (chars rest)
+pub steps_plain : (whole : ℕ) (ms bs rest : List ℕ) (c : ℕ) → IsUtf8 bs → ◌≡◌ {A = Option (ℕ × List ℕ)} (Some (c, chars rest)) (first_and_rest (chars bs))
+    → None ≡ next_marks (whole - length bs) ms → marked whole ms (chars bs) ≡ unmarked c ∷ marked whole ms (chars rest)
 steps_plain whole ms bs rest c u first next =
     let e = first_is c (chars bs) (chars rest) first in
     ap (marked whole ms) e ∙ plain_step whole (length bs) c ms (chars rest) (chars_length bs (c ∷ chars rest) u e) (sym next)
