@@ -2,7 +2,7 @@
 use Rattle.std.proofs.Common.{◌≡◌, ℕ, Bool, true, false, List, [], ◌∷◌, ◌++◌, refl, sym, ap, subst, ◌∙◌}
 use Rattle.std.specs.Prelude.{◌&&◌, not}
 use Rattle.std.specs.List.{list_all}
-use Rattle.std.proofs.lemmas.Bool.{and_parts}
+use Rattle.std.proofs.lemmas.Bool.{and_parts, false≢true}
 use Rattle.rng_model.specs.Characters.{is_name_start, is_name_char, is_colon}
 use Rattle.rnc_text.specs.Characters.{numbers_of}
 use Rattle.rnc_text.specs.Tokens.{IsNcname}
@@ -11,7 +11,6 @@ use Rattle.rnc_text.specs.declared.character.Character.{Character}
 use Rattle.rnc_text.specs.declared.character.Character.TheVariants.{LineEnd, Ordinary}
 use Rattle.rnc_text.specs.declared.scanning.Class.{Class}
 use Rattle.rnc_text.specs.declared.scanning.Class.TheVariants as classes
-use Rattle.rnc_text.proofs.Escapes.{false_true}
 
 -- all of the characters are of the class
 abbrev pub AllIn : Class → List Character → Type 0
@@ -76,13 +75,13 @@ after_append class (c ∷ w) rest h = let p = and_parts (is_in class c) (list_al
 
 name_part : (c : ℕ) (cs : List Character) → list_all (λ d. is_name_char d && not (is_colon d)) (numbers_of cs) ≡ true → AllIn classes.Ncname cs
 name_part c [] h = refl
-name_part c (LineEnd ∷ cs) h = absurd (false_true h)
+name_part c (LineEnd ∷ cs) h = absurd (false≢true h)
 name_part c (Ordinary d ∷ cs) h = let p = and_parts (is_ncname_number d) (list_all (λ d. is_name_char d && not (is_colon d)) (numbers_of cs)) h in
     rw p.0 (name_part c cs p.1)
 
 numbers_part : (cs : List Character) → AllIn classes.Ncname cs → list_all (λ d. is_name_char d && not (is_colon d)) (numbers_of cs) ≡ true
 numbers_part [] h = refl
-numbers_part (LineEnd ∷ cs) h = absurd (false_true h)
+numbers_part (LineEnd ∷ cs) h = absurd (false≢true h)
 numbers_part (Ordinary d ∷ cs) h = let p = and_parts (is_ncname_number d) (list_all (is_in classes.Ncname) cs) h in rw p.0 (numbers_part cs p.1)
 
 -- an NCName, by its characters
@@ -94,8 +93,8 @@ pub record Name (name : List Character) : Type 0 where
   pub goes_on : list_all (is_in classes.Ncname) more ≡ true
 
 pub name_of : (name : List Character) → IsNcname name → Name name
-name_of [] h = absurd (false_true h)
-name_of (LineEnd ∷ cs) h = absurd (false_true h)
+name_of [] h = absurd (false≢true h)
+name_of (LineEnd ∷ cs) h = absurd (false≢true h)
 name_of (Ordinary c ∷ cs) h = let p = and_parts (starts_ncname c) (list_all (λ d. is_name_char d && not (is_colon d)) (numbers_of cs)) h in
     record { first = c; more = cs; is = refl; starts = p.0; goes_on = name_part c cs p.1 }
 
@@ -110,8 +109,8 @@ name_all name h = let n = name_of name h in subst (AllIn classes.Ncname) (sym n.
 
 -- where an NCName begins, the front is one
 pub front_name : (cs : List Character) → begins_ncname cs ≡ true → IsNcname (front classes.Ncname cs)
-front_name [] e = absurd (false_true e)
-front_name (LineEnd ∷ cs) e = absurd (false_true e)
+front_name [] e = absurd (false≢true e)
+front_name (LineEnd ∷ cs) e = absurd (false≢true e)
 front_name (Ordinary c ∷ cs) e =
     subst IsNcname (sym (front_in classes.Ncname (Ordinary c) cs (first_in c e))) (is_name c (front classes.Ncname cs) e (front_all classes.Ncname cs))
 

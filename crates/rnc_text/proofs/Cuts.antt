@@ -2,7 +2,7 @@
 use Rattle.std.proofs.Common.{◌≡◌, ℕ, ◌+◌, ◌-◌, ◌<◌, ◌≤◌, ◌⊎◌, inl, inr, List, [], ◌∷◌, ◌++◌, length, Option, Some, None, Result, Ok, Err, refl, sym, ap, subst}
 use Rattle.std.proofs.Common.{◌∙◌, arith}
 use Rattle.std.specs.Prelude.{IfOk, IfErr}
-use Rattle.std.proofs.lemmas.List.{length-append, append-nil}
+use Rattle.std.proofs.lemmas.List.{length-append, append-nil, append_cancel_left}
 use Rattle.std.proofs.lemmas.Option.{none-some, some_pair_parts}
 use Rattle.std.specs.Char.{encode_utf8}
 use Rattle.std.proofs.lemmas.Str.{length-le-encodes}
@@ -18,7 +18,7 @@ use Rattle.rnc_text.specs.Cut.{IsNext, NothingBegins, Cuts, here, next_is, Lexem
 use Rattle.rnc_text.specs.Answers.{GivesOk, GivesFault, IfBroken}
 use Rattle.rnc_text.specs.CutSteps.{Found, piece_of}
 use Rattle.rnc_text.specs.Cursors.{remaining, FindsPart, said, told}
-use Rattle.rnc_text.proofs.Places.{bytes_append}
+use Rattle.rnc_text.proofs.Cursors.{bytes_append}
 use Rattle.rnc_text.proofs.Pieces.{piece_front}
 use Rattle.rnc_text.proofs.Scans.{piece_none}
 use Rattle.rnc_text.proofs.Longest.{Covered, covers}
@@ -54,17 +54,16 @@ found_next cs p rest e =
 pub none_begins : (cs : List Character) → piece_of cs ≡ None → NothingBegins cs
 none_begins cs e = λ q after is parts. subst (Covered q) e (covers is cs after parts)
 
-same_tail : (xs ys zs : List Character) → xs ++ ys ≡ xs ++ zs → ys ≡ zs
-same_tail [] ys zs e = e
-same_tail (x ∷ xs) ys zs e = same_tail xs ys zs (cc)
-
 next_found : (cs : List Character) (p q : Piece) (rest after : List Character) → piece_of cs ≡ Some (p, rest) → IsNext cs q after → (q ≡ p) × (after ≡ rest)
 next_found cs p q rest after e n = go (longest_at cs p rest e q after n.is n.parts)
   where
     go : (length (characters_in q) < length (characters_in p)) ⊎ (q ≡ p) → (q ≡ p) × (after ≡ rest)
     go (inl lt) = let f = piece_front cs p rest e in absurd (omega (arith, lt, n.longest p rest f.is f.parts))
-    go (inr same) =
-        (same, same_tail (characters_in p) after rest (ap (λ (x : Piece). characters_in x ++ after) (sym same) ∙ sym n.parts ∙ (piece_front cs p rest e).parts))
+    go (inr same) = (
+      same,
+      append_cancel_left (characters_in p) after rest
+          (ap (λ (x : Piece). characters_in x ++ after) (sym same) ∙ sym n.parts ∙ (piece_front cs p rest e).parts),
+    )
 
 -- there is one next piece
 one_at : (cs : List Character) (o : Found) (p q : Piece) (rest after : List Character) → piece_of cs ≡ o → IsNext cs p rest → IsNext cs q after

@@ -2,15 +2,16 @@
 use Rattle.std.proofs.Common.{◌≡◌, ◌≢◌, ℕ, true, false, eqb, inl, inr, List, [], ◌∷◌, ◌++◌, Option, Some, None, refl, sym, ap, subst, ◌∙◌, arith}
 use Rattle.std.specs.Prelude.{◌&&◌}
 use Rattle.std.specs.List.{slice_get}
-use Rattle.std.proofs.lemmas.Bool.{eqb-true, eqb-false, ne_eqb, and_parts, false_from_ne_true}
+use Rattle.std.proofs.lemmas.Bool.{eqb-true, eqb-false, ne_eqb, and_parts, false_from_ne_true, false≢true}
 use Rattle.std.proofs.lemmas.Option.{none-some, some_pair_parts}
 use Rattle.rng_model.specs.Characters.{is_xml_char}
 use Rattle.rnc_text.specs.Decoding.{AreDigits, hexadecimal, OpensEscape, Begins, carriage_return_line_feed, carriage_return, line_feed, escape, other}
 use Rattle.rnc_text.specs.DecodingSteps.{first_and_rest, without_line_feed, hexadecimal_end, opens_from, escape_front, ordinary_if_char, after_brace}
 use Rattle.rnc_text.specs.DecodingSteps.{plain_front, front_of}
-use Rattle.rnc_text.proofs.Escapes.{chosen, false_true, escape_opens, opens_escape, hexadecimal_read, digits_found}
+use Rattle.rnc_text.proofs.Escapes.{escape_opens, opens_escape, hexadecimal_read, digits_found}
 use Rattle.rnc_text.specs.declared.character.Character.{Character}
 use Rattle.rnc_text.specs.declared.character.Character.TheVariants.{LineEnd, Ordinary}
+use Rattle.rnc_text.proofs.Basics.{chosen}
 
 abbrev Front : Type 0
 Front = Option (Character × List ℕ)
@@ -70,7 +71,7 @@ plain_begins c cs d rest h1 h2 h3 e =
     elim (chosen (is_xml_char c) _ _ _ e) [
       | inl h ↦ let p = some_pair_parts _ _ _ _ h.1 in
           subst (λ (d : Character). Begins (c ∷ cs) d rest) p.0
-          (other (eqb-false c 0xD h1) (eqb-false c 0xA h2) h.0 (λ o. false_true (sym h3 ∙ escape_opens c cs o)) (ap (λ (x : List ℕ). c ∷ x) p.1))
+          (other (eqb-false c 0xD h1) (eqb-false c 0xA h2) h.0 (λ o. false≢true (sym h3 ∙ escape_opens c cs o)) (ap (λ (x : List ℕ). c ∷ x) p.1))
       | inr h ↦ absurd (none-some _ h.1)
     ]
 

@@ -1,13 +1,13 @@
+mod Basics
 mod Characters
 mod HexadecimalSteps
-mod HeldMarks
-mod Opening
+mod Held
 mod Escapes
 mod Fronts
 mod Decoded
 mod Classes
 mod Quotes
-mod Places
+mod Cursors
 mod Scans
 mod Pieces
 mod Longest

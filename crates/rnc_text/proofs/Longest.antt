@@ -4,7 +4,7 @@ use Rattle.std.proofs.Common.{◌∙◌, append_assoc, arith}
 use Rattle.std.specs.Prelude.{not, ◌||◌}
 use Rattle.std.specs.List.{list_all}
 use Rattle.std.specs.Str.{bytes_eq}
-use Rattle.std.proofs.lemmas.Bool.{eqb-true, eqb-false, ne_eqb, and_parts, or_parts, or_cases, cases_Bool, not-true}
+use Rattle.std.proofs.lemmas.Bool.{eqb-true, eqb-false, ne_eqb, and_parts, or_parts, or_cases, cases_Bool, not-true, false≢true}
 use Rattle.std.proofs.lemmas.Slice.Eq.{bytes_eq-Decides}
 use Rattle.std.proofs.lemmas.List.{length-append, append-nil}
 use Rattle.std.proofs.lemmas.Option.{none-some, same_Some, some_pair_parts}
@@ -20,11 +20,11 @@ use Rattle.rnc_text.specs.Tokens.{Piece, gap, token, characters_in, IsPiece, IsN
 use Rattle.rnc_text.specs.Tokens.{sign_of, sign_table, look_up, three}
 use Rattle.rnc_text.specs.CutSteps.{Found, is_in, front, after, first_of, behind, behind_two, until_three, begins_ncname, starts_ncname, local_at, star_at}
 use Rattle.rnc_text.specs.CutSteps.{colon_at, name_at, segment_at, triple_with, triple_in, triple_at, or_else, signed, long_sign, piece_of}
-use Rattle.rnc_text.proofs.Escapes.{chosen, false_true}
 use Rattle.rnc_text.proofs.Classes.{AllIn, front_out, after_out, front_append, after_append, name_of, name_all, name_begins}
-use Rattle.rnc_text.proofs.Quotes.{eqb_same, behind_is, two_parts, until_is}
+use Rattle.rnc_text.proofs.Quotes.{behind_is, two_parts, until_is}
 use Rattle.rnc_text.proofs.Scans.{IsOther, piece_line, piece_name, piece_blank, piece_hash, piece_backslash, piece_quote, piece_sign, name_colon, quoted_name}
 use Rattle.rnc_text.proofs.Scans.{segment_some, triple_some}
+use Rattle.rnc_text.proofs.Basics.{chosen, eqb_same}
 
 -- the piece is shorter than what was found, or it is what was found
 abbrev pub Covered : Piece → Found → Type 0
@@ -111,7 +111,7 @@ cname_more name local (c ∷ more) rest found e = let all = name ++ Ordinary 0x3
 no_star : (name rest : List Character) → IsNcname name → behind 0x2A (name ++ rest) ≡ None
 no_star name rest h =
     let n = name_of name h in
-    let e : eqb n.first 0x2A ≡ false = ne_eqb _ _ (λ e. false_true (subst (λ (c : ℕ). starts_ncname c ≡ true) e n.starts)) in
+    let e : eqb n.first 0x2A ≡ false = ne_eqb _ _ (λ e. false≢true (subst (λ (c : ℕ). starts_ncname c ≡ true) e n.starts)) in
     ap (λ (x : List Character). behind 0x2A (x ++ rest)) n.is ∙ rw e refl
 
 cname_covers : (name local rest : List Character) → IsNcname name → IsNcname local
@@ -197,12 +197,12 @@ segment_found c content rest h =
 no_content : (c : ℕ) (content rest inside : List Character) → AllIn (classes.Segment c) content → content ++ Ordinary c ∷ rest ≡ Ordinary c ∷ inside
     → content ≡ []
 no_content c [] rest inside h e = refl
-no_content c (LineEnd ∷ content) rest inside h e = absurd (false_true h)
+no_content c (LineEnd ∷ content) rest inside h e = absurd (false≢true h)
 no_content c (Ordinary d ∷ content) rest inside h e =
     let same : Ordinary d ≡ Ordinary c = cc in
     let d-is : d ≡ c = cc in
     let p = and_parts (is_in (classes.Segment c) (Ordinary d)) (list_all (is_in (classes.Segment c)) content) h in
-    absurd (false_true (sym (rw (eqb_same c) refl) ∙ subst (λ (d : ℕ). not (eqb d c) ≡ true) d-is p.0))
+    absurd (false≢true (sym (rw (eqb_same c) refl) ∙ subst (λ (d : ℕ). not (eqb d c) ≡ true) d-is p.0))
 
 -- what is found behind a quote as a triple segment begins with two more and is long
 record IsLong (c : ℕ) (cs : List Character) (x : Piece × List Character) : Type 0 where
@@ -305,7 +305,7 @@ unfolding sign_of
 sign_like ns s e = in_table ns sign_table s refl e
 
 ordinary_first : (c : Character) → other_number (number_of c) ≡ true → (n : ℕ) × (c ≡ Ordinary n) × OtherNumber n
-ordinary_first LineEnd e = absurd (false_true e)
+ordinary_first LineEnd e = absurd (false≢true e)
 ordinary_first (Ordinary n) e = (n, refl, number_parts n e)
 
 long_or : (n : ℕ) (s : Sign) (rest : List Character) (o : Found) → sign_of (n ∷ []) ≡ Some s
@@ -337,7 +337,7 @@ double_covers n d s rest o h =
     ∙ ap (λ (x : Option Sign). or_else (signed x all rest) (signed (sign_of (n ∷ [])) (Ordinary n ∷ []) (d ∷ rest))) h)
 
 sign_covers : (all rest : List Character) (s : Sign) → sign_of (numbers_of all) ≡ Some s → Covered (token (kinds.Sign s) all all) (piece_of (all ++ rest))
-sign_covers [] rest s e = absurd (false_true (sign_like [] s e))
+sign_covers [] rest s e = absurd (false≢true (sign_like [] s e))
 sign_covers (c ∷ []) rest s e =
     let o = ordinary_first c (sign_like (number_of c ∷ []) s e) in
     subst (λ (c : Character). Covered (token (kinds.Sign s) (c ∷ []) (c ∷ [])) (piece_of (c ∷ rest))) (sym o.1)
@@ -346,7 +346,7 @@ sign_covers (c ∷ d ∷ []) rest s e =
     let o = ordinary_first c (sign_like (number_of c ∷ number_of d ∷ []) s e) in
     subst (λ (c : Character). Covered (token (kinds.Sign s) (c ∷ d ∷ []) (c ∷ d ∷ [])) (piece_of (c ∷ d ∷ rest))) (sym o.1)
     (double_covers o.0 d s rest o.2 (subst (λ (c : Character). sign_of (number_of c ∷ number_of d ∷ []) ≡ Some s) o.1 e))
-sign_covers (c ∷ d ∷ f ∷ cs) rest s e = absurd (false_true (sign_like (number_of c ∷ number_of d ∷ number_of f ∷ numbers_of cs) s e))
+sign_covers (c ∷ d ∷ f ∷ cs) rest s e = absurd (false≢true (sign_like (number_of c ∷ number_of d ∷ number_of f ∷ numbers_of cs) s e))
 
 -- ---- each piece
 

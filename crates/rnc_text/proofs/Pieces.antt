@@ -13,9 +13,9 @@ use Rattle.rnc_text.specs.Tokens.{sign_of, sign_table, look_up, three}
 use Rattle.rnc_text.specs.CutSteps.{Found, front, after, first_of, behind, behind_two, until_three, begins_ncname, starts_ncname, local_at, star_at, colon_at}
 use Rattle.rnc_text.specs.CutSteps.{name_at, quoted_at, segment_with, segment_at, triple_with, triple_in, triple_at, or_else, signed, long_sign, sign_at}
 use Rattle.rnc_text.specs.CutSteps.{piece_by, piece_of}
-use Rattle.rnc_text.proofs.Escapes.{chosen}
 use Rattle.rnc_text.proofs.Classes.{AllIn, cut_whole, front_all, front_name}
 use Rattle.rnc_text.proofs.Quotes.{behind_parts, two_parts, until_found}
+use Rattle.rnc_text.proofs.Basics.{chosen}
 
 -- ---- what is found is a piece
 

@@ -1,16 +1,13 @@
 -- Quotes one after the other, and the first three of them.
-use Rattle.std.proofs.Common.{◌≡◌, ℕ, ◌≤◌, true, eqb, inl, inr, List, [], ◌∷◌, ◌++◌, length, Option, Some, None, refl, sym, ap, subst, ◌∙◌, append_assoc, arith}
-use Rattle.std.proofs.lemmas.Bool.{eqb-true, eq-eqb}
+use Rattle.std.proofs.Common.{◌≡◌, ℕ, ◌≤◌, eqb, inl, inr, List, [], ◌∷◌, ◌++◌, length, Option, Some, None, refl, sym, ap, subst, ◌∙◌, append_assoc, arith}
+use Rattle.std.proofs.lemmas.Bool.{eqb-true}
 use Rattle.std.proofs.lemmas.List.{length-append}
 use Rattle.std.proofs.lemmas.Option.{none-some, same_Some, some_pair_parts}
 use Rattle.rnc_text.specs.Tokens.{three, IsUpToThree}
 use Rattle.rnc_text.specs.CutSteps.{behind, behind_two, behind_three, then_behind, here_or, with_first, until_three}
 use Rattle.rnc_text.specs.declared.character.Character.{Character}
 use Rattle.rnc_text.specs.declared.character.Character.TheVariants.{LineEnd, Ordinary}
-use Rattle.rnc_text.proofs.Escapes.{chosen}
-
-pub eqb_same : (n : ℕ) → eqb n n ≡ true
-eqb_same n = eq-eqb n n refl
+use Rattle.rnc_text.proofs.Basics.{chosen, eqb_same}
 
 pub behind_is : (n : ℕ) (cs : List Character) → behind n (Ordinary n ∷ cs) ≡ Some cs
 behind_is n cs = rw (eqb_same n) refl

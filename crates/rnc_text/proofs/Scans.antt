@@ -16,7 +16,7 @@ use Rattle.rnc_text.specs.Tokens.{sign_of, Piece, gap, token, three, word_kind}
 use Rattle.rnc_text.specs.CutSteps.{Found, is_in, front, after, first_of, behind, behind_three, here_or, with_first, until_three, begins_ncname, star_at}
 use Rattle.rnc_text.specs.CutSteps.{colon_at, name_at, quoted_at, segment_at, triple_at, signed, long_sign, sign_at, starts_ncname, piece_by, piece_of, or_else}
 use Rattle.rnc_text.specs.Cursors.{remaining, IsPast, told, FindsPart, Finds, FindsThree}
-use Rattle.rnc_text.proofs.Places.{past_none, past_then}
+use Rattle.rnc_text.proofs.Cursors.{past_none, past_then}
 use Rattle.rnc_text.proofs.Classes.{front_in, front_out, after_in, after_out}
 
 -- ---- the loop over a class

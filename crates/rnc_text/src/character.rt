@@ -5,7 +5,7 @@ ghost use Rattle.std.specs.Str.{chars};
 ghost use Rattle.std.specs.Char.{encode_utf8, IsScalar};
 
 /// A character of a decoded text.
-#[derive(Clone, Copy, Debug, PartialEq, Eq)]
+#[derive(Clone, Copy, PartialEq, Eq)]
 pub enum Character {
     /// A line end that stands in the file as CR LF, CR or LF. It is one LF in the decoded text.
     LineEnd,

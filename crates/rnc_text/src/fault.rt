@@ -5,7 +5,7 @@ ghost use Rattle.rnc_text.specs.declared.fault.TextFault.TheVariants as faults;
 use rng_model::OutOfMemory;
 
 /// Why a text was not read, or not cut into tokens.
-#[derive(Clone, Copy, Debug, PartialEq, Eq)]
+#[derive(Clone, Copy, Debug)]
 pub enum TextFault {
     /// The text breaks a clause at a place, which is an offset in bytes.
     ///

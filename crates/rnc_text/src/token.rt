@@ -87,7 +87,7 @@ pub enum TokenKind {
 ///
 /// `text` is the name of a quoted identifier without its backslash, what a segment holds between its quotes, and all of
 /// any other token. `start` and `end` are the byte offsets in the decoded text at which the whole token begins and ends.
-#[derive(Clone, Copy, Debug, PartialEq, Eq)]
+#[derive(Clone, Copy)]
 pub struct Token<'a> {
     pub kind: TokenKind,
     pub text: &'a str,

@@ -83,7 +83,10 @@ fn quotes_agree(alloc: Global, bits: u32) -> Result<bool, AllocError> {
 #[test]
 fn quotes_in_a_row(rt: HostRuntime) {
     for bits in 0..512u32 {
-        assert!(rt; matches!(quotes_agree(rt.alloc(), bits), Ok(true)), "{bits}");
+        assert!(rt;
+            matches!(quotes_agree(rt.alloc(), bits), Ok(true)),
+            "{bits}"
+        );
     }
 }
 
@@ -100,5 +103,5 @@ fn many_tokens(alloc: Global) -> Result<usize, TextFault> {
 
 #[test]
 fn a_mebibyte(rt: HostRuntime) {
-    assert!(rt; many_tokens(rt.alloc()) == Ok(196608));
+    assert!(rt; matches!(many_tokens(rt.alloc()), Ok(196608)));
 }

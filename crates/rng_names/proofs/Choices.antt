@@ -55,7 +55,7 @@ module _ {A : Type 0} where
   longest_of-members f n [] = omega arith
   longest_of-members f n (x ∷ xs) =
       let grouped : max n (max (longest (f x)) (longest_of (classes_of (map f xs)))) ≡ max (max n (longest (f x))) (longest_of (classes_of (map f xs))) =
-          omega arith in
+      omega arith in
       grouped ∙ longest_of-members f (max n (longest (f x))) xs
 
   pub longest-members : (f : A → NameClass) (xs : List A) → longest (some_of (map f xs)) ≡ longest_among f 0 xs

@@ -126,7 +126,7 @@ mutual
       let below = max-below (longest c) (max (longest d) (longest_of cs)) _ less in
       let after = max-below (longest d) (longest_of cs) _ below.1 in
       ap₂ (λ x y. x || y) (like_local c q fresh first.0 below.0)
-          (ap₂ (λ x y. x || y) (like_local d q fresh rest.0 after.0) (some_like_local cs q fresh rest.1 after.1))
+      (ap₂ (λ x y. x || y) (like_local d q fresh rest.0 after.0) (some_like_local cs q fresh rest.1 after.1))
 
   some_like_local : (cs : NameClasses) (q : Name) (fresh : List ℕ) → some_write_name cs q ≡ false → longest_of cs < length fresh
       → some_hold cs q ≡ some_hold cs (pair q.ns fresh)
@@ -157,7 +157,7 @@ mutual
       let below = max-below (longest c) (max (longest d) (longest_of cs)) _ less in
       let after = max-below (longest d) (longest_of cs) _ below.1 in
       ap₂ (λ x y. x || y) (like_ns c v w fresh first.0 below.0)
-          (ap₂ (λ x y. x || y) (like_ns d v w fresh rest.0 after.0) (some_like_ns cs v w fresh rest.1 after.1))
+      (ap₂ (λ x y. x || y) (like_ns d v w fresh rest.0 after.0) (some_like_ns cs v w fresh rest.1 after.1))
 
   some_like_ns : (cs : NameClasses) (v w fresh : List ℕ) → some_write_ns cs v ≡ false → longest_of cs < length fresh
       → some_hold cs (pair v w) ≡ some_hold cs (pair fresh w)

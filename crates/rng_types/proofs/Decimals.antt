@@ -71,15 +71,19 @@ unfolding integer_of
 integer-parsed bs r h e =
     let is = IsShort-from most_digits (without_leading_sign bs) e in
     let small : digits_value 10 (without_leading_sign bs) < 10 ^ most_digits =
-        digits_value_short own (without_leading_sign bs) most_digits is.digits is.short in
+    digits_value_short own (without_leading_sign bs) most_digits is.digits is.short in
     parsed_by bs r h ((is.some, own.to (without_leading_sign bs) is.digits), signed_fits bs small) ∙ rw e refl
 
 -- nothing, or a space inside, is no truth value
 pub truth-spaced : (v w : List ℕ) → truth_of (v ++ 32 ∷ w) ≡ None
 unfolding truth_of
 truth-spaced v w =
-    rw (differs is_run_byte v w (codes "true") refl refl, differs is_run_byte v w (codes "1") refl refl, differs is_run_byte v w (codes "false") refl refl,
-        differs is_run_byte v w (codes "0") refl refl) refl
+    rw (
+      differs is_run_byte v w (codes "true") refl refl,
+      differs is_run_byte v w (codes "1") refl refl,
+      differs is_run_byte v w (codes "false") refl refl,
+      differs is_run_byte v w (codes "0") refl refl,
+    ) refl
 
 pub truth-empty : truth_of [] ≡ None
 unfolding truth_of
@@ -103,8 +107,8 @@ unfolding integer_of
 integer-spaced v w =
     let ds = without_leading_sign (v ++ 32 ∷ w) in
     none_if (is_decimal most_digits ds) (signed_digits_value 10 (v ++ 32 ∷ w))
-        (and_right (has_bytes ds) (list_all is_ascii_digit ds && nat_le (length ds) most_digits)
-        (and_left (list_all is_ascii_digit ds) (nat_le (length ds) most_digits) (sign_spaced v w)))
+    (and_right (has_bytes ds) (list_all is_ascii_digit ds && nat_le (length ds) most_digits)
+    (and_left (list_all is_ascii_digit ds) (nat_le (length ds) most_digits) (sign_spaced v w)))
 
 pub integer-empty : integer_of [] ≡ None
 unfolding integer_of

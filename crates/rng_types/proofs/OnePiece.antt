@@ -72,8 +72,12 @@ length-joined : (first : List ℕ) (ws : List (List ℕ)) → IsUtf8 first → A
     → length (chars (join_with_byte 32 (first ∷ ws))) ≡ length (chars first) + spaced_count ws
 length-joined first [] utf8 all = omega arith
 length-joined first (w ∷ ws) utf8 all =
-    omega (arith, ap length (chars-spaced first (join_with_byte 32 (w ∷ ws)) utf8), length-append (chars first) (32 ∷ chars (join_with_byte 32 (w ∷ ws))),
-        length-joined w ws all.0 all.1)
+    omega (
+      arith,
+      ap length (chars-spaced first (join_with_byte 32 (w ∷ ws)) utf8),
+      length-append (chars first) (32 ∷ chars (join_with_byte 32 (w ∷ ws))),
+      length-joined w ws all.0 all.1,
+    )
 
 -- how many characters a collapsed text has
 pub length-collapse : (s first : List ℕ) (ws : List (List ℕ)) → IsUtf8 s → pieces s ≡ first ∷ ws

@@ -21,7 +21,8 @@ places-smaller-in_ok-push c = shorter_rest _ _ _ c.in-Some.ensures
 pub places-preserved-in_ok-push : goal.places-preserved-in_ok-push
 places-preserved-in_ok-push c =
     let said : told c.in-Some.part ≡ Some (c.in-Token.kind, c.in-Token.says.now) = ap told c.in-Token.is in
-    cut_token _ _ _ _ c.in-Some.after c.in-Some.part c.in-Token.kind c.in-Token.says.now c.place-in-Token.result c.place-in-Token-2.result c.places.invariant said c.in-Some.ensures c.place-in-Token.ensures c.place-in-Token-2.ensures
+    cut_token _ _ _ _ c.in-Some.after c.in-Some.part c.in-Token.kind c.in-Token.says.now
+    c.place-in-Token.result c.place-in-Token-2.result c.places.invariant said c.in-Some.ensures c.place-in-Token.ensures c.place-in-Token-2.ensures
     (ap lexemes_of c.in_ok-push.ensures.items ∙ map-append lexeme_of c.places.tokens.items _)
 
 pub places-smaller : goal.places-smaller

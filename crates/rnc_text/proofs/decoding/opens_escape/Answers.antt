@@ -1,5 +1,5 @@
 use Rattle.std.proofs.Common.{rules}
-use Rattle.rnc_text.proofs.Opening.{opens_brace, opens_x, opens_other, opens_end}
+use Rattle.rnc_text.proofs.Escapes.{opens_brace, opens_x, opens_other, opens_end}
 use Rattle.rnc_text.proofs.decoding.opens_escape.Goals as goal
 
 pub returns-in-123 : goal.returns-in-123

@@ -1,5 +1,5 @@
 use Rattle.std.proofs.Common.{sym, ◌∙◌}
-use Rattle.rnc_text.proofs.Places.{past_shorter}
+use Rattle.rnc_text.proofs.Cursors.{past_shorter}
 use Rattle.rnc_text.proofs.Scans.{walks_none, walks_on, walks_out, walks_end}
 use Rattle.rnc_text.proofs.scanning.past.Goals as goal
 

@@ -13,8 +13,8 @@ returns-then-is_met-clause-test t c =
     let xs = c.deref-member-items.result.now in
     let whole : class_of c.args.written.now ≡ some_of (map class_of xs) = choice_is _ _ xs c.in-Choice.is c.deref-member-items.ensures.value in
     let found =
-        any_here (λ x. is_met test fresh (class_of x)) xs c.members.member-index c.member-item.result c.members-test.true c.member-item.is
-        (sym c.is_met-in-members.ensures.test ∙ c.if-is_met.true) in
+    any_here (λ x. is_met test fresh (class_of x)) xs c.members.member-index c.member-item.result c.members-test.true c.member-item.is
+    (sym c.is_met-in-members.ensures.test ∙ c.if-is_met.true) in
     sym (ap (is_met test fresh) whole ∙ met-members class_of xs test fresh ∙ found)
 
 pub returns-after-members-clause-test : goal.returns-after-members-clause-test

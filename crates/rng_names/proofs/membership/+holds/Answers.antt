@@ -12,8 +12,8 @@ returns-then-holds t c =
     let xs = c.deref-member-items.result.now in
     let whole : class_of c.args.class.now ≡ some_of (map class_of xs) = choice_is _ _ xs c.in-Choice.is c.deref-member-items.ensures.value in
     let found =
-        any_here (λ x. holds (class_of x) q) xs c.members.member-index c.member-item.result c.members-test.true c.member-item.is
-        (sym c.holds-in-members.ensures ∙ c.if-holds.true) in
+    any_here (λ x. holds (class_of x) q) xs c.members.member-index c.member-item.result c.members-test.true c.member-item.is
+    (sym c.holds-in-members.ensures ∙ c.if-holds.true) in
     sym (ap (λ k. holds k q) whole ∙ holds-members class_of xs q ∙ found)
 
 pub returns-after-members : goal.returns-after-members

@@ -9,5 +9,5 @@ use Rattle.rng_types.proofs.parameters.are_bounds.Goals as goal
 pub returns : goal.returns
 returns c =
     all_from_yields_List (λ p. is_bound (parameter_of p)) _ _ c.all.result c.all.ensures.ran (YieldsList-from_slice c.args.params.now cc)
-        (λ x b q k. search (rules, tests))
+    (λ x b q k. search (rules, tests))
     ∙ sym (list_all-map is_bound parameter_of c.args.params.now)

@@ -9,7 +9,7 @@ pub returns-then-not-is_empty : goal.returns-then-not-is_empty
 returns-then-not-is_empty c =
     let some : (length c.args.text.now == 0) ≡ false = search rules in
     all_from_yields_List is_name_char _ _ c.all.result c.all.ensures.ran (YieldsList-from_chars c.args.text.now c.utf8.text c.chars.ensures.rest)
-        (λ x b q k. search (rules, tests))
+    (λ x b q k. search (rules, tests))
     ∙ sym (nmtoken-some c.args.text.now c.utf8.text some)
 
 pub returns-else-not-is_empty : goal.returns-else-not-is_empty

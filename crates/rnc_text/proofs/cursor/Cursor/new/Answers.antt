@@ -1,6 +1,6 @@
 use Rattle.std.proofs.Common.{◌∙◌, sym, refl}
 use Rattle.std.proofs.lemmas.Str.{IsUtf8-string_bytes}
-use Rattle.rnc_text.proofs.HeldMarks.{bytes_kept}
+use Rattle.rnc_text.proofs.Held.{bytes_kept}
 use Rattle.rnc_text.proofs.cursor.Cursor.new.Goals as goal
 
 pub returns-clause-characters : goal.returns-clause-characters

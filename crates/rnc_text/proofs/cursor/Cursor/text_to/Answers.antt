@@ -1,6 +1,6 @@
 use Rattle.std.proofs.Common.{rules}
 use Rattle.std.specs.Str.{IsUtf8}
-use Rattle.rnc_text.proofs.Places.{seam}
+use Rattle.rnc_text.proofs.Cursors.{seam}
 use Rattle.rnc_text.proofs.cursor.Cursor.text_to.Goals as goal
 
 pub split_at-requires : goal.split_at-requires

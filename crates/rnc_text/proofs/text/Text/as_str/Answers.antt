@@ -1,6 +1,6 @@
 use Rattle.std.proofs.Common.{◌∙◌}
 use Rattle.std.proofs.lemmas.Str.{IsUtf8-string_bytes}
-use Rattle.rnc_text.proofs.HeldMarks.{bytes_kept}
+use Rattle.rnc_text.proofs.Held.{bytes_kept}
 use Rattle.rnc_text.proofs.text.Text.as_str.Goals as goal
 
 pub returns : goal.returns

@@ -1,4 +1,4 @@
-use Rattle.rnc_text.proofs.HeldMarks.{nothing_kept}
+use Rattle.rnc_text.proofs.Held.{nothing_kept}
 use Rattle.rnc_text.proofs.text.Text.new.Goals as goal
 
 pub returns-clause-characters : goal.returns-clause-characters

@@ -1,7 +1,7 @@
 use Rattle.std.proofs.Common.{◌∙◌, sym, ap, rules}
 use Rattle.std.proofs.lemmas.Str.{IsUtf8-string_bytes}
 use Rattle.rnc_text.specs.declared.character.Character.TheVariants.{Ordinary}
-use Rattle.rnc_text.proofs.HeldMarks.{if_ok, pushed_plain, pushed_marked, unmarked_other}
+use Rattle.rnc_text.proofs.Held.{if_ok, pushed_plain, pushed_marked, unmarked_other}
 use Rattle.rnc_text.proofs.text.Text.push.Goals as goal
 
 pub returns-in-LineEnd-clause-characters : goal.returns-in-LineEnd-clause-characters

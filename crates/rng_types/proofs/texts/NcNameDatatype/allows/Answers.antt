@@ -8,7 +8,7 @@ pub returns-then-is_ncname : goal.returns-then-is_ncname
 returns-then-is_ncname c =
     let l = c.args.self.now.lengths in
     word_passes is_ncname l c.args.text.now c.in-Some.name.now _ _ c.in-Some.ensures c.is_ncname.ensures c.if-is_ncname.true
-        (c.allow.ensures ∙ ap (is_within l) c.char_count.ensures)
+    (c.allow.ensures ∙ ap (is_within l) c.char_count.ensures)
 
 pub returns-else-is_ncname : goal.returns-else-is_ncname
 returns-else-is_ncname c =

@@ -8,7 +8,7 @@ use Rattle.rng_types.proofs.texts.NcNameDatatype.equal.Goals as goal
 pub returns-then-allows : goal.returns-then-allows
 returns-then-allows c =
     c.is_same_collapsed.ensures
-        ∙ texts_equal (passes is_ncname c.args.self.now.lengths) (collapse c.args.a.now) (collapse c.args.b.now) (sym c.allows.ensures ∙ c.if-allows.true)
+    ∙ texts_equal (passes is_ncname c.args.self.now.lengths) (collapse c.args.a.now) (collapse c.args.b.now) (sym c.allows.ensures ∙ c.if-allows.true)
 
 pub returns-else-allows : goal.returns-else-allows
 returns-else-allows c =

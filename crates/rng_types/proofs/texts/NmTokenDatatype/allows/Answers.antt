@@ -7,7 +7,7 @@ pub returns-then-is_nmtoken : goal.returns-then-is_nmtoken
 returns-then-is_nmtoken c =
     let l = c.args.self.now.lengths in
     word_passes is_nmtoken l c.args.text.now c.in-Some.token.now _ _ c.in-Some.ensures c.is_nmtoken.ensures c.if-is_nmtoken.true
-        (c.allow.ensures ∙ ap (is_within l) c.char_count.ensures)
+    (c.allow.ensures ∙ ap (is_within l) c.char_count.ensures)
 
 pub returns-else-is_nmtoken : goal.returns-else-is_nmtoken
 returns-else-is_nmtoken c =
