@@ -7,7 +7,7 @@ use rnc_syntax::SyntaxFault;
 /// Why tokens have no file tree.
 ///
 /// Clause 6 comes with a place among the tokens, from 1; clauses 7 and 8 have none.
-#[derive(Clone, Copy, Debug, PartialEq, Eq)]
+#[derive(Clone, Copy)]
 pub enum ParseFault {
     /// This clause is broken, at this place.
     At { clause: u8, place: u64 },

@@ -9,7 +9,7 @@ use rnc_syntax::Method;
 /// that mentions it.
 ///
 /// RELAX NG Compact Syntax, "Syntax" (`namespaceURILiteral`).
-#[derive(Debug, Drop, PartialEq, Eq)]
+#[derive(Debug, Drop)]
 pub enum Namespace {
     Inherited,
     Given(String),
@@ -18,7 +18,7 @@ pub enum Namespace {
 /// A name with its namespace.
 ///
 /// Namespaces in XML 1.0, section 2.1.
-#[derive(Debug, Drop, PartialEq, Eq)]
+#[derive(Debug, Drop)]
 pub struct ExpandedName {
     pub namespace: Namespace,
     pub local: String,
@@ -27,7 +27,7 @@ pub struct ExpandedName {
 /// A set of names.
 ///
 /// RELAX NG Specification, section 3 (`nameClass`).
-#[derive(Debug, Drop, PartialEq, Eq)]
+#[derive(Debug, Drop)]
 pub enum NameClass {
     /// `*`
     Any,
@@ -45,7 +45,7 @@ pub enum NameClass {
 /// The name of a datatype: the uri of its library, empty for the one built in, and its name there.
 ///
 /// RELAX NG Specification, section 3 (`data`, `value`).
-#[derive(Debug, Drop, PartialEq, Eq)]
+#[derive(Debug, Drop)]
 pub struct DatatypeName {
     pub library: String,
     pub name: String,
@@ -55,7 +55,7 @@ pub struct DatatypeName {
 ///
 /// `href` is that file's name as it is written, `namespace` what the file inherits, and `token` the place, from 1, of
 /// the word `include` or `external` among the tokens of the file that mentions.
-#[derive(Debug, Drop, PartialEq, Eq)]
+#[derive(Debug, Drop)]
 pub struct Mention {
     pub href: String,
     pub namespace: Namespace,
@@ -66,7 +66,7 @@ pub struct Mention {
 ///
 /// RELAX NG Specification, section 3 (`pattern`).
 #[cycle(file_tree)]
-#[derive(Debug, Drop, PartialEq, Eq)]
+#[derive(Debug, Drop)]
 pub enum Pattern {
     Element(NameClass, Box<Pattern>),
     Attribute(NameClass, Box<Pattern>),
@@ -108,7 +108,7 @@ pub enum Pattern {
 ///
 /// RELAX NG Specification, section 3 (`grammarContent`, `includeContent`).
 #[cycle(file_tree)]
-#[derive(Debug, Drop, PartialEq, Eq)]
+#[derive(Debug, Drop)]
 pub enum Component {
     Start(Method, Pattern),
     Define(String, Method, Pattern),
@@ -120,7 +120,7 @@ pub enum Component {
 /// What a schema file holds: a pattern, or the components of a grammar.
 ///
 /// RELAX NG Compact Syntax, "Syntax" (`topLevel`).
-#[derive(Debug, Drop, PartialEq, Eq)]
+#[derive(Debug, Drop)]
 pub enum FileTree {
     Pattern(Pattern),
     Grammar(Vec<Component>),

@@ -8,7 +8,8 @@ ghost use Rattle.rnc_grammar.specs.declared.scope.ScopeFault.TheVariants as faul
 
 use crate::file_tree::Namespace;
 use rnc_syntax::{Declaration, Literal, Uri};
-use std::alloc::{AllocError, AllocFailed, Global};
+use rng_model::OutOfMemory;
+use std::alloc::Global;
 use std::collections::HashMap;
 
 /// The uri of the prefix `xml`.
@@ -25,18 +26,13 @@ pub enum ScopeFault {
     Memory,
 }
 
-impl From<AllocError> for ScopeFault {
+impl<E: Drop> From<E> for ScopeFault
+where
+    OutOfMemory: From<E>,
+{
     ghost from_gives = { λ _ e. e ≡ faults.Memory };
 
-    fn from(_e: AllocError) -> ScopeFault {
-        ScopeFault::Memory
-    }
-}
-
-impl<T: Drop> From<AllocFailed<T>> for ScopeFault {
-    ghost from_gives = { λ _ e. e ≡ faults.Memory };
-
-    fn from(_e: AllocFailed<T>) -> ScopeFault {
+    fn from(_e: E) -> ScopeFault {
         ScopeFault::Memory
     }
 }

@@ -6,7 +6,7 @@ use Rattle.rnc_syntax.specs.declared.fault.Stop.TheVariants.{Unexpected}
 use Rattle.rnc_syntax.specs.declared.fault.ReadFault.{ReadFault}
 use Rattle.rnc_syntax.specs.declared.fault.ReadFault.TheVariants as read_faults
 use Rattle.rnc_syntax.specs.Lexeme.{Lexeme, lexemes_in}
-use Rattle.rnc_syntax.specs.Fault.{FailsAs, stop_of}
+use Rattle.rnc_syntax.specs.Fault.{Refuses, stop_of}
 use Rattle.rnc_syntax.specs.Productions.{Inside, declarations_at, body_with, file_with}
 use Rattle.rnc_syntax.specs.Syntax.{Declaration, Body}
 
@@ -19,7 +19,7 @@ module _ (inside : Inside) (total : ℕ) (ts rest : List Lexeme) (declarations :
 
   pub file_goes_on : (left : List Token) (fault : ReadFault) → declarations_at ts ≡ Ok (declarations, rest)
       → body_with inside rest ≡ Ok (body, lexemes_in total left) → (length left == 0) ≡ false
-      → fault ≡ read_faults.Stop (Unexpected (length (lexemes_in total left))) → FailsAs (file_with inside ts) (stop_of fault)
+      → fault ≡ read_faults.Stop (Unexpected (length (lexemes_in total left))) → Refuses (stop_of fault) (file_with inside ts)
   unfolding file_with
   file_goes_on [] fault d b some is = absurd cc
   file_goes_on (t ∷ left) fault d b some is = rw (is, d, b) refl

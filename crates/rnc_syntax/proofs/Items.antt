@@ -6,7 +6,7 @@ use Rattle.rnc_syntax.specs.declared.fault.ReadFault.{ReadFault}
 use Rattle.rnc_syntax.specs.declared.fault.ReadFault.TheVariants as read_faults
 use Rattle.rnc_syntax.specs.Lexeme.{Lexeme}
 use Rattle.rnc_syntax.specs.Combinators.{Outcome, ◌>>=◌, many_with, many, with_front}
-use Rattle.rnc_syntax.specs.Fault.{FailsAs, stop_of}
+use Rattle.rnc_syntax.specs.Fault.{Refuses, stop_of}
 
 -- brackets about steps are moved
 pub bind_bind : {A B C : Type 0} (r : Result A Stop) (f : A → Result B Stop) (g : B → Result C Stop) → ((r >>= f) >>= g) ≡ (r >>= λ x. f x >>= g)
@@ -83,8 +83,8 @@ module _ {A : Type 0} (next : List Lexeme → Option (List Lexeme)) (item : List
   not_at_end (x ∷ ts) us none is = omega arith
 
   -- the same for the fault of the code
-  pub stops : (front : List A) (ts us : List Lexeme) (e : ReadFault) (total : Outcome (List A)) → next ts ≡ Some us → FailsAs (item us) (stop_of e)
-      → next [] ≡ None → Goes next item front ts total → FailsAs total (stop_of e)
+  pub stops : (front : List A) (ts us : List Lexeme) (e : ReadFault) (total : Outcome (List A)) → next ts ≡ Some us → Refuses (stop_of e) (item us)
+      → next [] ≡ None → Goes next item front ts total → Refuses (stop_of e) total
   stops front ts us read_faults.Memory total is read none goes = tt
   stops front ts us (read_faults.Stop e) total is read none goes = ends front ts us e total is read (not_at_end ts us none is) goes
 

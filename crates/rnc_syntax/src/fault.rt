@@ -2,7 +2,7 @@
 ghost use Rattle.std.specs.Prelude.{◌≡◌};
 ghost use Rattle.rnc_syntax.specs.declared.fault.ReadFault.TheVariants as read_faults;
 
-use std::alloc::{AllocError, AllocFailed};
+use rng_model::OutOfMemory;
 
 /// Why tokens have no syntax tree.
 #[derive(Clone, Copy)]
@@ -31,18 +31,13 @@ pub enum ReadFault {
     Memory,
 }
 
-impl From<AllocError> for ReadFault {
+impl<E: Drop> From<E> for ReadFault
+where
+    OutOfMemory: From<E>,
+{
     ghost from_gives = { λ _ e. e ≡ read_faults.Memory };
 
-    fn from(_e: AllocError) -> ReadFault {
-        ReadFault::Memory
-    }
-}
-
-impl<T: Drop> From<AllocFailed<T>> for ReadFault {
-    ghost from_gives = { λ _ e. e ≡ read_faults.Memory };
-
-    fn from(_e: AllocFailed<T>) -> ReadFault {
+    fn from(_e: E) -> ReadFault {
         ReadFault::Memory
     }
 }
