@@ -2,7 +2,7 @@
 use Rattle.std.proofs.Common.{◌≡◌, ℕ, List, refl, arith}
 use Rattle.rng_model.specs.Lines.{Line, Shape, start, attribute, text, end, IsLine}
 use Rattle.rng_model.specs.PyxFaults.{HasKind}
-use Rattle.rng_run.proofs.DocumentParts.{start_kind, text_kind, end_kind, attribute_kind, other_kind}
+use Rattle.rng_run.proofs.DocumentElementLines.{start_kind, text_kind, end_kind, attribute_kind, other_kind}
 
 pub says_start_of : (l : Line) (x : Shape) → IsLine l x → HasKind 40 l → (name : List ℕ) × (x ≡ start name)
 says_start_of l (start name) d h = (name, refl)

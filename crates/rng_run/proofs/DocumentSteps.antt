@@ -1,4 +1,4 @@
--- What the plain machine makes of one line that says something.
+-- What the plain reader makes of one line that says something.
 use Rattle.std.proofs.Common.{◌≡◌, ℕ, suc, ◌+◌, ◌<◌, Bool, true, false, cond, not, ◌&&◌, List, [], ◌∷◌, ◌++◌, length, Some, None, Ok, Err, refl, sym, ◌∙◌, arith, rules, add-one}
 use Rattle.std.specs.Prelude.{◌==◌, nat_le}
 use Rattle.std.specs.Str.{bytes_eq}
@@ -6,33 +6,27 @@ use Rattle.std.proofs.lemmas.List.{length-append}
 use Rattle.rng_model.specs.Document.{Attribute, Item}
 use Rattle.rng_model.specs.Lines.{Shape, start, attribute, text, end}
 use Rattle.rng_model.specs.Pyx.{plain_name, attribute_limit, open_limit, text_limit}
-use Rattle.rng_run.specs.DocumentMachine.{Element, State, Read, fault, followed, last_of, front_of, tag_repeats, has_repeat, with_text, with_child, item_of_element, closed, started, attributed, joined_by, ended, added, shaped}
-use Rattle.rng_run.proofs.DocumentOpened.{last-snoc, front-snoc}
+use Rattle.rng_run.specs.DocumentReader.{Element, State, Outcome, fault, followed, last_of, front_of, tag_repeats, has_repeat, with_text, with_child, item_of_element, closed, started, attributed, joined_by, ended, added, shaped}
+use Rattle.rng_run.proofs.LastAndFront.{last-snoc, front-snoc}
+use Rattle.rng_run.proofs.Outcomes.{followed_twice, followed_same}
 
 abbrev pub is_attribute : Shape → Bool
 is_attribute (attribute name v) = true
 is_attribute _ = false
 
 -- a line that says this
-unfoldable pub shape_read : Shape → State → Read State
+unfoldable pub shape_read : Shape → State → Outcome State
 shape_read x s = cond (not (is_attribute x) && tag_repeats s.tag) (fault 12 s) (shaped x (record s { count = s.count + 1 }))
 
-unfoldable pub shapes_read : List Shape → State → Read State
+unfoldable pub shapes_read : List Shape → State → Outcome State
 shapes_read [] s = Ok s
 shapes_read (x ∷ xs) s = followed (shape_read x s) (shapes_read xs)
-
-followed_twice : (r : Read State) (f g : State → Read State) → followed (followed r f) g ≡ followed r (λ s. followed (f s) g)
-followed_twice (Ok s) f g = refl
-followed_twice (Err e) f g = refl
-
-followed_same : (r : Read State) (f g : State → Read State) → ((s : State) → f s ≡ g s) → followed r f ≡ followed r g
-followed_same (Ok s) f g h = h s
-followed_same (Err e) f g h = refl
 
 pub shapes_append : (xs ys : List Shape) (s : State) → shapes_read (xs ++ ys) s ≡ followed (shapes_read xs s) (shapes_read ys)
 unfolding shapes_read
 shapes_append [] ys s = refl
-shapes_append (x ∷ xs) ys s = followed_same (shape_read x s) (shapes_read (xs ++ ys)) (λ t. followed (shapes_read xs t) (shapes_read ys)) (shapes_append xs ys) ∙ sym (followed_twice (shape_read x s) (shapes_read xs) (shapes_read ys))
+shapes_append (x ∷ xs) ys s = followed_same (shape_read x s) (shapes_read (xs ++ ys)) (λ t. followed (shapes_read xs t) (shapes_read ys))
+    (shapes_append xs ys) ∙ sym (followed_twice (shape_read x s) (shapes_read xs) (shapes_read ys))
 
 -- inside these elements, with this text joined, after this many lines
 abbrev pub inside : List Element → List ℕ → ℕ → State

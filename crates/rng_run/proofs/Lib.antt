@@ -1,29 +1,30 @@
 mod LineCount
-mod Contents
-pub mod Members
-pub mod FileViews
-mod DocumentCut
+mod SchemaFile
+pub mod ServedPatterns
+pub mod FilePatterns
+mod StringCuts
 mod DocumentLines
-mod DocumentOpened
-mod DocumentPlain
-mod DocumentCount
-mod DocumentLoop
+mod LastAndFront
+mod PlainBytes
+mod DocumentLineCount
+mod Outcomes
+mod DocumentAllLines
 mod DocumentSteps
-mod DocumentDistinct
+mod DistinctNames
 mod DocumentComplete
-mod DocumentSays
+mod DocumentShape
 mod DocumentRefused
-mod DocumentFront
+mod DocumentBeginning
 mod DocumentSound
-mod DocumentWhole
-mod DocumentBrackets
-mod DocumentParts
-mod DocumentMarks
+mod DocumentTree
+mod DocumentBalance
+mod DocumentElementLines
+mod DocumentEnds
 mod DocumentPlaces
 mod DocumentKinds
-mod DocumentLeast
-mod DocumentFaults
+mod DocumentFaultWithin
+mod DocumentLeastFault
 mod DocumentBroken
-mod DocumentAnswers
+mod DocumentAnswer
 mod WellFormed
-mod OneVerdict
+mod DocumentVerdict

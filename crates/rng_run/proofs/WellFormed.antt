@@ -28,7 +28,8 @@ text_alone [] = record { separate = nothing; well = tt }
 text_alone (c ∷ cs) = record { separate = string; well = (not_empty c cs, tt) }
 
 -- a text before an element with attributes and children, and others after it
-text_first : (t : List ℕ) (q : Name) (xs : List Attribute) (kids rest : Items) → IsWellFormed (an_element q xs kids) → AreFine rest → AreFine (text_before t (item_and (an_element q xs kids) rest))
+text_first : (t : List ℕ) (q : Name) (xs : List Attribute) (kids rest : Items) → IsWellFormed (an_element q xs kids) → AreFine rest →
+    AreFine (text_before t (item_and (an_element q xs kids) rest))
 text_first [] q xs kids rest well fine = record { separate = element fine.separate; well = (well, fine.well) }
 text_first (c ∷ cs) q xs kids rest well fine = record { separate = string_element fine.separate; well = (not_empty c cs, (well, fine.well)) }
 

@@ -8,8 +8,8 @@ use Rattle.rng_run.specs.declared.document.line.Line.{Line}
 use Rattle.rng_run.specs.declared.document.line.Shape.{Shape}
 use Rattle.rng_run.specs.declared.document.line.Shape.TheVariants as shapes
 use Rattle.rng_run.specs.declared.document.element.Element.{Element}
-use Rattle.rng_run.specs.declared.document.machine.Machine.{Machine}
-use Rattle.rng_run.specs.DocumentMachine as machine
+use Rattle.rng_run.specs.declared.document.reader.DocumentReader.{DocumentReader}
+use Rattle.rng_run.specs.DocumentReader as reader
 
 abbrev pub line_of : Line → lines.Line
 line_of l = record { bytes = l.bytes.now; ended = l.ended }
@@ -20,23 +20,29 @@ shape_view (shapes.Attribute name value) = lines.attribute name.now value.now
 shape_view (shapes.Text value) = lines.text value.now
 shape_view (shapes.End name) = lines.end name.now
 
-abbrev pub element_of : Element → machine.Element
+abbrev pub element_of : Element → reader.Element
 element_of e = record { name = string_bytes e.name; attrs = map attribute_of e.attrs.items; kids = map item_of e.children.items }
 
-abbrev pub state_of : Machine → machine.State
-state_of m = record { tag = option_map element_of m.tag; opened = map element_of m.opened.items; joined = string_bytes m.joined; root = option_map item_of m.root; count = m.lines }
+abbrev pub state_of : DocumentReader → reader.State
+state_of m = record {
+  tag = option_map element_of m.tag;
+  opened = map element_of m.opened.items;
+  joined = string_bytes m.joined;
+  root = option_map item_of m.root;
+  count = m.lines;
+}
 
 -- The fault is the one that reading gives, unless memory ran out.
-abbrev pub Fails : {A : Type 0} → DocumentFault → machine.Read A → Type 0
+abbrev pub Fails : {A : Type 0} → DocumentFault → reader.Outcome A → Type 0
 Fails faults.Memory read = Unit {0}
 Fails (faults.At clause line) read = read ≡ Err (record { clause = clause; line = line })
 
 -- What a call answered, seen by view, is what reading gives, unless memory ran out.
-abbrev pub Gives : {X Y : Type 0} → (X → Y) → Result X DocumentFault → machine.Read Y → Type 0
+abbrev pub Gives : {X Y : Type 0} → (X → Y) → Result X DocumentFault → reader.Outcome Y → Type 0
 Gives view (Ok x) read = read ≡ Ok (view x)
 Gives view (Err f) read = Fails f read
 
 -- The state after a call is what reading gives, unless memory ran out.
-abbrev pub Takes : {A : Type 0} → Result A DocumentFault → machine.State → machine.Read machine.State → Type 0
+abbrev pub Takes : {A : Type 0} → Result A DocumentFault → reader.State → reader.Outcome reader.State → Type 0
 Takes (Ok x) new read = read ≡ Ok new
 Takes (Err f) new read = Fails f read

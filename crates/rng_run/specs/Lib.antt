@@ -4,9 +4,10 @@ pub mod Verdict
 pub mod SchemaFile
 pub mod Fragment
 pub mod FileFaults
+pub mod FragmentFaults
 pub mod Compiled
 pub mod Run
 pub mod DocumentShape
-pub mod DocumentMachine
+pub mod DocumentReader
 pub mod DocumentView
 pub mod DocumentAnswer

@@ -5,7 +5,7 @@ use Rattle.rng_model.specs.Texts.{TextTests, texts_of}
 use Rattle.rng_model.specs.Written.{Pattern, IsValidWritten}
 use Rattle.rnc_grammar.specs.FileTree.{FileTree}
 use Rattle.rng_run.specs.Answer.{Answer, refused, refused_file, judged, line_of, status_of}
-use Rattle.rng_run.specs.SchemaFile.{Reading, too_long, breaks, has_tree, IsTheReading}
+use Rattle.rng_run.specs.SchemaFile.{FileVerdict, too_long, breaks, has_tree, IsTheFileVerdict}
 use Rattle.rng_run.specs.Fragment.{served_file}
 use Rattle.rng_run.specs.Verdict.{IsOnlyVerdict, IsVerdict}
 use Rattle.rng_run.specs.declared.answer.Status.{Status}
@@ -40,8 +40,8 @@ abbrev pub pattern_by : Command → FileTree → Option Pattern
 pattern_by Valid t = served_file t
 pattern_by Check t = None
 
--- no document is judged by a file that is this
-abbrev pub JudgesNone : Command → Reading → Type 0
+-- no document is judged by a file of this verdict
+abbrev pub JudgesNone : Command → FileVerdict → Type 0
 JudgesNone command too_long = Unit {0}
 JudgesNone command (breaks clause) = Unit {0}
 JudgesNone command (has_tree t) = pattern_by command t ≡ None
@@ -51,17 +51,17 @@ abbrev pub IsAnswerBy : Option Pattern → Option (List ℕ) → Option (List �
 IsAnswerBy None input_old input_new answer = answer ≡ refused 0
 IsAnswerBy (Some p) input_old input_new answer = (verdict : Verdict) × (answer ≡ judged verdict) × IsJudged p verdict input_old input_new
 
--- the answer for a file of this name that is this: a broken clause is told with the name
-abbrev pub IsAnswerTo : Command → List ℕ → Reading → Option (List ℕ) → Option (List ℕ) → Answer → Type 0
+-- the answer for a file of this name and this verdict: a broken clause is told with the name
+abbrev pub IsAnswerTo : Command → List ℕ → FileVerdict → Option (List ℕ) → Option (List ℕ) → Answer → Type 0
 IsAnswerTo command name too_long input_old input_new answer = answer ≡ refused 0
 IsAnswerTo command name (breaks clause) input_old input_new answer = answer ≡ refused_file clause name
 IsAnswerTo command name (has_tree t) input_old input_new answer = IsAnswerBy (pattern_by command t) input_old input_new answer
 
--- the answer follows from what the file is, which is one thing alone
+-- the answer follows from the verdict on the file, which is the only one
 pub record IsAnswer (command : Command) (file : NamedFile) (input_old input_new : Option (List ℕ)) (answer : Answer) : Type 0 where
-  pub reading : Reading
-  pub reads : IsTheReading file.bytes reading
-  pub follows : IsAnswerTo command file.name reading input_old input_new answer
+  pub verdict : FileVerdict
+  pub is_verdict : IsTheFileVerdict file.bytes verdict
+  pub follows : IsAnswerTo command file.name verdict input_old input_new answer
 
 -- The line of the answer is all that was written, and the status is that of the line.
 pub record WritesLine (answers : Answer → Type 0) (status : Status) (old new : Option (List ℕ)) : Type 0 where

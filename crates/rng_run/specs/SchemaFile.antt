@@ -38,7 +38,8 @@ pub data BreaksClause : List ℕ → ℕ → Type 0 where
   -- a character is none of XML's, or an escape is bad
   bad_characters : {bytes : List ℕ} {k : ℕ} (place : ℕ) → BreaksCharactersAt bytes place → k ≡ 4 → BreaksClause bytes k
   -- neither a blank, a comment nor a token begins
-  bad_tokens : {bytes : List ℕ} {k : ℕ} (characters : List Character) (place : ℕ) → IsDecoded bytes characters → BreaksTokensAt characters place → k ≡ 5 → BreaksClause bytes k
+  bad_tokens : {bytes : List ℕ} {k : ℕ} (characters : List Character) (place : ℕ) → IsDecoded bytes characters → BreaksTokensAt characters place → k ≡ 5 →
+      BreaksClause bytes k
   -- the tokens are no sentence
   no_sentence : {bytes : List ℕ} {k : ℕ} (ts : List Lexeme) (place : ℕ) → AreTokensOf bytes ts → BreaksGrammarAt ts place → k ≡ 6 → BreaksClause bytes k
   -- too many brackets are open
@@ -52,30 +53,30 @@ pub record IsSchemaFile (bytes : List ℕ) (t : FileTree) : Type 0 where
   pub are : AreTokensOf bytes lexemes
   pub tree : IsFileTree lexemes t
 
--- what a file is, to whoever reads it
-pub data Reading : Type 0 where
-  too_long : Reading
-  breaks : ℕ → Reading
-  has_tree : FileTree → Reading
+-- the verdict on a file: it is too long, it breaks this clause first, or it has this tree
+pub data FileVerdict : Type 0 where
+  too_long : FileVerdict
+  breaks : ℕ → FileVerdict
+  has_tree : FileTree → FileVerdict
 
 -- what the bytes are, however many there may be
-abbrev pub IsContent : List ℕ → Reading → Type 0
-IsContent bytes too_long = ⊥
-IsContent bytes (breaks clause) = BreaksClause bytes clause
-IsContent bytes (has_tree t) = IsSchemaFile bytes t
+abbrev pub IsContentVerdict : List ℕ → FileVerdict → Type 0
+IsContentVerdict bytes too_long = ⊥
+IsContentVerdict bytes (breaks clause) = BreaksClause bytes clause
+IsContentVerdict bytes (has_tree t) = IsSchemaFile bytes t
 
 -- the size comes before all else
-abbrev pub IsReading : List ℕ → Reading → Type 0
-IsReading bytes too_long = size_limit < length bytes
-IsReading bytes (breaks clause) = (length bytes ≤ size_limit) × BreaksClause bytes clause
-IsReading bytes (has_tree t) = (length bytes ≤ size_limit) × IsSchemaFile bytes t
+abbrev pub IsFileVerdict : List ℕ → FileVerdict → Type 0
+IsFileVerdict bytes too_long = size_limit < length bytes
+IsFileVerdict bytes (breaks clause) = (length bytes ≤ size_limit) × BreaksClause bytes clause
+IsFileVerdict bytes (has_tree t) = (length bytes ≤ size_limit) × IsSchemaFile bytes t
 
 -- the bytes are this and nothing else
-pub record IsTheReading (bytes : List ℕ) (r : Reading) : Type 0 where
-  pub is : IsReading bytes r
-  pub only : (other : Reading) → IsReading bytes other → r ≡ other
+pub record IsTheFileVerdict (bytes : List ℕ) (v : FileVerdict) : Type 0 where
+  pub is : IsFileVerdict bytes v
+  pub only : (other : FileVerdict) → IsFileVerdict bytes other → v ≡ other
 
 -- the same of the content
-pub record IsTheContent (bytes : List ℕ) (r : Reading) : Type 0 where
-  pub is : IsContent bytes r
-  pub only : (other : Reading) → IsContent bytes other → r ≡ other
+pub record IsTheContentVerdict (bytes : List ℕ) (v : FileVerdict) : Type 0 where
+  pub is : IsContentVerdict bytes v
+  pub only : (other : FileVerdict) → IsContentVerdict bytes other → v ≡ other

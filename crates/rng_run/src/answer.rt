@@ -7,7 +7,7 @@ ghost use Rattle.rng_run.specs.AnswerView.{answer_of};
 use std::alloc::{AllocError, Global};
 
 /// What a document is by a schema.
-#[derive(Clone, Copy, Debug, PartialEq, Eq)]
+#[derive(Clone, Copy)]
 pub enum Verdict {
     Valid,
     /// The clause that is broken first, 0 for a line outside the fragment of the format, and its line, from 1.
@@ -26,7 +26,7 @@ pub enum Status {
 }
 
 /// What a run answers with one line.
-#[derive(Clone, Copy, Debug, PartialEq, Eq)]
+#[derive(Clone, Copy)]
 pub enum Answer<'a> {
     /// The schema breaks this clause, or is outside what is served: clause 0.
     Refused(u8),

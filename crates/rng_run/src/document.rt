@@ -5,33 +5,31 @@ ghost use Rattle.rng_model.specs.Lines.{lines};
 ghost use Rattle.rng_model.specs.Pyx.{IsDocument};
 ghost use Rattle.rng_model.specs.View.{item_of};
 ghost use Rattle.rng_run.specs.DocumentAnswer.{IsAnswer, IsFaultOf};
-ghost use Rattle.rng_run.specs.DocumentMachine as machine;
+ghost use Rattle.rng_run.specs.DocumentReader as reader;
 ghost use Rattle.rng_run.specs.DocumentView.{Gives};
 
 mod element;
 mod fault;
 mod line;
-mod machine;
-#[cfg(test)]
-mod tests;
+mod reader;
 
 use crate::document::line::first_line;
-use crate::document::machine::Machine;
+use crate::document::reader::DocumentReader;
 pub use fault::DocumentFault;
 use rng_model::Item;
 use std::alloc::Global;
 
-#[tactic(auto, unfolding(crate::specs::DocumentMachine::document_read))]
+#[tactic(auto, unfolding(crate::specs::DocumentReader::document_read))]
 fn read_lines(alloc: Global, bytes: &[u8]) -> Result<Item, DocumentFault>
-    ensures { Gives item_of result (machine.document_read (lines bytes.now)) }
+    ensures { Gives item_of result (reader.document_read (lines bytes.now)) }
 {
-    let mut machine = Machine::new(alloc);
+    let mut reader = DocumentReader::new(alloc);
     let mut rest = bytes;
     'lines: while let Some((line, after)) = first_line(rest) {
-        machine.line(line)?;
+        reader.line(line)?;
         rest = after;
     }
-    machine.finish()
+    reader.finish()
 }
 
 /// The element tree of a document, in one pass over its bytes. Takes memory for the tree.

@@ -1,31 +1,56 @@
 // From the tree of a schema file to a pattern, where the schema is served.
-ghost use Rattle.std.specs.Prelude.{◌≡◌, map, string_bytes, IfOk, IfErr};
+ghost use Rattle.std.specs.Prelude.{◌≡◌, map, string_bytes, IfOk};
 ghost use Rattle.rng_model.specs.View.{class_of, pattern_of};
 ghost use Rattle.rnc_grammar.specs.FileTree.{patterns_of};
 ghost use Rattle.rnc_grammar.specs.View as files;
-ghost use Rattle.rng_run.specs.FileFaults.{Gives};
 ghost use Rattle.rng_run.specs.Fragment.{served, served_class, served_file, served_members, uri_of};
+ghost use Rattle.rng_run.specs.FragmentFaults.{IsServed};
+ghost use Rattle.rng_run.specs.declared.fragment.FragmentFault.TheVariants as faults;
 
-use crate::fault::FileFault;
 use rnc_grammar as file;
 use rng_model::{Name, NameClass, Pattern};
-use std::alloc::{AllocError, Global};
+use std::alloc::{AllocError, AllocFailed, Global};
+
+/// Why a file's tree gives no pattern.
+#[derive(Clone, Copy)]
+pub enum FragmentFault {
+    /// The schema is outside what is served.
+    NotServed,
+    /// There was no memory for the pattern.
+    Memory,
+}
+
+impl From<AllocError> for FragmentFault {
+    ghost from_gives = { λ _ fault. fault ≡ faults.Memory };
+
+    fn from(_cause: AllocError) -> FragmentFault {
+        FragmentFault::Memory
+    }
+}
+
+impl<T: Drop> From<AllocFailed<T>> for FragmentFault {
+    ghost from_gives = { λ _ fault. fault ≡ faults.Memory };
+
+    fn from(_cause: AllocFailed<T>) -> FragmentFault {
+        FragmentFault::Memory
+    }
+}
 
 /// The pattern of a file, where its schema is served: one pattern of elements and attributes with a plain name, text,
-/// empty, notAllowed, `,` and `|`. Any other is `Unserved`. Linear; recurses as deep as the tree nests.
-pub fn pattern_of_file(alloc: Global, tree: &file::FileTree) -> Result<Pattern, FileFault>
-    ensures { Gives pattern_of result (served_file (files.file_of tree.now)) }
+/// empty, notAllowed, `,` and `|`. Any other is `NotServed`. Linear; recurses as deep as the tree nests.
+pub fn pattern_of_file(alloc: Global, tree: &file::FileTree) -> Result<Pattern, FragmentFault>
+    ensures { IsServed pattern_of result (served_file (files.file_of tree.now)) }
 {
     match tree {
         file::FileTree::Pattern(pattern) => pattern_of(alloc, pattern),
-        file::FileTree::Grammar(_) => Err(FileFault::Unserved),
+        file::FileTree::Grammar(_) => Err(FragmentFault::NotServed),
     }
 }
 
 #[cycle(patterns)]
-#[tactic(auto, using(crate::proofs::FileViews::interleave_not_served, crate::proofs::FileViews::data_not_served))]
-fn pattern_of(alloc: Global, pattern: &file::Pattern) -> Result<Pattern, FileFault>
-    ensures { Gives pattern_of result (served (files.pattern_of pattern.now)) }
+#[tactic(auto, using(crate::proofs::FilePatterns::interleave_not_served, crate::proofs::FilePatterns::data_not_served))]
+fn pattern_of(alloc: Global, pattern: &file::Pattern) -> Result<Pattern, FragmentFault>
+    ensures { IsServed pattern_of result (served (files.pattern_of pattern.now)) }
 {
     match pattern {
         file::Pattern::Empty => Ok(Pattern::Empty),
@@ -52,15 +77,15 @@ fn pattern_of(alloc: Global, pattern: &file::Pattern) -> Result<Pattern, FileFau
         | file::Pattern::ParentRef(_)
         | file::Pattern::Value { .. }
         | file::Pattern::External(_)
-        | file::Pattern::Grammar(_) => Err(FileFault::Unserved),
-        file::Pattern::Data { .. } => Err(FileFault::Unserved),
-        file::Pattern::Interleave(_) => Err(FileFault::Unserved),
+        | file::Pattern::Grammar(_) => Err(FragmentFault::NotServed),
+        file::Pattern::Data { .. } => Err(FragmentFault::NotServed),
+        file::Pattern::Interleave(_) => Err(FragmentFault::NotServed),
     }
 }
 
 #[cycle(patterns)]
-fn patterns_of(alloc: Global, members: &[file::Pattern]) -> Result<Vec<Pattern>, FileFault>
-    ensures { Gives (λ all. map pattern_of all.items) result (served_members (patterns_of (map files.pattern_of members.now))) }
+fn patterns_of(alloc: Global, members: &[file::Pattern]) -> Result<Vec<Pattern>, FragmentFault>
+    ensures { IsServed (λ all. map pattern_of all.items) result (served_members (patterns_of (map files.pattern_of members.now))) }
 {
     let mut all = Vec::new(alloc);
     for member in members {
@@ -70,8 +95,8 @@ fn patterns_of(alloc: Global, members: &[file::Pattern]) -> Result<Vec<Pattern>,
 }
 
 /// The class of a plain name.
-fn class_of(alloc: Global, class: &file::NameClass) -> Result<NameClass, FileFault>
-    ensures { Gives class_of result (served_class (files.class_of class.now)) }
+fn class_of(alloc: Global, class: &file::NameClass) -> Result<NameClass, FragmentFault>
+    ensures { IsServed class_of result (served_class (files.class_of class.now)) }
 {
     match class {
         file::NameClass::Name(name) => Ok(NameClass::Name(Name {
@@ -82,7 +107,7 @@ fn class_of(alloc: Global, class: &file::NameClass) -> Result<NameClass, FileFau
         | file::NameClass::AnyExcept(_)
         | file::NameClass::Ns(_)
         | file::NameClass::NsExcept(_, _)
-        | file::NameClass::Choice(_) => Err(FileFault::Unserved),
+        | file::NameClass::Choice(_) => Err(FragmentFault::NotServed),
     }
 }
 

@@ -16,7 +16,7 @@ use std::alloc::Global;
 /// the format, 7 for an attribute in no tag, 8 for an end tag that does not fit, 9 for a text outside the root or a
 /// start tag after it, 12 for two attributes of one name (at the tag's last line), 13 for an input that ends without a
 /// root or with an element open. `Invalid` has the number of lines. The only fault is want of memory.
-pub(crate) fn judge(
+pub(crate) fn document_verdict(
     alloc: Global,
     grammar: &SimpleGrammar,
     document: &[u8],
@@ -25,10 +25,10 @@ pub(crate) fn judge(
     // Each verdict that holds is the one that is answered.
     ensures only { IfOk result (λ v. (tests : TextTests) → IsOnlyVerdict (IsValidBy (grammar_of grammar.now) (texts_of tests)) document.now v) }
 {
-    verdict_on(alloc, grammar, document)
+    verdict_by(alloc, grammar, document)
 }
 
-fn verdict_on(
+fn verdict_by(
     alloc: Global,
     grammar: &SimpleGrammar,
     document: &[u8],

@@ -8,8 +8,6 @@
 
 mod answer;
 mod ascii;
-#[cfg(test)]
-mod comparison;
 mod document;
 mod fault;
 mod fragment;
@@ -17,8 +15,6 @@ mod judging;
 mod running;
 mod schema_file;
 mod streams;
-#[cfg(test)]
-mod tests;
 
 pub use answer::Status;
 pub use running::{Command, RunFault, run};

@@ -1,25 +1,27 @@
 // From files and a document to one line.
-ghost use Rattle.std.specs.Prelude.{◌≡◌, ◌-◌, ◌^◌, ◌<◌, length, IfOk, IfErr, OnOk, IsErrOf};
+ghost use Rattle.std.specs.Prelude.{◌≡◌, ◌-◌, ◌^◌, ◌<◌, length, None, IfOk, IfErr, OnOk, IsErrOf};
 ghost use Rattle.rng_model.specs.Device.{device_inner, device_failures};
 ghost use Rattle.rng_run.specs.Answer.{status_of};
 ghost use Rattle.rng_run.specs.AnswerView.{answer_of};
-ghost use Rattle.rng_run.specs.Run.{IsAnswer, JudgesNone, WritesLine, WrittenAfter, main_file};
-ghost use Rattle.rng_run.specs.SchemaFile.{IsTheReading, Reading};
-ghost use Rattle.rng_run.specs.Compiled.{IsCompiled, IsRefusal};
+ghost use Rattle.rnc_grammar.specs.View.{file_of};
+ghost use Rattle.rng_run.specs.Run.{IsAnswer, IsAnswerBy, JudgesNone, WritesLine, WrittenAfter, main_file, pattern_by};
+ghost use Rattle.rng_run.specs.SchemaFile.{FileVerdict, IsTheFileVerdict};
+ghost use Rattle.rng_run.specs.Compiled.{IsCompiled};
 
 use crate::answer::{Answer, Status};
 use crate::fault::FileFault;
-use crate::fragment::pattern_of_file;
-use crate::judging::judge;
-use crate::schema_file::read_file;
+use crate::fragment::{FragmentFault, pattern_of_file};
+use crate::judging::document_verdict;
+use crate::schema_file::tree_of_file;
 use crate::streams::{StreamFault, read_whole, write_whole};
-use rng_model::{Device, OutOfMemory, SimpleGrammar};
+use rnc_grammar::FileTree;
+use rng_model::{Device, OutOfMemory, SchemaFault, SimpleGrammar};
 use rng_simple::{Schema, simplify};
 use std::alloc::Global;
 use std::io::{Read, Write};
 
 /// What to do with the files.
-#[derive(Clone, Copy, Debug, PartialEq, Eq)]
+#[derive(Clone, Copy, Debug)]
 pub enum Command {
     /// Judge a document by the schema.
     Valid,
@@ -67,7 +69,7 @@ pub fn run<R: Read, W: Write>(
         status (W.contents (device_inner output.old)) (W.contents (device_inner output.new))) }
 
     // Where no document is judged by the file, none is read.
-    ensures unread { (reading : Reading) → IsTheReading (main_file files.now).bytes reading → JudgesNone command reading → input.new ≡ input.old }
+    ensures unread { (verdict : FileVerdict) → IsTheFileVerdict (main_file files.now).bytes verdict → JudgesNone command verdict → input.new ≡ input.old }
 
     // A fault of a device is answered only where that device counted one.
     ensures read { IsErrOf result RunFault.Read → device_failures input.old < device_failures input.new }
@@ -108,37 +110,66 @@ fn answer_for<'n, R: Read>(
 ) -> Result<Answer<'n>, RunFault>
     requires { device_failures input.old < 2 ^ 64 - 1 }
     ensures calm { OnOk result (device_failures input.new ≡ device_failures input.old) }
-    ensures unread { (reading : Reading) → IsTheReading bytes.now reading → JudgesNone command reading → input.new ≡ input.old }
+    ensures unread { (verdict : FileVerdict) → IsTheFileVerdict bytes.now verdict → JudgesNone command verdict → input.new ≡ input.old }
     ensures read { IsErrOf result RunFault.Read → device_failures input.old < device_failures input.new }
     ensures no_write { IsErrOf result RunFault.Write → ⊥ }
     ensures answer { IfOk result (λ answer. IsAnswer command (record { name = name.now; bytes = bytes.now }) (R.remaining (device_inner input.old)) (R.remaining (device_inner input.new)) (answer_of answer)) }
 {
-    let grammar = match compiled(alloc, command, bytes) {
-        Ok(grammar) => grammar,
-        Err(FileFault::Clause(clause)) => return Ok(Answer::RefusedFile { clause, name }),
-        Err(FileFault::Unserved) => return Ok(Answer::Refused(0)),
-        Err(FileFault::Memory) => return Err(RunFault::Memory),
+    match tree_of_file(alloc, bytes) {
+        Ok(tree) => answer_by(alloc, command, &tree, input),
+        Err(FileFault::Clause(clause)) => Ok(Answer::RefusedFile { clause, name }),
+        Err(FileFault::TooLong) => Ok(Answer::Refused(0)),
+        Err(FileFault::Memory) => Err(RunFault::Memory),
+    }
+}
+
+/// What is to be said of the document by a schema file of this tree.
+fn answer_by<'n, R: Read>(
+    alloc: Global,
+    command: Command,
+    tree: &FileTree,
+    input: &mut Device<R>,
+) -> Result<Answer<'n>, RunFault>
+    requires { device_failures input.old < 2 ^ 64 - 1 }
+    ensures calm { OnOk result (device_failures input.new ≡ device_failures input.old) }
+    ensures unread { pattern_by command (file_of tree.now) ≡ None → input.new ≡ input.old }
+    ensures read { IsErrOf result RunFault.Read → device_failures input.old < device_failures input.new }
+    ensures no_write { IsErrOf result RunFault.Write → ⊥ }
+    ensures answer { IfOk result (λ answer. IsAnswerBy (pattern_by command (file_of tree.now)) (R.remaining (device_inner input.old)) (R.remaining (device_inner input.new)) (answer_of answer)) }
+{
+    let grammar = match compiled(alloc, command, tree) {
+        Ok(Some(grammar)) => grammar,
+        Ok(None) => return Ok(Answer::Refused(0)),
+        Err(OutOfMemory) => return Err(RunFault::Memory),
     };
     let document = match read_whole(alloc, input) {
         Ok(document) => document,
         Err(StreamFault::Read) => return Err(RunFault::Read),
         Err(StreamFault::Memory) => return Err(RunFault::Memory),
     };
-    match judge(alloc, &grammar, document.as_slice()) {
+    match document_verdict(alloc, &grammar, document.as_slice()) {
         Ok(verdict) => Ok(Answer::Judged(verdict)),
         Err(OutOfMemory) => Err(RunFault::Memory),
     }
 }
 
-/// The grammar by which the command judges a document, where it does.
-fn compiled(alloc: Global, command: Command, bytes: &[u8]) -> Result<SimpleGrammar, FileFault>
-    ensures grammar { IfOk result (IsCompiled command bytes.now) }
-    ensures fault { IfErr result (IsRefusal command bytes.now) }
+/// The grammar by which the command judges documents: none for `check`, and where the schema is outside what is served.
+fn compiled(
+    alloc: Global,
+    command: Command,
+    tree: &FileTree,
+) -> Result<Option<SimpleGrammar>, OutOfMemory>
+    ensures { IfOk result (IsCompiled (pattern_by command (file_of tree.now))) }
 {
-    let tree = read_file(alloc, bytes)?;
-    let pattern = match command {
-        Command::Valid => pattern_of_file(alloc, &tree)?,
-        Command::Check => return Err(FileFault::Unserved),
-    };
-    Ok(simplify(alloc, &Schema::single(pattern))?)
+    match command {
+        Command::Check => Ok(None),
+        Command::Valid => match pattern_of_file(alloc, tree) {
+            Ok(pattern) => match simplify(alloc, &Schema::single(pattern)) {
+                Ok(grammar) => Ok(Some(grammar)),
+                Err(SchemaFault::Memory) => Err(OutOfMemory),
+            },
+            Err(FragmentFault::NotServed) => Ok(None),
+            Err(FragmentFault::Memory) => Err(OutOfMemory),
+        },
+    }
 }

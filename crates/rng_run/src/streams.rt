@@ -9,7 +9,7 @@ use std::alloc::Global;
 use std::io::{Read, Write};
 
 /// Why a device was not read to its end.
-#[derive(Clone, Copy, Debug, PartialEq, Eq)]
+#[derive(Clone, Copy)]
 pub enum StreamFault {
     /// A read failed.
     Read,

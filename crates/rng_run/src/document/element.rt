@@ -2,7 +2,7 @@
 ghost use Rattle.std.specs.Prelude.{◌≡◌, map, string_bytes, Ok};
 ghost use Rattle.rng_model.specs.Pyx as pyx;
 ghost use Rattle.rng_model.specs.View.{name_of, attribute_of, item_of};
-ghost use Rattle.rng_run.specs.DocumentMachine as machine;
+ghost use Rattle.rng_run.specs.DocumentReader as reader;
 ghost use Rattle.rng_run.specs.DocumentView.{Gives, element_of};
 
 use crate::document::fault::DocumentFault;
@@ -10,7 +10,7 @@ use rng_model::{Attr, Item, Name};
 use std::alloc::Global;
 
 /// An element whose end was not read.
-#[derive(Debug, Drop)]
+#[derive(Drop)]
 pub struct Element {
     pub name: String,
     pub attrs: Vec<Attr>,
@@ -29,7 +29,7 @@ fn plain_name(alloc: Global, local: String) -> Name
 
 /// One of these attributes has this name.
 fn occurs(name: &str, attrs: &[Attr]) -> bool
-    ensures { result ≡ machine.occurs name.now (map attribute_of attrs.now) }
+    ensures { result ≡ reader.occurs name.now (map attribute_of attrs.now) }
 {
     match attrs {
         [first, rest @ ..] => first.name.local.as_str() == name || occurs(name, rest),
@@ -39,7 +39,7 @@ fn occurs(name: &str, attrs: &[Attr]) -> bool
 
 /// Two of these attributes have one name.
 pub fn has_repeat(attrs: &[Attr]) -> bool
-    ensures { result ≡ machine.has_repeat (map attribute_of attrs.now) }
+    ensures { result ≡ reader.has_repeat (map attribute_of attrs.now) }
 {
     match attrs {
         [first, rest @ ..] => occurs(first.name.local.as_str(), rest) || has_repeat(rest),
@@ -50,7 +50,7 @@ pub fn has_repeat(attrs: &[Attr]) -> bool
 impl Element {
     /// The element of a tag without attributes.
     pub fn new(alloc: Global, name: &str) -> Result<Self, DocumentFault>
-        ensures { Gives element_of result (Ok (machine.fresh name.now)) }
+        ensures { Gives element_of result (Ok (reader.fresh name.now)) }
     {
         Ok(Element {
             name: String::from_str(alloc, name)?,
@@ -61,7 +61,7 @@ impl Element {
 
     /// With this text after its other children, but for the empty one.
     pub fn with_text(self, text: String) -> Result<Self, DocumentFault>
-        ensures { Gives element_of result (Ok (machine.with_text (string_bytes text) (element_of self))) }
+        ensures { Gives element_of result (Ok (reader.with_text (string_bytes text) (element_of self))) }
     {
         let mut element = self;
         if !text.is_empty() {
@@ -72,7 +72,7 @@ impl Element {
 
     /// With this child after its others.
     pub fn with_child(self, child: Item) -> Result<Self, DocumentFault>
-        ensures { Gives element_of result (Ok (machine.with_child (item_of child) (element_of self))) }
+        ensures { Gives element_of result (Ok (reader.with_child (item_of child) (element_of self))) }
     {
         let mut element = self;
         element.children.push(child)?;
@@ -86,7 +86,7 @@ impl Element {
         name: &str,
         value: &str,
     ) -> Result<Self, DocumentFault>
-        ensures { Gives element_of result (Ok (machine.with_attribute name.now value.now (element_of self))) }
+        ensures { Gives element_of result (Ok (reader.with_attribute name.now value.now (element_of self))) }
     {
         let mut element = self;
         let name = plain_name(alloc, String::from_str(alloc, name)?);
@@ -97,7 +97,7 @@ impl Element {
 
     /// The element, whole. Takes no memory.
     pub fn into_item(self, alloc: Global) -> Item
-        ensures { item_of result ≡ machine.item_of_element (element_of self) }
+        ensures { item_of result ≡ reader.item_of_element (element_of self) }
     {
         Item::Element {
             name: plain_name(alloc, self.name),

@@ -5,7 +5,7 @@ ghost use Rattle.rng_run.specs.declared.document.fault.DocumentFault.TheVariants
 use std::alloc::{AllocError, AllocFailed};
 
 /// Why a document has no tree.
-#[derive(Clone, Copy, Debug, PartialEq, Eq)]
+#[derive(Clone, Copy)]
 pub enum DocumentFault {
     /// There was no memory for what the call had to keep.
     Memory,

@@ -10,7 +10,7 @@ use crate::ascii::{is_name_char, is_name_start};
 use std::str;
 
 /// The bytes of a line without its line feed.
-#[derive(Clone, Copy, Debug)]
+#[derive(Clone, Copy)]
 pub struct Line<'a> {
     pub bytes: &'a [u8],
     /// A line feed ends it.
@@ -18,7 +18,7 @@ pub struct Line<'a> {
 }
 
 /// What one line says.
-#[derive(Clone, Copy, Debug)]
+#[derive(Clone, Copy)]
 pub enum Shape<'a> {
     Start(&'a str),
     Attribute(&'a str, &'a str),

@@ -1,4 +1,4 @@
-use Rattle.rng_run.proofs.DocumentAnswers.{found, only, fault}
+use Rattle.rng_run.proofs.DocumentAnswer.{found, only, fault}
 use Rattle.rng_run.proofs.document.read_document.Goals as goal
 
 pub returns-clause-found : goal.returns-clause-found

@@ -1,4 +1,4 @@
-use Rattle.rng_run.proofs.DocumentCut.{behind_is}
+use Rattle.rng_run.proofs.StringCuts.{behind_is}
 use Rattle.rng_run.proofs.document.line.behind.Goals as goal
 
 pub returns : goal.returns

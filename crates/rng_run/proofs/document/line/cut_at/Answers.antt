@@ -1,4 +1,4 @@
-use Rattle.rng_run.proofs.DocumentCut.{at_byte_is}
+use Rattle.rng_run.proofs.StringCuts.{at_byte_is}
 use Rattle.rng_run.proofs.document.line.cut_at.Goals as goal
 
 pub returns : goal.returns

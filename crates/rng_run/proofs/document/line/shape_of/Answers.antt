@@ -1,5 +1,5 @@
 use Rattle.std.proofs.Common.{sym}
-use Rattle.rng_run.proofs.DocumentPlain.{plain_is_text}
+use Rattle.rng_run.proofs.PlainBytes.{plain_is_text}
 use Rattle.rng_run.proofs.document.line.shape_of.Goals as goal
 
 pub returns-in-Err : goal.returns-in-Err
