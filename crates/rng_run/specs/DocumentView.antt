@@ -1,6 +1,8 @@
 -- What the values of the code are, and what a call that may run out of memory answers.
-use Rattle.std.specs.Prelude.{◌≡◌, map, option_map, Result, Ok, Err, string_bytes}
+use Rattle.std.specs.Prelude.{◌≡◌, map, option_map, Option, Some, None, Result, Ok, Err, string_bytes}
+use Rattle.rng_model.specs.Answers.{Refuses}
 use Rattle.rng_model.specs.Lines as lines
+use Rattle.rng_model.specs.PyxFaults.{Fault}
 use Rattle.rng_model.specs.View.{attribute_of, item_of}
 use Rattle.rng_run.specs.declared.document.fault.DocumentFault.{DocumentFault}
 use Rattle.rng_run.specs.declared.document.fault.DocumentFault.TheVariants as faults
@@ -32,15 +34,14 @@ state_of m = record {
   count = m.lines;
 }
 
+-- what a fault says of a document: nothing, where memory ran out
+abbrev pub broken_by : DocumentFault → Option Fault
+broken_by faults.Memory = None
+broken_by (faults.At clause line) = Some (record { clause = clause; line = line })
+
 -- The fault is the one that reading gives, unless memory ran out.
 abbrev pub Fails : {A : Type 0} → DocumentFault → reader.Outcome A → Type 0
-Fails faults.Memory read = Unit {0}
-Fails (faults.At clause line) read = read ≡ Err (record { clause = clause; line = line })
-
--- What a call answered, seen by view, is what reading gives, unless memory ran out.
-abbrev pub Gives : {X Y : Type 0} → (X → Y) → Result X DocumentFault → reader.Outcome Y → Type 0
-Gives view (Ok x) read = read ≡ Ok (view x)
-Gives view (Err f) read = Fails f read
+Fails f read = Refuses (broken_by f) read
 
 -- The state after a call is what reading gives, unless memory ran out.
 abbrev pub Takes : {A : Type 0} → Result A DocumentFault → reader.State → reader.Outcome reader.State → Type 0

@@ -6,7 +6,8 @@ ghost use Rattle.rng_model.specs.Pyx.{IsDocument};
 ghost use Rattle.rng_model.specs.View.{item_of};
 ghost use Rattle.rng_run.specs.DocumentAnswer.{IsAnswer, IsFaultOf};
 ghost use Rattle.rng_run.specs.DocumentReader as reader;
-ghost use Rattle.rng_run.specs.DocumentView.{Gives};
+ghost use Rattle.rng_model.specs.Answers.{Gives};
+ghost use Rattle.rng_run.specs.DocumentView.{broken_by};
 
 mod element;
 mod fault;
@@ -21,7 +22,7 @@ use std::alloc::Global;
 
 #[tactic(auto, unfolding(crate::specs::DocumentReader::document_read))]
 fn read_lines(alloc: Global, bytes: &[u8]) -> Result<Item, DocumentFault>
-    ensures { Gives item_of result (reader.document_read (lines bytes.now)) }
+    ensures { Gives broken_by item_of result (reader.document_read (lines bytes.now)) }
 {
     let mut reader = DocumentReader::new(alloc);
     let mut rest = bytes;

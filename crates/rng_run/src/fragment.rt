@@ -8,8 +8,8 @@ ghost use Rattle.rng_run.specs.FragmentFaults.{IsServed};
 ghost use Rattle.rng_run.specs.declared.fragment.FragmentFault.TheVariants as faults;
 
 use rnc_grammar as file;
-use rng_model::{Name, NameClass, Pattern};
-use std::alloc::{AllocError, AllocFailed, Global};
+use rng_model::{Name, NameClass, OutOfMemory, Pattern};
+use std::alloc::{AllocError, Global};
 
 /// Why a file's tree gives no pattern.
 #[derive(Clone, Copy)]
@@ -20,18 +20,13 @@ pub enum FragmentFault {
     Memory,
 }
 
-impl From<AllocError> for FragmentFault {
+impl<E: Drop> From<E> for FragmentFault
+where
+    OutOfMemory: From<E>,
+{
     ghost from_gives = { λ _ fault. fault ≡ faults.Memory };
 
-    fn from(_cause: AllocError) -> FragmentFault {
-        FragmentFault::Memory
-    }
-}
-
-impl<T: Drop> From<AllocFailed<T>> for FragmentFault {
-    ghost from_gives = { λ _ fault. fault ≡ faults.Memory };
-
-    fn from(_cause: AllocFailed<T>) -> FragmentFault {
+    fn from(_cause: E) -> FragmentFault {
         FragmentFault::Memory
     }
 }

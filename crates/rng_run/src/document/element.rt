@@ -3,7 +3,8 @@ ghost use Rattle.std.specs.Prelude.{◌≡◌, map, string_bytes, Ok};
 ghost use Rattle.rng_model.specs.Pyx as pyx;
 ghost use Rattle.rng_model.specs.View.{name_of, attribute_of, item_of};
 ghost use Rattle.rng_run.specs.DocumentReader as reader;
-ghost use Rattle.rng_run.specs.DocumentView.{Gives, element_of};
+ghost use Rattle.rng_model.specs.Answers.{Gives};
+ghost use Rattle.rng_run.specs.DocumentView.{broken_by, element_of};
 
 use crate::document::fault::DocumentFault;
 use rng_model::{Attr, Item, Name};
@@ -50,7 +51,7 @@ pub fn has_repeat(attrs: &[Attr]) -> bool
 impl Element {
     /// The element of a tag without attributes.
     pub fn new(alloc: Global, name: &str) -> Result<Self, DocumentFault>
-        ensures { Gives element_of result (Ok (reader.fresh name.now)) }
+        ensures { Gives broken_by element_of result (Ok (reader.fresh name.now)) }
     {
         Ok(Element {
             name: String::from_str(alloc, name)?,
@@ -61,7 +62,7 @@ impl Element {
 
     /// With this text after its other children, but for the empty one.
     pub fn with_text(self, text: String) -> Result<Self, DocumentFault>
-        ensures { Gives element_of result (Ok (reader.with_text (string_bytes text) (element_of self))) }
+        ensures { Gives broken_by element_of result (Ok (reader.with_text (string_bytes text) (element_of self))) }
     {
         let mut element = self;
         if !text.is_empty() {
@@ -72,7 +73,7 @@ impl Element {
 
     /// With this child after its others.
     pub fn with_child(self, child: Item) -> Result<Self, DocumentFault>
-        ensures { Gives element_of result (Ok (reader.with_child (item_of child) (element_of self))) }
+        ensures { Gives broken_by element_of result (Ok (reader.with_child (item_of child) (element_of self))) }
     {
         let mut element = self;
         element.children.push(child)?;
@@ -86,7 +87,7 @@ impl Element {
         name: &str,
         value: &str,
     ) -> Result<Self, DocumentFault>
-        ensures { Gives element_of result (Ok (reader.with_attribute name.now value.now (element_of self))) }
+        ensures { Gives broken_by element_of result (Ok (reader.with_attribute name.now value.now (element_of self))) }
     {
         let mut element = self;
         let name = plain_name(alloc, String::from_str(alloc, name)?);

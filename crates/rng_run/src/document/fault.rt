@@ -2,7 +2,7 @@
 ghost use Rattle.std.specs.Prelude.{◌≡◌};
 ghost use Rattle.rng_run.specs.declared.document.fault.DocumentFault.TheVariants as faults;
 
-use std::alloc::{AllocError, AllocFailed};
+use rng_model::OutOfMemory;
 
 /// Why a document has no tree.
 #[derive(Clone, Copy)]
@@ -13,18 +13,13 @@ pub enum DocumentFault {
     At { clause: u8, line: u64 },
 }
 
-impl From<AllocError> for DocumentFault {
+impl<E: Drop> From<E> for DocumentFault
+where
+    OutOfMemory: From<E>,
+{
     ghost from_gives = { λ _ e. e ≡ faults.Memory };
 
-    fn from(_e: AllocError) -> DocumentFault {
-        DocumentFault::Memory
-    }
-}
-
-impl<T: Drop> From<AllocFailed<T>> for DocumentFault {
-    ghost from_gives = { λ _ e. e ≡ faults.Memory };
-
-    fn from(_e: AllocFailed<T>) -> DocumentFault {
+    fn from(_e: E) -> DocumentFault {
         DocumentFault::Memory
     }
 }

@@ -3,7 +3,8 @@ ghost use Rattle.std.specs.Prelude.{◌≡◌, ◌+◌, ◌<◌, ◌^◌, map, o
 ghost use Rattle.rng_model.specs.Pyx as pyx;
 ghost use Rattle.rng_model.specs.View.{name_of, attribute_of, item_of};
 ghost use Rattle.rng_run.specs.DocumentReader as reader;
-ghost use Rattle.rng_run.specs.DocumentView.{Gives, Takes, line_of, shape_view, element_of, state_of};
+ghost use Rattle.rng_model.specs.Answers.{Gives};
+ghost use Rattle.rng_run.specs.DocumentView.{broken_by, Takes, line_of, shape_view, element_of, state_of};
 
 use crate::document::element::{Element, has_repeat};
 use crate::document::fault::DocumentFault;
@@ -229,7 +230,7 @@ impl DocumentReader {
     /// Nothing comes after: the root of the document.
     #[tactic(auto, unfolding(crate::specs::DocumentReader::at_end))]
     pub fn finish(self) -> Result<Item, DocumentFault>
-        ensures { Gives item_of result (reader.at_end (state_of self)) }
+        ensures { Gives broken_by item_of result (reader.at_end (state_of self)) }
     {
         if self.repeats() {
             return Err(self.fault(12));
