@@ -1,12 +1,9 @@
 -- Derivatives by attributes and by symbols, one after another.
-use Rattle.std.proofs.Common.{◌≡◌, ◌↔◌, ◌⊎◌, ⊎_elim, inl, inr, ℕ, suc, zero, ◌+◌, ◌<◌, ◌≤◌, ◌^◌, List, [], ◌∷◌, ◌++◌, map, length, drop, take, get_or}
-use Rattle.std.proofs.Common.{slice_get, Some, Bool, true, false, cond, ◌||◌, nat_eq, IsTrue, refl, ap, sym, ◌∙◌, subst, arith}
+use Rattle.std.proofs.Common.{◌≡◌, ◌↔◌, ℕ, suc, zero, ◌+◌, ◌<◌, ◌≤◌, List, [], ◌∷◌, ◌++◌, map, length, drop, take, get_or}
+use Rattle.std.proofs.Common.{slice_get, Some, Bool, ◌||◌, IsTrue, refl, ap, sym, ◌∙◌, subst, arith}
 use Rattle.std.proofs.lemmas.List.{drop_all, take_more}
 use Rattle.std.proofs.Math.Numerals.{add-one}
-use Rattle.std.proofs.lemmas.Bool.{cases_eq, ne_eqb, eq-eqb, eqb-true}
-use Rattle.std.proofs.lemmas.List.Folds.{list_any-append}
 use Rattle.std.specs.List.{list_any}
-use Rattle.rng_model.specs.Names as names
 use Rattle.rng_model.specs.Tree as tree
 use Rattle.rng_model.specs.Document.{Attribute, Item}
 use Rattle.rng_model.specs.Table.{Table, grammar_of}
@@ -14,19 +11,14 @@ use Rattle.rng_model.specs.Texts.{TextTests}
 use Rattle.rng_deriv.specs.Acceptance.{Contains, IsAfterAttribute, IsAfterItem, Accepts}
 use Rattle.rng_deriv.specs.PatternTable.{Longer, is_nullable, tree_of}
 use Rattle.rng_deriv.specs.Derivative.{IsAfter, IsDerivative, StandsForItem}
-use Rattle.rng_model.specs.Names.{In}
-use Rattle.rng_model.specs.View.{class_of}
-use Rattle.rng_deriv.specs.declared.names.ElementNames.{ElementNames}
-use Rattle.rng_deriv.specs.Named.{ListsElements, candidates, has_number}
-use Rattle.rng_deriv.proofs.Named.{has_front, has_last, held_candidate}
-use Rattle.rng_deriv.specs.Content.{AnswersContent, AnswersItems, IsAfterAttributes, StandForItems, TakesNode}
+use Rattle.rng_deriv.specs.Content.{AnswersContent, AnswersItems, IsAfterAttributes, StandForItems}
 use Rattle.rng_deriv.specs.declared.pattern_table.TableEntry.{TableEntry}
 use Rattle.rng_deriv.specs.declared.derivative.Symbol.{Symbol}
 use Rattle.rng_deriv.specs.declared.derivative.Symbol.TheVariants as symbol
 use Rattle.rng_deriv.proofs.PatternTable.{tree_stays}
 use Rattle.rng_deriv.proofs.Derivable.{entry_derivable}
 use Rattle.rng_deriv.proofs.Acceptance.{nullable_in, nullable_out}
-use Rattle.rng_deriv.proofs.Content.{as_many, in_table, item_at, many_items}
+use Rattle.rng_deriv.proofs.Content.{as_many, item_at, many_items}
 
 -- ---- lists
 

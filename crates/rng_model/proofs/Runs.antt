@@ -1,5 +1,5 @@
 -- How a text is cut at its blanks, from its front on.
-use Rattle.std.proofs.Common.{◌≡◌, ℕ, suc, ◌+◌, List, [], ◌∷◌, ◌++◌, Bool, true, false, not, ◌&&◌, cond, take, drop, refl, ap, sym, ◌∙◌, one-add, rules, tests}
+use Rattle.std.proofs.Common.{◌≡◌, ℕ, suc, ◌+◌, List, [], ◌∷◌, ◌++◌, Bool, true, false, not, cond, take, drop, refl, ap, sym, ◌∙◌, one-add, rules, tests}
 use Rattle.std.proofs.Common.{arith, append-nil, append_assoc, add-one, subst, zero, ap₂, length, get_or, length-append, ◌==◌, ◌<◌, ◌≤◌}
 use Rattle.std.specs.List.{slice_split, onto_first, list_all, filter, prefix_len, take_while, join_with_byte, AllByRecursion}
 use Rattle.std.proofs.lemmas.List.Splits.{slice_split-cons_yes, slice_split-cons_no}

@@ -1,0 +1,94 @@
+// Documents from rows.
+use rng_model::{Attr, Item, Name};
+use std::alloc::{AllocError, Global};
+
+/// An element that has begun and not ended.
+#[derive(Drop)]
+struct Open {
+    name: Name,
+    attrs: Vec<Attr>,
+    children: Vec<Item>,
+}
+
+/// The root of a document in lines that are parted by `/`, or `None` where there is none or no memory for it.
+///
+/// Of `N*LINE` the line stands N times.
+pub fn read_document(alloc: Global, lines: &str) -> Option<Item> {
+    let mut open = Vec::new(alloc);
+    for written in lines.split('/') {
+        let (count, line) = written.split_once('*').unwrap_or(("1", written));
+        for _line in 0..count.parse::<usize>().unwrap_or(0) {
+            if let Some(closed) = add_line(alloc, &mut open, line).ok()? {
+                return Some(closed);
+            }
+        }
+    }
+    None
+}
+
+/// Adds a line, and answers the root where the line ends it.
+fn add_line(alloc: Global, open: &mut Vec<Open>, line: &str) -> Result<Option<Item>, AllocError> {
+    if let Some(local) = line.strip_prefix('(') {
+        let element = Open {
+            name: named(alloc, local)?,
+            attrs: Vec::new(alloc),
+            children: Vec::new(alloc),
+        };
+        open.push(element)?;
+        return Ok(None);
+    }
+    let Some(mut element) = open.pop() else {
+        return Ok(None);
+    };
+    if line.starts_with(')') {
+        return close(open, element);
+    }
+    add_part(alloc, &mut element, line)?;
+    open.push(element)?;
+    Ok(None)
+}
+
+/// Adds a text or an attribute to an element.
+fn add_part(alloc: Global, element: &mut Open, line: &str) -> Result<(), AllocError> {
+    if let Some(text) = line.strip_prefix('-') {
+        return Ok(
+            element
+                .children
+                .push(Item::Text(String::from_str(alloc, text)?))?,
+        );
+    }
+    let (local, value) = line.split_once(' ').unwrap_or((line, ""));
+    let attr = Attr {
+        name: named(alloc, local.strip_prefix('A').unwrap_or(local))?,
+        value: String::from_str(alloc, value)?,
+    };
+    Ok(element.attrs.push(attr)?)
+}
+
+/// Puts an element into the open one, or answers it where none is open.
+fn close(open: &mut Vec<Open>, ended: Open) -> Result<Option<Item>, AllocError> {
+    let Open {
+        name,
+        attrs,
+        children,
+    } = ended;
+    let item = Item::Element {
+        name,
+        attrs,
+        children,
+    };
+    let Some(mut parent) = open.pop() else {
+        return Ok(Some(item));
+    };
+    parent.children.push(item)?;
+    open.push(parent)?;
+    Ok(None)
+}
+
+/// A name without a namespace.
+fn named(alloc: Global, local: &str) -> Result<Name, AllocError> {
+    Ok(Name {
+        ns: String::new(alloc),
+        local: String::from_str(alloc, local)?,
+    })
+}

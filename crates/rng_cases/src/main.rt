@@ -1,0 +1,88 @@
+//! Prints what `rng_model`, `rng_simple` and `rng_deriv` answer for each row of `cases.txt`, a line a row.
+//!
+//! A row is a call and what it is of. `simple` has a pattern with each operator after what it is of: `element` and `attribute`
+//! take a name class and a pattern, `group:N` and `choice:N` the last N patterns, `except` and `except:URI` a name class,
+//! `names:N` the last N name classes; the tables of its simple form are printed. `grammar` has the number of its elements and
+//! its tables, and prints nothing; `document` has the lines of a document, parted by `/`, which is judged by the grammar before
+//! it. `reads` and `writes` count what fails of working devices and of broken ones. The other calls are those of texts.
+#![tactic(auto)]
+
+mod devices;
+mod document;
+mod grammar_builder;
+mod postfix;
+mod tables;
+mod texts;
+mod well_formed;
+mod written_tables;
+
+use case_rows::rows;
+use document::read_document;
+use rng_deriv::is_valid;
+use rng_model::{OutOfMemory, SchemaFault, SimpleGrammar};
+use rng_simple::{Schema, simplify};
+use std::io;
+use well_formed::is_well_formed;
+use written_tables::read_grammar;
+
+fn main(rt: HostRuntime) -> io::Result<()> {
+    let mut grammar = None;
+    for row in rows(&rt, "cases.txt")? {
+        let call = row.text(0)?;
+        if call == "grammar" {
+            grammar = read_grammar(rt.alloc(), row.text(1)?, row.text(2)?);
+        } else {
+            print_answer(&rt, &grammar, call, row.text(1)?)?;
+        }
+    }
+    Ok(())
+}
+
+/// Prints what a call answers.
+fn print_answer(
+    rt: &(impl Print + AllocGlobal),
+    grammar: &Option<SimpleGrammar>,
+    call: &str,
+    of: &str,
+) -> io::Result<()> {
+    match call {
+        "document" => print_judged(rt, grammar, of),
+        "simple" => print_simple_form(rt, of),
+        "reads" => devices::print_reads(rt, of),
+        "writes" => devices::print_writes(rt, of),
+        _ => texts::print_answer(rt, call, of),
+    }
+}
+
+/// Prints the tables of the simple form of a pattern, or that there is no memory for it.
+fn print_simple_form(rt: &(impl Print + AllocGlobal), row: &str) -> io::Result<()> {
+    let Some(pattern) = postfix::read_pattern(rt.alloc(), row)? else {
+        return println!(rt; "no pattern");
+    };
+    match simplify(rt.alloc(), &Schema::single(pattern)) {
+        Ok(grammar) => tables::print_tables(rt, &grammar),
+        Err(SchemaFault::Memory) => println!(rt; "out of memory"),
+    }
+}
+
+/// Prints whether a document is valid.
+fn print_judged(
+    rt: &(impl Print + AllocGlobal),
+    grammar: &Option<SimpleGrammar>,
+    lines: &str,
+) -> io::Result<()> {
+    let Some(grammar) = grammar else {
+        return println!(rt; "no grammar");
+    };
+    let Some(root) = read_document(rt.alloc(), lines) else {
+        return println!(rt; "no document");
+    };
+    if !is_well_formed(&root) {
+        return println!(rt; "not well formed");
+    }
+    match is_valid(rt.alloc(), grammar, &root) {
+        Ok(true) => println!(rt; "valid"),
+        Ok(false) => println!(rt; "invalid"),
+        Err(OutOfMemory) => println!(rt; "out of memory"),
+    }
+}
