@@ -1,5 +1,5 @@
 -- What is told of tokens is what they are by the definitions: their syntax tree, or their fault.
-use Rattle.std.proofs.Common.{◌≡◌, ℕ, ◌+◌, ◌-◌, List, length, Result, Ok, Err, IfOk, IfErr, refl, ap, subst, ◌∙◌}
+use Rattle.std.proofs.Common.{◌≡◌, ℕ, ◌+◌, ◌-◌, List, length, Result, Ok, Err, IfOk, IfErr, refl, ap, subst}
 use Rattle.rnc_syntax.specs.declared.fault.Stop.{Stop}
 use Rattle.rnc_syntax.specs.declared.fault.Stop.TheVariants.{Unexpected, TooDeep}
 use Rattle.rnc_syntax.specs.declared.fault.SyntaxFault.{SyntaxFault}
