@@ -9,7 +9,8 @@ use Rattle.clap.specs.declared.parser.matches.Found.{Found}
 
 -- what is found in the rows is what is found in the entries
 module _ (id : Text) where
-  one_more : (b : Bool) (e : Entry) (found : Option Entry) (rows : Option Row) → rows ≡ option_map row_of found → (if b then Some (row_of e) else rows) ≡ option_map row_of (if b then Some e else found)
+  one_more : (b : Bool) (e : Entry) (found : Option Entry) (rows : Option Row) → rows ≡ option_map row_of found →
+      (if b then Some (row_of e) else rows) ≡ option_map row_of (if b then Some e else found)
   one_more true e found rows same = refl
   one_more false e found rows same = same
 
@@ -28,9 +29,11 @@ module _ (id : Text) where
   first_in [] = refl
   first_in (x ∷ xs) = refl
 
-  first_of_found : (found : Option Entry) → option_and_then (λ r. slice_get r.values 0) (option_map row_of found) ≡ option_and_then (λ a. option_map (λ s. s.now) (slice_get a.vals.items 0)) (option_map (λ e. e.1) found)
+  first_of_found : (found : Option Entry) → option_and_then (λ r. slice_get r.values 0)
+      (option_map row_of found) ≡ option_and_then (λ a. option_map (λ s. s.now) (slice_get a.vals.items 0)) (option_map (λ e. e.1) found)
   first_of_found None = refl
   first_of_found (Some e) = first_in e.1.vals.items
 
   pub first_is_value : (f : Found) → first_of id (rows_of f) ≡ first_value f id
-  first_is_value f = ap (option_and_then (λ r. slice_get r.values 0)) (found_in_rows f.entries.items) ∙ first_of_found (find (λ e. bytes_eq e.0.now id) f.entries.items)
+  first_is_value f = ap (option_and_then (λ r. slice_get r.values 0))
+      (found_in_rows f.entries.items) ∙ first_of_found (find (λ e. bytes_eq e.0.now id) f.entries.items)

@@ -7,22 +7,22 @@
 
 mod command_line;
 mod fault;
-mod judging;
 mod schema_files;
 mod status;
+mod streams;
 #[cfg(test)]
 mod tests;
 mod words;
 
 use command_line::words_of;
 use fault::Fault;
-use judging::judge;
 use rng_run::Status;
 use schema_files::read_files;
 use status::exit_code;
 use std::io;
 use std::process::ExitCode;
 use std::rt::{Env, Files};
+use streams::run_and_flush;
 
 fn main(rt: HostRuntime) -> ExitCode {
     match program(&rt) {
@@ -40,7 +40,7 @@ fn program<R: Env + Files + Input + Print + AllocGlobal>(rt: &R) -> Result<Statu
     let words = words_of(rt)?;
     let files = read_files(rt, words.files)?;
     let mut writer = io::writer(rt);
-    judge(
+    run_and_flush(
         rt.alloc(),
         words.command,
         files.as_slice(),

@@ -33,14 +33,14 @@ pub fn read_files<R: Files + AllocGlobal>(
 fn file_bytes<R: Files + AllocGlobal>(rt: &R, name: &str) -> Result<Vec<u8>, Fault>
     ensures fault { IfErr result (IsUnreadable name.now) }
 {
-    match read_file(rt, name) {
+    match open_and_read(rt, name) {
         Ok(bytes) => Ok(bytes),
         Err(e) if e.kind() == ErrorKind::OutOfMemory => Err(Fault::Memory),
         Err(_) => Err(unreadable(rt.alloc(), name)),
     }
 }
 
-fn read_file<R: Files + AllocGlobal>(rt: &R, name: &str) -> io::Result<Vec<u8>> {
+fn open_and_read<R: Files + AllocGlobal>(rt: &R, name: &str) -> io::Result<Vec<u8>> {
     let file = fs::open(rt, name)?;
     beginning_of(rt.alloc(), file)
 }

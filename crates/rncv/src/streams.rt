@@ -1,4 +1,4 @@
-// Judges a document, and writes the answer.
+// A run over a reader and a writer.
 ghost use Rattle.std.specs.Prelude.{◌<◌, length, IfErr};
 ghost use Rattle.rncv.specs.Faults.{IsMemoryOrDevice};
 
@@ -11,7 +11,7 @@ use std::io::{Read, Write};
 /// Does what the command asks for, over a reader with the document and a writer for the answer, and flushes the writer.
 ///
 /// A flush that fails is a failed write.
-pub fn judge<R: Read + Drop, W: Write>(
+pub fn run_and_flush<R: Read + Drop, W: Write>(
     alloc: Global,
     command: Command,
     files: &[(String, Vec<u8>)],

@@ -1,8 +1,8 @@
 // What no contract says: which command lines there are, what a fault prints, and where each fault comes from.
 use crate::command_line::{words, words_of};
 use crate::fault::Fault;
-use crate::judging::judge;
 use crate::schema_files::read_files;
+use crate::streams::run_and_flush;
 use rng_run::{Command, Status};
 use std::alloc::{AllocError, Global};
 use std::env::FillError;
@@ -110,7 +110,7 @@ fn words_of_an_environment(rt: HostRuntime) {
     let given: [&[u8]; 3] = [b"valid", b"s.rnc", "\u{e9}".as_bytes()];
     match words_of(&(Given(given.as_slice()), alloc)) {
         Ok(words) => {
-            assert_eq!(rt; words.command, Command::Valid);
+            assert!(rt; matches!(words.command, Command::Valid));
             assert_eq!(rt; words.files.len(), 2);
         }
         Err(fault) => assert!(rt; false, "{fault}"),
@@ -202,7 +202,7 @@ fn a_small_document_is_valid(rt: HostRuntime) -> Result<(), Fail> {
     let files = small_schema(alloc)?;
     assert!(rt; !files.is_empty());
     let mut written = Vec::new(alloc);
-    let answer = judge(
+    let answer = run_and_flush(
         alloc,
         Command::Valid,
         files.as_slice(),
@@ -220,7 +220,7 @@ fn a_schema_alone_is_judged_without_a_document(rt: HostRuntime) -> Result<(), Fa
     let files = small_schema(alloc)?;
     assert!(rt; !files.is_empty());
     let mut written = Vec::new(alloc);
-    let answer = judge(
+    let answer = run_and_flush(
         alloc,
         Command::Check,
         files.as_slice(),
@@ -240,7 +240,7 @@ fn a_broken_schema_is_told_with_its_name(rt: HostRuntime) -> Result<(), Fail> {
     files.push((String::from_str(alloc, "a\nb")?, text))?;
     assert!(rt; !files.is_empty());
     let mut written = Vec::new(alloc);
-    let answer = judge(
+    let answer = run_and_flush(
         alloc,
         Command::Check,
         files.as_slice(),
@@ -258,7 +258,7 @@ fn a_failed_read_is_told(rt: HostRuntime) -> Result<(), Fail> {
     let files = small_schema(alloc)?;
     assert!(rt; !files.is_empty());
     let mut written = Vec::new(alloc);
-    let answer = judge(
+    let answer = run_and_flush(
         alloc,
         Command::Valid,
         files.as_slice(),
@@ -277,7 +277,7 @@ fn a_failed_write_or_flush_is_told(rt: HostRuntime) -> Result<(), Fail> {
     assert!(rt; !files.is_empty());
     for (on_write, on_flush) in [(true, false), (false, true), (true, true)] {
         let mut writer = FailingWriter { on_write, on_flush };
-        let answer = judge(
+        let answer = run_and_flush(
             alloc,
             Command::Valid,
             files.as_slice(),

@@ -3,7 +3,7 @@
 use rng_run::Command;
 
 /// What the words after the program's name ask for.
-#[derive(Debug, Drop)]
+#[derive(Drop)]
 pub struct Words {
     /// What to do with the files.
     pub command: Command,

@@ -23,7 +23,8 @@ some_is (Some y) x h = ap Some h
 is_form : (c : goal.After-try_get_matches_from) → app_of c.in_ok-arg-2.field-0 ≡ form
 is_form c =
     let command_is : rule_of c.action-command.result ≡ command_rule = search rules in
-    let range_is : c.num_args-files.result.num_vals ≡ Some (record { start_inclusive = 1; end_inclusive = usize_max }) = some_is _ _ c.num_args-files.ensures.1 in
+    let range_is : c.num_args-files.result.num_vals ≡ Some (record { start_inclusive = 1; end_inclusive = usize_max }) =
+    some_is _ _ c.num_args-files.ensures.1 in
     let files_is : rule_of c.num_args-files.result ≡ files_rule = search rules in
     let bare_is : app_of c.disable_help_flag.result ≡ bare_form = search rules in
     c.in_ok-arg-2.ensures.shape (search rules) ∙ ap₂ with_rule (c.in_ok-arg.ensures.shape (search rules) ∙ ap₂ with_rule bare_is command_is) files_is
@@ -36,4 +37,5 @@ returns-clause-fails c =
 pub returns-clause-matches : goal.returns-clause-matches
 returns-clause-matches c =
     let words = map string_bytes c.args.words.now in
-    IfOk-weaker c.try_get_matches_from.result _ _ (λ m h. (h (ap is_simple (is_form c) ∙ is_simple_form)).0 ∙ ap (λ (a : App). matches_of a words) (is_form c)) c.try_get_matches_from.ensures.matches
+    IfOk-weaker c.try_get_matches_from.result _ _ (λ m h. (h (ap is_simple (is_form c) ∙ is_simple_form)).0 ∙ ap (λ (a : App). matches_of a words)
+    (is_form c)) c.try_get_matches_from.ensures.matches
