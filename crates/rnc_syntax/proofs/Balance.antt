@@ -25,10 +25,10 @@ Balanced ts = openings ts ≡ closings ts
 abbrev weight : Bool → ℕ
 weight b = cond b 1 0
 
-abbrev counts : Lexeme → ℕ
+abbrev pub counts : Lexeme → ℕ
 counts x = cond (is_opening x) 1 0
 
-abbrev discounts : Lexeme → ℕ
+abbrev pub discounts : Lexeme → ℕ
 discounts x = cond (is_closing x) 1 0
 
 pub openings-append : (a b : List Lexeme) → openings (a ++ b) ≡ openings a + openings b
@@ -37,10 +37,10 @@ openings-append a b = sum_by-append counts a b
 pub closings-append : (a b : List Lexeme) → closings (a ++ b) ≡ closings a + closings b
 closings-append a b = sum_by-append discounts a b
 
-openings-cons : (x : Lexeme) (b : List Lexeme) → openings (x ∷ b) ≡ counts x + openings b
+pub openings-cons : (x : Lexeme) (b : List Lexeme) → openings (x ∷ b) ≡ counts x + openings b
 openings-cons x b = sum_by-cons counts x b
 
-closings-cons : (x : Lexeme) (b : List Lexeme) → closings (x ∷ b) ≡ discounts x + closings b
+pub closings-cons : (x : Lexeme) (b : List Lexeme) → closings (x ∷ b) ≡ discounts x + closings b
 closings-cons x b = sum_by-cons discounts x b
 
 -- a token that is no bracket

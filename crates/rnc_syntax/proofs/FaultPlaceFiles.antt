@@ -13,10 +13,7 @@ use Rattle.rnc_syntax.proofs.LocalityPrimaries.{Locals}
 use Rattle.rnc_syntax.proofs.LocalityComponents.{inside_local, self_local}
 use Rattle.rnc_syntax.proofs.LocalityFiles.{declarations_local, body_local}
 use Rattle.rnc_syntax.proofs.FaultPlace.{IsStuckBehind, stuck_at}
-use Rattle.rnc_syntax.proofs.ViabilityFiles.{viable}
-
-abbrev file_of : List Declaration → Body → File
-file_of declarations body = record { declarations = declarations; body = body }
+use Rattle.rnc_syntax.proofs.ViabilityFiles.{file_of, viable}
 
 -- a file, whatever comes after it
 abbrev body_read : Inside → List Declaration → List Lexeme → Outcome File

@@ -14,12 +14,12 @@ bind_bind (Ok x) f g = refl
 bind_bind (Err e) f g = refl
 
 module _ {A : Type 0} (next : List Lexeme → Option (List Lexeme)) (item : List Lexeme → Outcome A) where
-  opened : (k : ℕ) (ts us : List Lexeme) → next ts ≡ Some us → many_with next item (suc k) ts ≡ (item us >>= λ x. many_with next item k x.1
+  pub opened : (k : ℕ) (ts us : List Lexeme) → next ts ≡ Some us → many_with next item (suc k) ts ≡ (item us >>= λ x. many_with next item k x.1
       >>= λ rest. Ok (x.0 ∷ rest.0, rest.1))
   unfolding many_with
   opened k ts us is = rw is refl
 
-  closed : (k : ℕ) (ts : List Lexeme) → next ts ≡ None → many_with next item k ts ≡ Ok ([], ts)
+  pub closed : (k : ℕ) (ts : List Lexeme) → next ts ≡ None → many_with next item k ts ≡ Ok ([], ts)
   unfolding many_with
   closed zero ts is = refl
   closed (suc k) ts is = rw is refl

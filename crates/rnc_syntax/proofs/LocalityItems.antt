@@ -3,6 +3,7 @@ use Rattle.std.proofs.Common.{◌≡◌, ℕ, zero, suc, ◌<◌, ◌≤◌, Lis
 use Rattle.rnc_syntax.specs.declared.fault.Stop.{Stop}
 use Rattle.rnc_syntax.specs.Lexeme.{Lexeme}
 use Rattle.rnc_syntax.specs.Combinators.{Outcome, ◌>>=◌, many_with, many}
+use Rattle.rnc_syntax.proofs.Items.{opened, closed}
 use Rattle.rnc_syntax.proofs.Locality.{LocalAt, reads, IsLocal, ok_local, cons_local, bind_local}
 use Rattle.rnc_syntax.proofs.LocalityFronts.{same_local, shortens, FrontAt, closes, opens, heads_closed}
 
@@ -15,29 +16,19 @@ module _ {A : Type 0} (next : List Lexeme → Option (List Lexeme)) (item : List
   abbrev others : ℕ → A × List Lexeme → Outcome (List A)
   others k x = many_with next item k x.1 >>= λ rest. Ok (x.0 ∷ rest.0, rest.1)
 
-  opened : (k : ℕ) (ts us : List Lexeme) → next ts ≡ Some us → many_with next item (suc k) ts ≡ (item us >>= λ x. many_with next item k x.1
-      >>= λ rest. Ok (x.0 ∷ rest.0, rest.1))
-  unfolding many_with
-  opened k ts us is = rw is refl
-
-  pub closed : (k : ℕ) (ts : List Lexeme) → next ts ≡ None → many_with next item k ts ≡ Ok ([], ts)
-  unfolding many_with
-  closed zero ts is = refl
-  closed (suc k) ts is = rw is refl
-
   enough_step : (k l : ℕ) → ((ts : List Lexeme) → length ts ≤ k → length ts ≤ l → many_with next item k ts ≡ many_with next item l ts) → (ts : List Lexeme)
       → length ts ≤ suc k → length ts ≤ suc l → (o : Option (List Lexeme)) → next ts ≡ o → many_with next item (suc k) ts ≡ many_with next item (suc l) ts
-  enough_step k l same ts a b None is = closed (suc k) ts is ∙ sym (closed (suc l) ts is)
+  enough_step k l same ts a b None is = closed next item (suc k) ts is ∙ sym (closed next item (suc l) ts is)
   enough_step k l same ts a b (Some us) is =
-      opened k ts us is ∙ bind_same (item us) (others k) (others l) (λ x e. let t = takes ts us x is e in
+      opened next item k ts us is ∙ bind_same (item us) (others k) (others l) (λ x e. let t = takes ts us x is e in
       ap (λ (r : Outcome (List A)). r >>= λ rest. Ok (x.0 ∷ rest.0, rest.1)) (same x.1 (omega (arith, a, t)) (omega (arith, b, t))))
-      ∙ sym (opened l ts us is)
+      ∙ sym (opened next item l ts us is)
 
   -- enough steps are enough
   enough : (k l : ℕ) (ts : List Lexeme) → length ts ≤ k → length ts ≤ l → many_with next item k ts ≡ many_with next item l ts
-  enough zero l [] a b = closed zero [] nothing ∙ sym (closed l [] nothing)
+  enough zero l [] a b = closed next item zero [] nothing ∙ sym (closed next item l [] nothing)
   enough zero l (t ∷ ts) a b = absurd (omega (arith, a))
-  enough (suc k) zero [] a b = closed (suc k) [] nothing ∙ sym (closed zero [] nothing)
+  enough (suc k) zero [] a b = closed next item (suc k) [] nothing ∙ sym (closed next item zero [] nothing)
   enough (suc k) zero (t ∷ ts) a b = absurd (omega (arith, b))
   enough (suc k) (suc l) ts a b = enough_step k l (enough k l) ts a b (next ts) refl
 
@@ -45,7 +36,7 @@ module _ {A : Type 0} (next : List Lexeme → Option (List Lexeme)) (item : List
   pub unrolled : (ts us : List Lexeme) → next ts ≡ Some us → many next item ts ≡ (item us >>= λ x. many next item x.1 >>= λ rest. Ok (x.0 ∷ rest.0, rest.1))
   unrolled [] us is = absurd cc
   unrolled (t ∷ ts) us is =
-      opened (length ts) (t ∷ ts) us is ∙ bind_same (item us) (others (length ts)) (λ x. many next item x.1 >>= λ rest. Ok (x.0 ∷ rest.0, rest.1))
+      opened next item (length ts) (t ∷ ts) us is ∙ bind_same (item us) (others (length ts)) (λ x. many next item x.1 >>= λ rest. Ok (x.0 ∷ rest.0, rest.1))
       (λ x e. let s = takes (t ∷ ts) us x is e in ap (λ (r : Outcome (List A)). r >>= λ rest. Ok (x.0 ∷ rest.0, rest.1))
       (enough (length ts) (length x.1) x.1 (omega (arith, s)) (omega arith)))
 
@@ -94,8 +85,8 @@ module _ {A : Type 0} (next : List Lexeme → Option (List Lexeme)) (nothing : n
       (first_local n others ts le (λ us. item (part us)) (λ us. deeper (part us)) (l ts))
 
   none_here : (ts : List Lexeme) → next ts ≡ None → LocalAt (many next item) (many next deeper) ts
-  none_here ts is = reads [] [] ts refl (closed next item nothing (takes next nothing item deeper fronts) (length ts) ts is)
-      (λ other h. closed next deeper nothing (takes next nothing deeper deeper selves) (length other) other
+  none_here ts is = reads [] [] ts refl (closed next item (length ts) ts is)
+      (λ other h. closed next deeper (length other) other
       (heads_closed next nothing item deeper fronts ts other h is))
 
   by_front : (n : ℕ) → ((ts : List Lexeme) → length ts ≤ n → LocalAt (many next item) (many next deeper) ts) → (t : Lexeme) (ts : List Lexeme) → length ts ≤ n

@@ -9,18 +9,7 @@ use Rattle.rnc_text.specs.declared.token.TokenKind.{TokenKind}
 use Rattle.rnc_text.specs.declared.token.TokenKind.TheVariants as kinds
 use Rattle.rnc_syntax.specs.Lexeme.{Lexeme, lexeme_at, lexemes_in}
 use Rattle.rnc_syntax.specs.Sentence.{is_opening, is_closing, openings, closings, nesting_limit, NestsWithin, BreaksNesting}
-
-abbrev pub counts : Lexeme → ℕ
-counts x = cond (is_opening x) 1 0
-
-abbrev pub discounts : Lexeme → ℕ
-discounts x = cond (is_closing x) 1 0
-
-openings-cons : (x : Lexeme) (b : List Lexeme) → openings (x ∷ b) ≡ counts x + openings b
-openings-cons x b = sum_by-cons counts x b
-
-closings-cons : (x : Lexeme) (b : List Lexeme) → closings (x ∷ b) ≡ discounts x + closings b
-closings-cons x b = sum_by-cons discounts x b
+use Rattle.rnc_syntax.proofs.Balance.{counts, discounts, openings-cons, closings-cons}
 
 -- after so many opening brackets and so many closing ones, these tokens keep the limit
 abbrev pub Within : ℕ → ℕ → List Lexeme → Type 0

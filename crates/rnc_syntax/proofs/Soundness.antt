@@ -12,15 +12,12 @@ use Rattle.rnc_syntax.specs.Grammar.{word_of}
 use Rattle.rnc_syntax.specs.Combinators.{Outcome, ◌>>=◌, same_sign, same_keyword, follow, follow_keyword, sign_read, after, after_keyword, word_at}
 use Rattle.rnc_syntax.specs.Combinators.{identifier_at, segment_at, either_way, many_with, many}
 use Rattle.rnc_syntax.specs.Productions.{in_braces_at}
+pub use Rattle.rnc_text.proofs.Basics.{chosen}
 
 -- the value of a step that did not fail
 pub bind_ok : {A B : Type 0} (r : Result A Stop) (f : A → Result B Stop) (y : B) → (r >>= f) ≡ Ok y → (x : A) × (r ≡ Ok x) × (f x ≡ Ok y)
 bind_ok (Ok x) f y e = (x, refl, e)
 bind_ok (Err d) f y e = absurd cc
-
-pub chosen : {A : Type 0} (b : Bool) (x y z : A) → cond b x y ≡ z → ((b ≡ true) × (x ≡ z)) ⊎ ((b ≡ false) × (y ≡ z))
-chosen true x y z e = inl (refl, e)
-chosen false x y z e = inr (refl, e)
 
 -- the values from which a front is made
 pub front_some : {A B : Type 0} (o : Option A) (f : A → Option B) (y : B) → either_way o None f ≡ Some y → (x : A) × (o ≡ Some x) × (f x ≡ Some y)

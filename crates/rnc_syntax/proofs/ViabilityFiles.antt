@@ -124,7 +124,7 @@ declarations_viable = many_viable IsDeclaration declaration_front declaration_at
 
 -- ---- files
 
-abbrev file_of : List Declaration → Body → File
+abbrev pub file_of : List Declaration → Body → File
 file_of ds b = record { declarations = ds; body = b }
 
 -- declarations alone

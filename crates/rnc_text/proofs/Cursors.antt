@@ -112,9 +112,3 @@ pub between : (bs end text : List ℕ) (taken : List Character) → bs ≡ bytes
 between bs end text taken e f =
     let n : length bs - length end ≡ length (bytes_of taken) = omega (arith, ap length e, length-append (bytes_of taken) end) in
     f ∙ ap (λ (n : ℕ). take n bs) n ∙ ap (take (length (bytes_of taken))) e ∙ take-append_seam (bytes_of taken) end
-
-pub number_unmarked : (c : ℕ) → number_of (unmarked c) ≡ c
-number_unmarked c = go (eqb c 10) refl where
-  go : (b : Bool) → eqb c 10 ≡ b → number_of (unmarked c) ≡ c
-  go true e = rw e (sym (eqb-true c 10 e))
-  go false e = rw e refl

@@ -14,7 +14,7 @@ use Rattle.rnc_text.specs.declared.character.Character.TheVariants.{Ordinary}
 
 -- ---- the decoded text is that of the characters
 
-number_unmarked : (c : ℕ) → number_of (unmarked c) ≡ c
+pub number_unmarked : (c : ℕ) → number_of (unmarked c) ≡ c
 number_unmarked c = go (eqb c 10) refl where
   go : (b : Bool) → eqb c 10 ≡ b → number_of (unmarked c) ≡ c
   go true e = rw e (sym (eqb-true c 10 e))

@@ -1,4 +1,4 @@
-mod Basics
+pub mod Basics
 mod Characters
 mod HexadecimalSteps
 mod Held

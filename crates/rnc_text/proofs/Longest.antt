@@ -23,7 +23,7 @@ use Rattle.rnc_text.specs.CutSteps.{colon_at, name_at, segment_at, triple_with, 
 use Rattle.rnc_text.proofs.Classes.{AllIn, front_out, after_out, front_append, after_append, name_of, name_all, name_begins}
 use Rattle.rnc_text.proofs.Quotes.{behind_is, two_parts, until_is}
 use Rattle.rnc_text.proofs.Scans.{IsOther, piece_line, piece_name, piece_blank, piece_hash, piece_backslash, piece_quote, piece_sign, name_colon, quoted_name}
-use Rattle.rnc_text.proofs.Scans.{segment_some, triple_some}
+use Rattle.rnc_text.proofs.Scans.{segment_some, triple_some, name_found}
 use Rattle.rnc_text.proofs.Basics.{chosen, eqb_same}
 
 -- the piece is shorter than what was found, or it is what was found
@@ -71,10 +71,6 @@ colon_covers : (name more rest : List Character) (o : Option (List Character)) (
 colon_covers name more rest None found e = word_more name more rest found e
 colon_covers name more rest (Some local) found e = star_covers name more rest local (behind 0x2A local) found e
 
-name_is : (cs : List Character) → name_at cs ≡ colon_at (front classes.Ncname cs) (after classes.Ncname cs) (behind 0x3A (after classes.Ncname cs))
-unfolding name_at
-name_is cs = refl
-
 -- characters that begin with an NCName are a name
 named : (name rest : List Character) → IsNcname name → piece_of (name ++ rest) ≡ name_at (name ++ rest)
 named name rest h = let n = name_of name h in piece_name n.first (name ++ rest) (n.more ++ rest) (ap (λ (x : List Character). x ++ rest) n.is) n.starts
@@ -83,7 +79,7 @@ word_covers : (name rest : List Character) → IsNcname name → Covered (token 
 word_covers name rest h =
     colon_covers name (front classes.Ncname rest) (after classes.Ncname (name ++ rest)) (behind 0x3A (after classes.Ncname (name ++ rest)))
     (piece_of (name ++ rest))
-    (named name rest h ∙ name_is (name ++ rest)
+    (named name rest h ∙ name_found (name ++ rest)
     ∙ ap (λ (x : List Character). colon_at x (after classes.Ncname (name ++ rest)) (behind 0x3A (after classes.Ncname (name ++ rest))))
     (front_append classes.Ncname name rest (name_all name h)))
 

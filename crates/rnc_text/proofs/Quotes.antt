@@ -40,11 +40,11 @@ three_is n rest = rw (eqb_same n, eqb_same n, eqb_same n) refl
 
 -- ---- the first three quotes
 
-until_at : (n : ℕ) (c : Character) (cs : List Character) → until_three n (c ∷ cs) ≡ here_or (behind_three n (c ∷ cs)) (with_first c (until_three n cs))
+pub until_at : (n : ℕ) (c : Character) (cs : List Character) → until_three n (c ∷ cs) ≡ here_or (behind_three n (c ∷ cs)) (with_first c (until_three n cs))
 unfolding until_three
 until_at n c cs = refl
 
-until_none : (n : ℕ) → until_three n [] ≡ None
+pub until_none : (n : ℕ) → until_three n [] ≡ None
 unfolding until_three
 until_none n = refl
 

@@ -18,6 +18,7 @@ use Rattle.rnc_text.specs.CutSteps.{colon_at, name_at, quoted_at, segment_at, tr
 use Rattle.rnc_text.specs.Cursors.{remaining, IsPast, told, FindsPart, Finds, FindsThree}
 use Rattle.rnc_text.proofs.Cursors.{past_none, past_then}
 use Rattle.rnc_text.proofs.Classes.{front_in, front_out, after_in, after_out}
+use Rattle.rnc_text.proofs.Quotes.{until_at, until_none}
 
 -- ---- the loop over a class
 
@@ -90,14 +91,6 @@ before_none (Some x) = refl
 pub looks_none : (quote : ℕ) (from : Cursor) → Looks quote from from
 looks_none quote from = record { before = []; past = past_none from; found = before_none _ }
 
-until_at : (n : ℕ) (c : Character) (cs : List Character) → until_three n (c ∷ cs) ≡ here_or (behind_three n (c ∷ cs)) (with_first c (until_three n cs))
-unfolding until_three
-until_at n c cs = refl
-
-until_none : (n : ℕ) → until_three n [] ≡ None
-unfolding until_three
-until_none n = refl
-
 before_more : (xs : List Character) (c : Character) (o : Option (List Character × List Character))
     → with_before xs (with_first c o) ≡ with_before (xs ++ c ∷ []) o
 unfolding with_before
@@ -150,7 +143,7 @@ finds_gap from to part found all is past told = record { piece = gap all; is = i
 pub finds_at : (from to end : Cursor) (part : Part) (found : Found) → end ≡ to → FindsPart from part to found → FindsPart from part end found
 finds_at from to end part found e f = subst (λ (x : Cursor). FindsPart from part x found) (sym e) f
 
-name_found : (cs : List Character) → name_at cs ≡ colon_at (front classes.Ncname cs) (after classes.Ncname cs) (behind 0x3A (after classes.Ncname cs))
+pub name_found : (cs : List Character) → name_at cs ≡ colon_at (front classes.Ncname cs) (after classes.Ncname cs) (behind 0x3A (after classes.Ncname cs))
 unfolding name_at
 name_found cs = refl
 

@@ -12,20 +12,12 @@ use Rattle.rng_model.specs.View as model
 use Rattle.rng_model.specs.declared.pattern.Pattern.{Pattern as ModelPattern, the_lemmas as model_lemmas}
 use Rattle.rng_model.specs.declared.pattern.Pattern.TheVariants as model_patterns
 use Rattle.rnc_grammar.specs.Declarations.{◌>>=◌}
+use Rattle.rnc_grammar.proofs.FileTreeViews.{group_of, choice_of, interleave_of}
 use Rattle.rng_run.specs.Fragment.{served, served_members}
 use Rattle.rng_run.proofs.ServedPatterns.{interleave_is_none, data_is_none}
 
-pub group_view : (all : Vec Pattern Global) → files.pattern_of (patterns.Group all) ≡ tree.members group (map files.pattern_of all.items)
-group_view all = search (rules, the_lemmas)
-
-pub choice_view : (all : Vec Pattern Global) → files.pattern_of (patterns.Choice all) ≡ tree.members choice (map files.pattern_of all.items)
-choice_view all = search (rules, the_lemmas)
-
-interleave_view : (all : Vec Pattern Global) → files.pattern_of (patterns.Interleave all) ≡ tree.members interleave (map files.pattern_of all.items)
-interleave_view all = search (rules, the_lemmas)
-
 pub interleave_not_served : (all : Vec Pattern Global) → served (files.pattern_of (patterns.Interleave all)) ≡ None
-interleave_not_served all = ap served (interleave_view all) ∙ interleave_is_none (map files.pattern_of all.items)
+interleave_not_served all = ap served (interleave_of all) ∙ interleave_is_none (map files.pattern_of all.items)
 
 data_view : (d : DatatypeName) (ps : Vec (String Global × String Global) Global) (except : Option (Box Pattern Global)) →
     files.pattern_of (patterns.Data d ps except) ≡ files.data_of d (map (λ p. (string_bytes p.0, string_bytes p.1)) ps.items)
@@ -42,14 +34,14 @@ data_not_served d ps except = ap served (data_view d ps except) ∙ data_is_none
 pub served_group_of : (all : Vec Pattern Global) (slice : List Pattern) → slice ≡ all.items →
     served (files.pattern_of (patterns.Group all)) ≡
     (served_members (tree.patterns_of (map files.pattern_of slice)) >>= λ all. Some (written.members group all))
-served_group_of all slice e = ap served (group_view all) ∙ ap
+served_group_of all slice e = ap served (group_of all) ∙ ap
     (λ xs. served_members (tree.patterns_of (map files.pattern_of xs)) >>= λ all. Some (written.members group all)) (sym e)
 
 -- the members of a choice, which the code has as a slice
 pub served_choice_of : (all : Vec Pattern Global) (slice : List Pattern) → slice ≡ all.items →
     served (files.pattern_of (patterns.Choice all)) ≡
     (served_members (tree.patterns_of (map files.pattern_of slice)) >>= λ all. Some (written.members choice all))
-served_choice_of all slice e = ap served (choice_view all) ∙ ap
+served_choice_of all slice e = ap served (choice_of all) ∙ ap
     (λ xs. served_members (tree.patterns_of (map files.pattern_of xs)) >>= λ all. Some (written.members choice all)) (sym e)
 
 -- patterns of members, as they are seen

@@ -1,3 +1,4 @@
+mod AnswerLines
 mod LineCount
 mod SchemaFile
 pub mod ServedPatterns

@@ -3,7 +3,8 @@ use Rattle.std.specs.Str.{IsUtf8, chars}
 use Rattle.rnc_text.specs.Held.{marked}
 use Rattle.rnc_text.specs.declared.character.Character.{Character}
 use Rattle.rnc_text.specs.declared.character.Character.TheVariants.{Ordinary}
-use Rattle.rnc_text.proofs.Cursors.{nothing_left, steps_marked, steps_plain, bytes_first, number_unmarked}
+use Rattle.rnc_text.proofs.Cursors.{nothing_left, steps_marked, steps_plain, bytes_first}
+use Rattle.rnc_text.proofs.Held.{number_unmarked}
 use Rattle.rnc_text.proofs.cursor.Cursor.step.Goals as goal
 
 pub returns-in_err-first : goal.returns-in_err-first
