@@ -1,5 +1,6 @@
 -- What a caller reads of matches, by their rows.
-use Rattle.std.proofs.Common.{◌≡◌, ◌∙◌, ap, refl, Bool, true, false, List, [], ◌∷◌, map, Option, Some, None, option_map, option_and_then, find, slice_get, if◌then◌else◌}
+use Rattle.std.proofs.Common.{◌≡◌, ◌∙◌, ap, refl, Bool, true, false, List, [], ◌∷◌, map, Option, Some, None, option_map, option_and_then, find, slice_get}
+use Rattle.std.proofs.Common.{if◌then◌else◌}
 use Rattle.std.specs.Str.{bytes_eq}
 use Rattle.std.specs.Borrow.{Bor}
 use Rattle.clap.specs.Words.{Text, all_of, first_of, first_value, matched_of, raw_values, rows_of, Row}

@@ -29,7 +29,8 @@ only bytes (Ok x) g root d = ok_same (item_of x) root (sym g ∙ complete d)
 only bytes (Err faults.Memory) g root d = tt
 only bytes (Err (faults.At clause line)) g root d = ok_err root (record { clause = clause; line = line }) (sym (complete d) ∙ g)
 
-pub fault : (bytes : List ℕ) (result : Result Item DocumentFault) → Gives broken_by item_of result (document_read (lines bytes)) → IfErr result (IsFaultOf bytes)
+pub fault : (bytes : List ℕ) (result : Result Item DocumentFault) → Gives broken_by item_of result (document_read (lines bytes))
+    → IfErr result (IsFaultOf bytes)
 fault bytes (Ok x) g = tt
 fault bytes (Err faults.Memory) g = tt
 fault bytes (Err (faults.At clause line)) g = record {

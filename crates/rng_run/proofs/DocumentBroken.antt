@@ -1,5 +1,6 @@
 -- The clause of the fault that the plain reader answers is broken.
-use Rattle.std.proofs.Common.{◌≡◌, ℕ, ◌+◌, ◌<◌, Bool, true, false, cond, not, ◌&&◌, List, [], ◌∷◌, ◌++◌, length, map, Option, Some, None, Ok, Err, refl, sym, ap, subst, ◌∙◌, append_assoc, arith, true≢false, leb-false}
+use Rattle.std.proofs.Common.{◌≡◌, ℕ, ◌+◌, ◌<◌, Bool, true, false, cond, not, ◌&&◌, List, [], ◌∷◌, ◌++◌, length, map, Option, Some, None, Ok, Err, refl, sym}
+use Rattle.std.proofs.Common.{ap, subst, ◌∙◌, append_assoc, arith, true≢false, leb-false}
 use Rattle.std.specs.Prelude.{nat_le, is_some}
 use Rattle.std.specs.Str.{bytes_eq}
 use Rattle.std.proofs.lemmas.Bool.{leb-true, not-true, and_parts}
@@ -8,15 +9,20 @@ use Rattle.std.proofs.lemmas.List.Elements.{All-nil}
 use Rattle.rng_model.specs.Document.{Attribute, Item}
 use Rattle.rng_model.specs.Lines.{Line, Shape, start, attribute, text, end, IsLine}
 use Rattle.rng_model.specs.Pyx.{attribute_limit, open_limit, text_limit, AreLines, AreAttributes}
-use Rattle.rng_model.specs.PyxFaults.{HasKind, nothing, AreOpen, none_open, EndsInTag, EndsInText, EndsInRepeat, no_form, attributes, elements, joined_text, BreaksAt, outside, no_tag, none_to_end, other_name, text_outside, second_root, repeats, Fault, Broken, at_line, unfinished, rootless}
+use Rattle.rng_model.specs.PyxFaults.{HasKind, nothing, AreOpen, none_open, EndsInTag, EndsInText, EndsInRepeat, no_form, attributes, elements, joined_text}
+use Rattle.rng_model.specs.PyxFaults.{BreaksAt, outside, no_tag, none_to_end, other_name, text_outside, second_root, repeats, Fault, Broken, at_line}
+use Rattle.rng_model.specs.PyxFaults.{unfinished, rootless}
 use Rattle.rng_run.specs.DocumentShape.{behind, shape_of}
-use Rattle.rng_run.specs.DocumentReader.{Element, State, Outcome, followed, has_repeat, tag_repeats, with_text, item_of_element, closed, ended, added, shaped, ends_repeat, line_read, all_read, nothing_read, at_end, document_read}
+use Rattle.rng_run.specs.DocumentReader.{Element, State, Outcome, followed, has_repeat, tag_repeats, with_text, item_of_element, closed, ended, added, shaped}
+use Rattle.rng_run.specs.DocumentReader.{ends_repeat, line_read, all_read, nothing_read, at_end, document_read}
 use Rattle.rng_run.proofs.LastAndFront.{last-snoc, front-snoc}
 use Rattle.rng_run.proofs.DocumentAllLines.{read_cons, read_nil, document_is}
 use Rattle.rng_run.proofs.DocumentShape.{shape_is, is_line}
 use Rattle.rng_run.proofs.DistinctNames.{distinct_is, bytes_not}
-use Rattle.rng_run.proofs.DocumentSteps.{is_attribute, shape_read, inside, in_tag, tagged, behind_root, attribute_step, text_step, first_step, start_step, early}
-use Rattle.rng_run.proofs.DocumentRefused.{refusal, attribute_full, repeat_refused, attribute_inside, start_deep, text_long, end_other, text_first, end_first, attribute_behind, start_behind, text_behind, end_behind}
+use Rattle.rng_run.proofs.DocumentSteps.{is_attribute, shape_read, inside, in_tag, tagged, behind_root, attribute_step, text_step, first_step, start_step}
+use Rattle.rng_run.proofs.DocumentSteps.{early}
+use Rattle.rng_run.proofs.DocumentRefused.{refusal, attribute_full, repeat_refused, attribute_inside, start_deep, text_long, end_other, text_first, end_first}
+use Rattle.rng_run.proofs.DocumentRefused.{attribute_behind, start_behind, text_behind, end_behind}
 use Rattle.rng_run.proofs.DocumentBeginning.{attributes_length}
 use Rattle.rng_run.proofs.DocumentTree.{Good, good_step, good_nothing, good_read, line_is, line_none, end_nothing, end_content, end_tag}
 use Rattle.rng_run.proofs.DocumentTree as tree

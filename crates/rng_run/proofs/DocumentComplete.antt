@@ -5,10 +5,12 @@ use Rattle.std.proofs.lemmas.List.{append-nil, length-append, length_push}
 use Rattle.rng_model.specs.Document.{Attribute, Item, an_element, Items, no_items, item_and, list_of}
 use Rattle.rng_model.specs.View.{items_of}
 use Rattle.rng_model.specs.Lines.{Shape, start, attribute, text, end}
-use Rattle.rng_model.specs.Pyx.{plain_name, attribute_limit, open_limit, text_limit, AreAttributes, no_attributes, attribute_and, IsText, no_text, text_and, text_before, IsElement, is_element, IsContent, last_text, text_and_element}
+use Rattle.rng_model.specs.Pyx.{plain_name, attribute_limit, open_limit, text_limit, AreAttributes, no_attributes, attribute_and, IsText, no_text, text_and}
+use Rattle.rng_model.specs.Pyx.{text_before, IsElement, is_element, IsContent, last_text, text_and_element}
 use Rattle.rng_run.specs.DocumentReader.{Element, State, has_repeat, texts_of, with_text, with_child, item_of_element}
 use Rattle.rng_run.proofs.DistinctNames.{distinct_is}
-use Rattle.rng_run.proofs.DocumentSteps.{is_attribute, shapes_read, inside, in_tag, tagged, behind_root, attribute_step, text_step, first_step, start_step, end_step, last_step, early, cons_read, append_read, read_none, one_read}
+use Rattle.rng_run.proofs.DocumentSteps.{is_attribute, shapes_read, inside, in_tag, tagged, behind_root, attribute_step, text_step, first_step, start_step}
+use Rattle.rng_run.proofs.DocumentSteps.{end_step, last_step, early, cons_read, append_read, read_none, one_read}
 
 -- ---- items
 

@@ -4,7 +4,8 @@ use Rattle.std.specs.List.{All}
 use Rattle.std.proofs.lemmas.List.Elements.{All-nil, All-cons}
 use Rattle.rng_model.specs.Document.{Attribute, Item, Items}
 use Rattle.rng_model.specs.Lines.{Line, Shape, start, attribute, text, end, Says, says_start, says_attribute, says_text, says_end, IsLine}
-use Rattle.rng_model.specs.Pyx.{plain_name, AreLines, no_lines, line_and, AreAttributes, no_attributes, attribute_and, IsText, no_text, text_and, IsElement, is_element, IsContent, last_text, text_and_element}
+use Rattle.rng_model.specs.Pyx.{plain_name, AreLines, no_lines, line_and, AreAttributes, no_attributes, attribute_and, IsText, no_text, text_and, IsElement}
+use Rattle.rng_model.specs.Pyx.{is_element, IsContent, last_text, text_and_element}
 use Rattle.rng_model.specs.PyxFaults.{HasKind, IsBalanced, nothing, other, pair}
 use Rattle.rng_run.proofs.DocumentShape.{says_one}
 use Rattle.rng_run.proofs.DocumentBeginning.{Front, only_text, element_and_text}

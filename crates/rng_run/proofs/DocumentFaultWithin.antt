@@ -12,7 +12,8 @@ use Rattle.rng_run.specs.DocumentReader.{Element, State, Outcome, followed, has_
 use Rattle.rng_run.proofs.LastAndFront.{last-snoc}
 use Rattle.rng_run.proofs.DistinctNames.{bytes_differ}
 use Rattle.rng_run.proofs.DocumentSteps.{is_attribute, shape_read, inside, in_tag, tagged, early, less_not}
-use Rattle.rng_run.proofs.DocumentRefused.{refusal, attribute_full, repeat_refused, attribute_inside, start_deep, text_long, end_other, text_first, end_first, attribute_behind, start_behind, text_behind, end_behind}
+use Rattle.rng_run.proofs.DocumentRefused.{refusal, attribute_full, repeat_refused, attribute_inside, start_deep, text_long, end_other, text_first, end_first}
+use Rattle.rng_run.proofs.DocumentRefused.{attribute_behind, start_behind, text_behind, end_behind}
 use Rattle.rng_run.proofs.DocumentBeginning.{attributes_length}
 use Rattle.rng_run.proofs.DocumentBalance.{open_same}
 use Rattle.rng_run.proofs.DocumentElementLines.{is_text, text_kind, lines_length}

@@ -1,5 +1,6 @@
 -- No clause is broken before the fault that the plain reader answers.
-use Rattle.std.proofs.Common.{◌≡◌, ℕ, suc, ◌+◌, ◌≤◌, ◌<◌, Bool, true, false, cond, List, [], ◌∷◌, ◌++◌, length, Option, Some, None, Ok, Err, refl, sym, ap, subst, ◌∙◌, arith, leb-false}
+use Rattle.std.proofs.Common.{◌≡◌, ℕ, suc, ◌+◌, ◌≤◌, ◌<◌, Bool, true, false, cond, List, [], ◌∷◌, ◌++◌, length, Option, Some, None, Ok, Err, refl, sym, ap}
+use Rattle.std.proofs.Common.{subst, ◌∙◌, arith, leb-false}
 use Rattle.std.specs.Prelude.{◌≢◌, ◌⊎◌, nat_le, is_some}
 use Rattle.std.proofs.lemmas.Bool.{leb-true}
 use Rattle.std.proofs.lemmas.List.{length-append}
@@ -7,7 +8,9 @@ use mathlib.Core.Logic.{inl, inr}
 use Rattle.rng_model.specs.Document.{Attribute, Item}
 use Rattle.rng_model.specs.Lines.{Line, Shape, start, attribute, text, end, IsLine}
 use Rattle.rng_model.specs.Pyx.{text_limit, AreLines, AreAttributes, Distinct}
-use Rattle.rng_model.specs.PyxFaults.{HasKind, AreOpen, EndsInTag, EndsInText, EndsInRepeat, IsOutside, no_form, attributes, elements, joined_text, BreaksAt, outside, no_tag, none_to_end, other_name, text_outside, second_root, repeats, Fault, Broken, at_line, unfinished, rootless, IsBefore}
+use Rattle.rng_model.specs.PyxFaults.{HasKind, AreOpen, EndsInTag, EndsInText, EndsInRepeat, IsOutside, no_form, attributes, elements, joined_text, BreaksAt}
+use Rattle.rng_model.specs.PyxFaults.{outside, no_tag, none_to_end, other_name, text_outside, second_root, repeats, Fault, Broken, at_line, unfinished}
+use Rattle.rng_model.specs.PyxFaults.{rootless, IsBefore}
 use Rattle.rng_run.specs.DocumentShape.{behind, shape_of}
 use Rattle.rng_run.specs.DocumentReader.{Element, State, Outcome, followed, has_repeat, ends_repeat, line_read, all_read, nothing_read, at_end, document_read}
 use Rattle.rng_run.proofs.DocumentLineCount.{line_fault}
@@ -22,7 +25,8 @@ use Rattle.rng_run.proofs.DocumentElementLines.{lines_same, attributes_same, is_
 use Rattle.rng_run.proofs.DocumentEnds.{text_within, text_after, one_tag, no_tag_first}
 use Rattle.rng_run.proofs.DocumentPlaces.{HasRoot, Place, at_first, at_tag, at_content, at_root, place}
 use Rattle.rng_run.proofs.DocumentKinds.{says_start_of, says_attribute_of, says_text_of, says_end_of}
-use Rattle.rng_run.proofs.DocumentFaultWithin.{at, Within, within, by_answer, followed_within, attribute_without_tag, too_many_attributes, too_deep, second_start, too_long, text_outside_root, end_of_nothing, end_of_other}
+use Rattle.rng_run.proofs.DocumentFaultWithin.{at, Within, within, by_answer, followed_within, attribute_without_tag, too_many_attributes, too_deep}
+use Rattle.rng_run.proofs.DocumentFaultWithin.{second_start, too_long, text_outside_root, end_of_nothing, end_of_other}
 use Rattle.rng_run.proofs.Outcomes.{err_same, ok_err, followed_twice, followed_same}
 
 pub place_count : {front : List Line} {s : State} → Place front s → s.count ≡ length front

@@ -5,7 +5,8 @@ use Rattle.rng_model.specs.Lines as lines
 use Rattle.rng_model.specs.Lines.{Line}
 use Rattle.rng_model.specs.PyxFaults.{Fault}
 use Rattle.rng_run.specs.DocumentShape.{shape_of}
-use Rattle.rng_run.specs.DocumentReader.{Element, State, Outcome, closed, close_tag, started, start_in, attributed, add_attribute, joined_by, ended, end_in, added, add_in, last_of, shaped, by_shape, line_read, item_of_element, with_text, front_of}
+use Rattle.rng_run.specs.DocumentReader.{Element, State, Outcome, closed, close_tag, started, start_in, attributed, add_attribute, joined_by, ended, end_in}
+use Rattle.rng_run.specs.DocumentReader.{added, add_in, last_of, shaped, by_shape, line_read, item_of_element, with_text, front_of}
 
 -- this many lines were read, by the state or by the fault's line; only the end answers clause 13
 pub data Counts (n : ℕ) : Outcome State → Type 0 where

@@ -11,11 +11,13 @@ use Rattle.rng_model.specs.Pyx.{AreLines, no_lines, line_and, AreAttributes, IsT
 use Rattle.rng_model.specs.PyxFaults.{HasKind, IsBalanced, nothing, AreOpen, none_open, one_open, EndsInTag, EndsInText}
 use Rattle.rng_run.specs.DocumentReader.{Element, State, texts_of}
 use Rattle.rng_run.proofs.DocumentSteps.{inside, in_tag, tagged, behind_root}
-use Rattle.rng_run.proofs.DocumentBeginning.{is_closing, EndsPlain, Front, only_text, element_and_text, Opens, none_opened, one_opened, Begun, nothing, a_tag, content, whole}
+use Rattle.rng_run.proofs.DocumentBeginning.{is_closing, EndsPlain, Front, only_text, element_and_text, Opens, none_opened, one_opened, Begun, nothing, a_tag}
+use Rattle.rng_run.proofs.DocumentBeginning.{content, whole}
 use Rattle.rng_run.proofs.DocumentBeginning as begun
 use Rattle.rng_run.proofs.DocumentTree.{Good}
 use Rattle.rng_run.proofs.DocumentBalance.{balanced_append}
-use Rattle.rng_run.proofs.DocumentElementLines.{is_start, is_text, start_kind, text_kind, end_kind, other_kind, split, first, no_more, lines_length, attributes_kind, texts_kind, attributes_balanced, front_balanced, element_balanced, element_lines, at_shapes}
+use Rattle.rng_run.proofs.DocumentElementLines.{is_start, is_text, start_kind, text_kind, end_kind, other_kind, split, first, no_more, lines_length}
+use Rattle.rng_run.proofs.DocumentElementLines.{attributes_kind, texts_kind, attributes_balanced, front_balanced, element_balanced, element_lines, at_shapes}
 use Rattle.rng_run.proofs.DocumentEnds.{text_bytes, bytes_of, texts_add, texts_append, texts_cons, text_after, text_over, no_tag_after}
 
 abbrev pub name_of : Element → List ℕ

@@ -1,12 +1,15 @@
 -- What a line says: the plain function and the definition agree.
-use Rattle.std.proofs.Common.{◌≡◌, ℕ, Bool, true, false, cond, eqb, not, ◌&&◌, List, [], ◌∷◌, ◌++◌, length, Option, Some, None, refl, sym, ap, subst, ◌∙◌, true≢false}
+use Rattle.std.proofs.Common.{◌≡◌, ℕ, Bool, true, false, cond, eqb, not, ◌&&◌, List, [], ◌∷◌, ◌++◌, length, Option, Some, None, refl, sym, ap, subst, ◌∙◌}
+use Rattle.std.proofs.Common.{true≢false}
 use Rattle.std.specs.Prelude.{◌≢◌, nat_le, is_some, codes}
 use Rattle.std.specs.List.{list_all, All, AllByRecursion}
 use Rattle.std.specs.Str.{bytes_eq}
 use Rattle.std.proofs.lemmas.Bool.{eqb-true, leb-true, le-leb, not-true, and_parts}
 use Rattle.std.proofs.lemmas.List.Elements.{All-from_recursion, recursion_from_All}
-use Rattle.rng_model.specs.Lines.{Line, Shape, start, attribute, text, end, is_ascii_name_start, is_ascii_name_char, IsAsciiNcname, ncname, IsElementName, Says, says_start, says_attribute, says_text, says_end, is_plain, line_limit, IsLine}
-use Rattle.rng_run.specs.DocumentShape.{behind, either_way, is_ncname, is_element_name, at_front, at_byte, named, attribute_of, kind_of, is_plain_line, shape_of}
+use Rattle.rng_model.specs.Lines.{Line, Shape, start, attribute, text, end, is_ascii_name_start, is_ascii_name_char, IsAsciiNcname, ncname, IsElementName, Says}
+use Rattle.rng_model.specs.Lines.{says_start, says_attribute, says_text, says_end, is_plain, line_limit, IsLine}
+use Rattle.rng_run.specs.DocumentShape.{behind, either_way, is_ncname, is_element_name, at_front, at_byte, named, attribute_of, kind_of, is_plain_line}
+use Rattle.rng_run.specs.DocumentShape.{shape_of}
 use Rattle.rng_run.proofs.DistinctNames.{bytes_differ, bytes_not}
 use Rattle.rng_run.proofs.DocumentSteps.{is_attribute}
 use Rattle.rng_run.proofs.Outcomes.{some_same, none_some}

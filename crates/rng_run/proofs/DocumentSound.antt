@@ -1,5 +1,6 @@
 -- What is read well is a beginning of a document.
-use Rattle.std.proofs.Common.{◌≡◌, ℕ, zero, suc, ◌+◌, ◌≤◌, ◌<◌, Bool, true, false, List, [], ◌∷◌, ◌++◌, length, Ok, Err, refl, sym, subst, ◌∙◌, append_assoc, arith, leb-false}
+use Rattle.std.proofs.Common.{◌≡◌, ℕ, zero, suc, ◌+◌, ◌≤◌, ◌<◌, Bool, true, false, List, [], ◌∷◌, ◌++◌, length, Ok, Err, refl, sym, subst, ◌∙◌, append_assoc}
+use Rattle.std.proofs.Common.{arith, leb-false}
 use Rattle.std.specs.Prelude.{nat_le}
 use Rattle.std.specs.Str.{bytes_eq}
 use Rattle.std.proofs.lemmas.Bool.{leb-true}
@@ -10,9 +11,12 @@ use Rattle.rng_model.specs.Pyx.{plain_name, attribute_limit, open_limit, text_li
 use Rattle.rng_model.specs.PyxFaults.{Fault}
 use Rattle.rng_run.specs.DocumentReader.{Element, State, Outcome, has_repeat, texts_of, with_text, with_child, item_of_element}
 use Rattle.rng_run.proofs.DistinctNames.{distinct_of, bytes_same}
-use Rattle.rng_run.proofs.DocumentSteps.{is_attribute, shape_read, inside, in_tag, tagged, behind_root, attribute_step, text_step, first_step, start_step, end_step, last_step, early}
-use Rattle.rng_run.proofs.DocumentRefused.{refusal, attribute_full, repeat_refused, attribute_inside, start_deep, text_long, end_other, text_first, end_first, attribute_behind, start_behind, text_behind, end_behind}
-use Rattle.rng_run.proofs.DocumentBeginning.{is_closing, EndsPlain, Front, only_text, Opens, none_opened, one_opened, Begun, nothing, a_tag, content, whole, front_text, front_element, opens_depth, attributes_length, attributes_snoc, element_ends}
+use Rattle.rng_run.proofs.DocumentSteps.{is_attribute, shape_read, inside, in_tag, tagged, behind_root, attribute_step, text_step, first_step, start_step}
+use Rattle.rng_run.proofs.DocumentSteps.{end_step, last_step, early}
+use Rattle.rng_run.proofs.DocumentRefused.{refusal, attribute_full, repeat_refused, attribute_inside, start_deep, text_long, end_other, text_first, end_first}
+use Rattle.rng_run.proofs.DocumentRefused.{attribute_behind, start_behind, text_behind, end_behind}
+use Rattle.rng_run.proofs.DocumentBeginning.{is_closing, EndsPlain, Front, only_text, Opens, none_opened, one_opened, Begun, nothing, a_tag, content, whole}
+use Rattle.rng_run.proofs.DocumentBeginning.{front_text, front_element, opens_depth, attributes_length, attributes_snoc, element_ends}
 use Rattle.rng_run.proofs.Outcomes.{ok_same, err_ok}
 
 -- what is refused leads nowhere

@@ -1,12 +1,14 @@
 -- What the plain reader makes of one line that says something.
-use Rattle.std.proofs.Common.{◌≡◌, ℕ, suc, ◌+◌, ◌<◌, Bool, true, false, cond, not, ◌&&◌, List, [], ◌∷◌, ◌++◌, length, Some, None, Ok, Err, refl, sym, ◌∙◌, arith, rules, add-one}
+use Rattle.std.proofs.Common.{◌≡◌, ℕ, suc, ◌+◌, ◌<◌, Bool, true, false, cond, not, ◌&&◌, List, [], ◌∷◌, ◌++◌, length, Some, None, Ok, Err, refl, sym, ◌∙◌}
+use Rattle.std.proofs.Common.{arith, rules, add-one}
 use Rattle.std.specs.Prelude.{◌==◌, nat_le}
 use Rattle.std.specs.Str.{bytes_eq}
 use Rattle.std.proofs.lemmas.List.{length-append}
 use Rattle.rng_model.specs.Document.{Attribute, Item}
 use Rattle.rng_model.specs.Lines.{Shape, start, attribute, text, end}
 use Rattle.rng_model.specs.Pyx.{plain_name, attribute_limit, open_limit, text_limit}
-use Rattle.rng_run.specs.DocumentReader.{Element, State, Outcome, fault, followed, last_of, front_of, tag_repeats, has_repeat, with_text, with_child, item_of_element, closed, started, attributed, joined_by, ended, added, shaped}
+use Rattle.rng_run.specs.DocumentReader.{Element, State, Outcome, fault, followed, last_of, front_of, tag_repeats, has_repeat, with_text, with_child}
+use Rattle.rng_run.specs.DocumentReader.{item_of_element, closed, started, attributed, joined_by, ended, added, shaped}
 use Rattle.rng_run.proofs.LastAndFront.{last-snoc, front-snoc}
 use Rattle.rng_run.proofs.Outcomes.{followed_twice, followed_same}
 

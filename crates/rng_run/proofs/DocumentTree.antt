@@ -1,12 +1,14 @@
 -- What the plain reader answers for the lines of a document, and when.
-use Rattle.std.proofs.Common.{◌≡◌, ℕ, ◌+◌, Bool, true, false, cond, List, [], ◌∷◌, ◌++◌, length, Option, Some, None, Ok, Err, refl, sym, subst, ◌∙◌, append_assoc}
+use Rattle.std.proofs.Common.{◌≡◌, ℕ, ◌+◌, Bool, true, false, cond, List, [], ◌∷◌, ◌++◌, length, Option, Some, None, Ok, Err, refl, sym, subst, ◌∙◌}
+use Rattle.std.proofs.Common.{append_assoc}
 use Rattle.std.proofs.lemmas.List.{append-nil}
 use Rattle.rng_model.specs.Document.{Attribute, Item}
 use Rattle.rng_model.specs.Lines.{Line, lines, Shape, IsLine}
 use Rattle.rng_model.specs.Pyx.{open_limit, AreLines, no_lines, line_and, IsElement, IsDocument}
 use Rattle.rng_model.specs.PyxFaults.{Fault}
 use Rattle.rng_run.specs.DocumentShape.{shape_of}
-use Rattle.rng_run.specs.DocumentReader.{Element, State, Outcome, fault, followed, has_repeat, ends_repeat, line_read, all_read, nothing_read, at_end, document_read}
+use Rattle.rng_run.specs.DocumentReader.{Element, State, Outcome, fault, followed, has_repeat, ends_repeat, line_read, all_read, nothing_read, at_end}
+use Rattle.rng_run.specs.DocumentReader.{document_read}
 use Rattle.rng_run.proofs.DocumentAllLines.{read_cons, read_nil, document_is}
 use Rattle.rng_run.proofs.DocumentShape.{shape_is, first_is, is_line}
 use Rattle.rng_run.proofs.DocumentSteps.{shape_read, shapes_read, inside, in_tag, tagged, behind_root, snoc_some, read_none}

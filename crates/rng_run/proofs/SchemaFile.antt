@@ -20,7 +20,9 @@ use Rattle.rnc_grammar.specs.View.{file_of}
 use Rattle.rng_run.specs.declared.fault.FileFault.{FileFault}
 use Rattle.rng_run.specs.declared.fault.FileFault.TheVariants as faults
 use Rattle.rng_run.specs.FileFaults.{fault_of_text, fault_of_parse, verdict_of}
-use Rattle.rng_run.specs.SchemaFile.{said, said_in, AreTokensOf, BreaksClause, not_utf8, bad_characters, bad_tokens, no_sentence, too_deep, bad_declarations, IsSchemaFile, FileVerdict, too_long, breaks, has_tree, IsContentVerdict, IsFileVerdict, IsTheContentVerdict, IsTheFileVerdict, size_limit}
+use Rattle.rng_run.specs.SchemaFile.{said, said_in, AreTokensOf, BreaksClause, not_utf8, bad_characters, bad_tokens, no_sentence, too_deep, bad_declarations}
+use Rattle.rng_run.specs.SchemaFile.{IsSchemaFile, FileVerdict, too_long, breaks, has_tree, IsContentVerdict, IsFileVerdict, IsTheContentVerdict}
+use Rattle.rng_run.specs.SchemaFile.{IsTheFileVerdict, size_limit}
 
 -- ---- characters
 
@@ -193,7 +195,8 @@ no_tree_clause k t g = absurd (cc)
 
 -- a fault of the grammar is a broken clause, unless memory ran out
 pub parse_fault : (bytes : List ℕ) (ts : List Lexeme) (x : ParseFault) → Lexed bytes ts → IsFaultOf ts x →
-    ((t : FileTree) → IsFileTree ts t → parsing.Gives parsing.unless_memory file_of (Err x) (Ok t)) → IfSome (verdict_of (Err (fault_of_parse x))) (IsTheContentVerdict bytes)
+    ((t : FileTree) → IsFileTree ts t → parsing.Gives parsing.unless_memory file_of (Err x) (Ok t))
+    → IfSome (verdict_of (Err (fault_of_parse x))) (IsTheContentVerdict bytes)
 parse_fault bytes ts parses.Memory l b none = tt
 parse_fault bytes ts (parses.At k place) l b none =
     sentence_breaks bytes ts k l (no_sentence ts place l.is b.1 b.0) (grammar_only ts k place b.0 b.1) (λ t is. no_tree_at k place t (none t is))
@@ -204,7 +207,8 @@ parse_fault bytes ts (parses.Clause k) l (inr (e, b)) none =
 
 -- a tree that was read is all that the file is
 pub parsed : (bytes : List ℕ) (ts : List Lexeme) (x : declared.FileTree) → Lexed bytes ts → IsFileTree ts (file_of x) →
-    ((t : FileTree) → IsFileTree ts t → parsing.Gives parsing.unless_memory file_of (Ok x) (Ok t)) → (BreaksDeclarations ts → parsing.Gives parsing.unless_memory file_of (Ok x) (Err (parses.Clause 8))) →
+    ((t : FileTree) → IsFileTree ts t → parsing.Gives parsing.unless_memory file_of (Ok x) (Ok t))
+    → (BreaksDeclarations ts → parsing.Gives parsing.unless_memory file_of (Ok x) (Err (parses.Clause 8))) →
     IsTheContentVerdict bytes (has_tree (file_of x))
 parsed bytes ts x l is one none = record { is = record { lexemes = ts; are = l.is; tree = is }; only = only } where
   no_clause : (j : ℕ) → BreaksSentence ts j → ⊥
