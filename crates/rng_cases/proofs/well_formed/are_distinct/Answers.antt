@@ -13,6 +13,7 @@ returns-in-len1 c = let long = length-map c.args.attrs.now attribute_of in singl
 
 pub returns-in-len2 : goal.returns-in-len2
 returns-in-len2 c =
-    let two = two_of attribute_of c.args.attrs.now c.first-item.result c.second-item.result c.in-len2.len_at_least c.in-len2.len_below c.first-item.is c.second-item.is in
+    let two = two_of attribute_of c.args.attrs.now c.first-item.result c.second-item.result c.in-len2.len_at_least c.in-len2.len_below c.first-item.is
+    c.second-item.is in
     not_same c.same_local.result c.same_local.ensures
     (λ differ. subst Distinct (sym two) (two_distinct (attribute_of c.first-item.result) (attribute_of c.second-item.result) differ))

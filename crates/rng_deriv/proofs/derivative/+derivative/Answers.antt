@@ -50,7 +50,8 @@ after-parents-preserved t c =
     record {
       longer = Longer-trans _ _ _ c.parents.invariant.longer c.in_ok-left-2.ensures.longer;
       copied = AreCopied-longer c.args.grammar.now _ _ c.in_ok-left-2.ensures.longer c.parents.invariant.copied;
-      known = Knows-insert _ _ _ c.after_parent.new.memo c.insert.new.self _ _ c.in_ok-left-2.ensures.known c.in_ok-left-2.ensures.after c.in_ok-insert.ensures.updates;
+      known = Knows-insert _ _ _ c.after_parent.new.memo c.insert.new.self _ _ c.in_ok-left-2.ensures.known c.in_ok-left-2.ensures.after
+          c.in_ok-insert.ensures.updates;
       bottom = (c.in-Some.parent, first_sides.0, c.in_ok-left-2.ensures.after);
     }
 
@@ -65,7 +66,8 @@ after_bottom-returns-in-Some-clause-after t c = c.requires.known _ _ (sym c.in-S
 pub after_bottom-returns-clause-known : goal.after_bottom-returns-clause-known
 after_bottom-returns-clause-known t c =
     Knows-insert c.args.grammar.now c.after_leaf.new.table c.args.symbol.now c.args.memo.now c.insert.new.self _ _
-    (Knows-longer c.args.grammar.now c.args.table.now c.after_leaf.new.table c.args.symbol.now c.args.memo.now c.in_ok-left.ensures.longer c.requires.known) c.in_ok-left.ensures.after c.in_ok-insert.ensures.updates
+    (Knows-longer c.args.grammar.now c.args.table.now c.after_leaf.new.table c.args.symbol.now c.args.memo.now c.in_ok-left.ensures.longer c.requires.known)
+    c.in_ok-left.ensures.after c.in_ok-insert.ensures.updates
 
 pub after_leaf-number_of-requires : goal.after_leaf-number_of-requires
 after_leaf-number_of-requires t c = c.in_ok-node.ensures.left.below _
@@ -100,7 +102,8 @@ after_parent-returns-in-Attribute-clause-after t c =
     attribute_step c.args.grammar.now _ _ _ _ _ _ _ _ _ _ _ _ c.at.result c.in-Group.first c.in-Group.second c.at.ensures.found c.at.ensures.below
     (c.at.ensures.tree c.args.grammar.now) c.in-Group.is
     c.requires.first
-    (attribute_from _ _ c.in-Attribute.is) c.in_ok-front-in-Group.ensures c.in_ok-right-in-Group.ensures.longer c.in_ok-right-in-Group.ensures.after c.in_ok-back-in-Group.ensures c.in_ok-whole-in-Group.ensures
+    (attribute_from _ _ c.in-Attribute.is) c.in_ok-front-in-Group.ensures c.in_ok-right-in-Group.ensures.longer c.in_ok-right-in-Group.ensures.after
+    c.in_ok-back-in-Group.ensures c.in_ok-whole-in-Group.ensures
 
 pub after_parent-returns-then-not-at : goal.after_parent-returns-then-not-at
 after_parent-returns-then-not-at t c = record {
@@ -147,7 +150,8 @@ after_parent-returns-in_ok-whole-in-Group-2 t c = record {
       (c.at.ensures.tree c.args.grammar.now) c.in-Group.is
       c.requires.first (content_from _ c.in_default-symbol.not-Attribute) (entry_derivable c.args.grammar.now _ c.in-Group.first)
       (sym (c.at-in-Group.ensures.flag c.args.grammar.now)
-      ∙ not-false _ c.if-not-at.false) c.in_ok-front-in-Group.ensures c.in_ok-right-in-Group-2.ensures.longer c.in_ok-right-in-Group-2.ensures.after c.in_ok-whole-in-Group-2.ensures;
+      ∙ not-false _ c.if-not-at.false) c.in_ok-front-in-Group.ensures c.in_ok-right-in-Group-2.ensures.longer c.in_ok-right-in-Group-2.ensures.after
+      c.in_ok-whole-in-Group-2.ensures;
 }
 
 pub leaf_after-returns-in-Text-symbol-clause-left : goal.leaf_after-returns-in-Text-symbol-clause-left

@@ -52,7 +52,8 @@ children-preserved t c =
       content = elim c.if-not-is_dropped.branch [
         | then-not-is_dropped+in_ok-symbol_of-in-Element+in_ok-push-in-Element w ↦
             let pushed = ap (λ v. v.items) w.content-is ∙ w.in_ok-push-in-Element.ensures.items in
-            child_in (grammar_of g) drops items i child c.children-test.true c.child-item.is c.children.content.items c.if-not-is_dropped.content.items _ pushed (sym c.is_dropped.ensures ∙ w.if-not-is_dropped.true) w.in_ok-symbol_of-in-Element.ensures.stands c.children.invariant.content
+            child_in (grammar_of g) drops items i child c.children-test.true c.child-item.is c.children.content.items c.if-not-is_dropped.content.items _ pushed
+            (sym c.is_dropped.ensures ∙ w.if-not-is_dropped.true) w.in_ok-symbol_of-in-Element.ensures.stands c.children.invariant.content
         | else-not-is_dropped w ↦
             let same = ap (λ v. v.items) w.content-is in
             subst (λ (ss : List Symbol). StandForItems (grammar_of g) ss (kept drops (take (i + 1) (map item_of items)))) (sym same)
@@ -78,4 +79,5 @@ returns-in_ok-found-in-Element-clause-stands t c =
     (map attribute_of xs) c.as_slice-content.result.now c.in_ok-found-in-Element.found) c.as_slice-attrs.ensures.value c.in_ok-found-in-Element.ensures.found in
     let answers =
     subst (λ ss. AnswersNodes g (name_of c.in-Element.name) (map attribute_of c.in-Element.attrs.items) ss c.in_ok-found-in-Element.found) symbols named in
-    element_answer g c.args.item.now c.in-Element.name c.in-Element.attrs c.in-Element.children c.children.content.items c.in_ok-found-in-Element.found c.in-Element.is c.requires.well_formed there answers
+    element_answer g c.args.item.now c.in-Element.name c.in-Element.attrs c.in-Element.children c.children.content.items c.in_ok-found-in-Element.found
+    c.in-Element.is c.requires.well_formed there answers

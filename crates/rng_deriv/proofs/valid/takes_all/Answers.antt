@@ -14,7 +14,8 @@ symbols-preserved c =
       longer = Longer-trans _ _ _ c.symbols.invariant.longer c.in_ok-left.ensures.longer;
       copied = AreCopied-longer t _ _ c.in_ok-left.ensures.longer c.symbols.invariant.copied;
       inside = c.in_ok-left.ensures.after.left_inside;
-      after = symbol_turn t c.args.table.now c.symbols.table c.after_one.new.table _ c.symbols.left _ _ c.args.content.now c.symbols.symbol-index c.symbols.invariant.inside c.in_ok-left.ensures.longer c.in_ok-left.ensures.after found c.symbols.invariant.after;
+      after = symbol_turn t c.args.table.now c.symbols.table c.after_one.new.table _ c.symbols.left _ _ c.args.content.now c.symbols.symbol-index
+          c.symbols.invariant.inside c.in_ok-left.ensures.longer c.in_ok-left.ensures.after found c.symbols.invariant.after;
     }
 
 pub returns-clause-takes : goal.returns-clause-takes

@@ -10,4 +10,6 @@ takes_content-requires-clause-copied c = AreCopied-longer c.args.grammar.now _ _
 pub returns-clause-takes : goal.returns-clause-takes
 returns-clause-takes c =
     IfOk-weaker c.takes_content.result _ _
-    (λ answer h. node_answer c.args.grammar.now c.args.table.now c.after_attributes.new.table c.args.element c.in-Some.field-0.now _ _ c.args.content.now c.in_ok-left.left answer c.requires (sym c.in-Some.ensures) (c.if-not-contains.ensures.0 refl) c.in_ok-left.ensures.after h) c.takes_content.ensures.takes
+    (λ answer h. node_answer c.args.grammar.now c.args.table.now c.after_attributes.new.table c.args.element c.in-Some.field-0.now _ _ c.args.content.now
+    c.in_ok-left.left answer c.requires (sym c.in-Some.ensures) (c.if-not-contains.ensures.0 refl) c.in_ok-left.ensures.after h)
+    c.takes_content.ensures.takes

@@ -37,8 +37,10 @@ simplify_choice-loop-member-preserved t c =
       extends = extends_twice _ _ _ c.loop-member.invariant.extends (extends_twice _ _ _ c.in_ok-next.ensures.extends c.in_ok-joined.ensures.kept.extends);
       simplified = c.in_ok-joined.ensures.simplified;
       represents =
-          choice_next c.args.builder.now c.loop-member.builder c.simplify_pattern.new.builder c.choice.new.builder c.loop-member.joined c.in_ok-next.next c.in_ok-joined.joined (map pattern_of all) (pattern_of c.member-item.result) n inside more
-          c.loop-member.invariant.simplified c.in_ok-next.ensures.extends c.in_ok-next.ensures.represents c.loop-member.invariant.represents c.in_ok-joined.ensures.kept c.in_ok-joined.ensures.tree;
+          choice_next c.args.builder.now c.loop-member.builder c.simplify_pattern.new.builder c.choice.new.builder c.loop-member.joined c.in_ok-next.next
+          c.in_ok-joined.joined (map pattern_of all) (pattern_of c.member-item.result) n inside more
+          c.loop-member.invariant.simplified c.in_ok-next.ensures.extends c.in_ok-next.ensures.represents c.loop-member.invariant.represents
+          c.in_ok-joined.ensures.kept c.in_ok-joined.ensures.tree;
     }
 
 pub simplify_choice-returns-clause-represents : goal.simplify_choice-returns-clause-represents
@@ -56,7 +58,8 @@ pub simplify_group-group-requires-clause-builder : goal.simplify_group-group-req
 simplify_group-group-requires-clause-builder t c =
     let more = extends_twice _ _ _ c.loop-member.invariant.extends c.in_ok-next.ensures.extends in
     subst AreTables
-    (sym (cut_again c.mark-mark.result c.args.builder.now c.simplify_pattern.new.builder c.mark-mark.ensures.patterns c.mark-mark.ensures.elements more)) c.mark-mark.ensures.valid
+    (sym (cut_again c.mark-mark.result c.args.builder.now c.simplify_pattern.new.builder c.mark-mark.ensures.patterns c.mark-mark.ensures.elements more))
+    c.mark-mark.ensures.valid
 
 pub simplify_group-loop-member-init : goal.simplify_group-loop-member-init
 simplify_group-loop-member-init t c = record {
@@ -79,8 +82,10 @@ simplify_group-loop-member-preserved t c =
       extends = subst (λ d. Extends d c.group.new.builder) back c.in_ok-joined.ensures.extends;
       simplified = c.in_ok-joined.ensures.simplified;
       represents =
-          group_next c.mark-mark.result c.args.builder.now c.loop-member.builder c.simplify_pattern.new.builder c.group.new.builder c.loop-member.joined c.in_ok-next.next c.in_ok-joined.joined (map pattern_of all) (pattern_of c.member-item.result) n inside more
-          c.loop-member.invariant.simplified c.in_ok-next.ensures.extends c.in_ok-next.ensures.represents c.loop-member.invariant.represents back c.in_ok-joined.ensures.simplified c.in_ok-joined.ensures.kept c.in_ok-joined.ensures.tree;
+          group_next c.mark-mark.result c.args.builder.now c.loop-member.builder c.simplify_pattern.new.builder c.group.new.builder c.loop-member.joined
+          c.in_ok-next.next c.in_ok-joined.joined (map pattern_of all) (pattern_of c.member-item.result) n inside more
+          c.loop-member.invariant.simplified c.in_ok-next.ensures.extends c.in_ok-next.ensures.represents c.loop-member.invariant.represents back
+          c.in_ok-joined.ensures.simplified c.in_ok-joined.ensures.kept c.in_ok-joined.ensures.tree;
     }
 
 pub simplify_group-returns-clause-represents : goal.simplify_group-returns-clause-represents
@@ -171,6 +176,8 @@ simplify_pattern-returns-in_ok-push-in-Element-clause-represents t c =
     (tree_at c.push-in-Element.new.self.patterns c.in_ok-push-in-Element.field-0) c.in_ok-element-in-Element.element.0 (class_of c.in-Element.class)
     (c.in_ok-nested-in-Element.field-0, c.in_ok-body-in-Element-2.body) (pattern_of c.in-Element.body.value)
     (subst (λ p. Represents c.args.builder.now there body
-    (pattern_of p)) c.deref.ensures represents) c.in_ok-body-in-Element-2.ensures.there c.in_ok-body-in-Element-2.ensures.tree c.in_ok-nested-in-Element.ensures.nested
+    (pattern_of p)) c.deref.ensures represents) c.in_ok-body-in-Element-2.ensures.there c.in_ok-body-in-Element-2.ensures.tree
+    c.in_ok-nested-in-Element.ensures.nested
     (ap (λ d. d.patterns) c.in_ok-element-in-Element.ensures.ok)
-    (ap (λ d. d.elements) c.in_ok-element-in-Element.ensures.ok) keeps.extends keeps.elements c.in_ok-element-in-Element.ensures.id c.in_ok-push-in-Element.ensures.tree)
+    (ap (λ d. d.elements) c.in_ok-element-in-Element.ensures.ok) keeps.extends keeps.elements c.in_ok-element-in-Element.ensures.id
+    c.in_ok-push-in-Element.ensures.tree)
