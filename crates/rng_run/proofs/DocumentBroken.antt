@@ -1,5 +1,5 @@
 -- The clause of the fault that the plain reader answers is broken.
-use Rattle.std.proofs.Common.{◌≡◌, ℕ, ◌+◌, ◌<◌, Bool, true, false, cond, not, ◌&&◌, List, [], ◌∷◌, ◌++◌, length, map, Option, Some, None, Ok, Err, refl, sym, ap, subst, ◌∙◌, append_assoc, arith, true≢false, leb-false}
+use Rattle.std.proofs.Common.{◌≡◌, ℕ, ◌+◌, Bool, true, false, cond, not, List, [], ◌∷◌, ◌++◌, length, map, Option, Some, None, Ok, Err, refl, sym, ap, subst, ◌∙◌, append_assoc, arith, true≢false, leb-false}
 use Rattle.std.specs.Prelude.{nat_le, is_some}
 use Rattle.std.specs.Str.{bytes_eq}
 use Rattle.std.proofs.lemmas.Bool.{leb-true, not-true, and_parts}
@@ -18,7 +18,7 @@ use Rattle.rng_run.proofs.DistinctNames.{distinct_is, bytes_not}
 use Rattle.rng_run.proofs.DocumentSteps.{is_attribute, shape_read, inside, in_tag, tagged, behind_root, attribute_step, text_step, first_step, start_step, early}
 use Rattle.rng_run.proofs.DocumentRefused.{refusal, attribute_full, repeat_refused, attribute_inside, start_deep, text_long, end_other, text_first, end_first, attribute_behind, start_behind, text_behind, end_behind}
 use Rattle.rng_run.proofs.DocumentBeginning.{attributes_length}
-use Rattle.rng_run.proofs.DocumentTree.{Good, good_step, good_nothing, good_read, line_is, line_none, end_nothing, end_content, end_tag}
+use Rattle.rng_run.proofs.DocumentTree.{Good, good_step, good_nothing, line_is, line_none, end_nothing, end_content, end_tag}
 use Rattle.rng_run.proofs.DocumentTree as tree
 use Rattle.rng_run.proofs.DocumentElementLines.{is_text, is_end, start_kind, text_kind, end_kind, attribute_kind, other_kind, lines_length}
 use Rattle.rng_run.proofs.DocumentEnds.{no_tag_first}
