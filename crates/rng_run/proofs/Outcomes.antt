@@ -1,5 +1,5 @@
 -- Outcomes and options are equal where what they hold is.
-use Rattle.std.proofs.Common.{◌≡◌, Option, Some, None, Ok, Err, refl}
+use Rattle.std.proofs.Common.{◌≡◌, Some, None, Ok, Err, refl}
 use Rattle.rng_model.specs.PyxFaults.{Fault}
 use Rattle.rng_run.specs.DocumentReader.{State, Outcome, followed}
 

@@ -1,6 +1,6 @@
 -- What is served of members about a connector.
-use Rattle.std.proofs.Common.{◌≡◌, ℕ, List, [], ◌∷◌, ◌++◌, Option, Some, None, Err, refl}
-use Rattle.rng_model.specs.Tree.{Connector, choice, group, interleave}
+use Rattle.std.proofs.Common.{◌≡◌, ℕ, List, ◌++◌, Option, Some, None, Err, refl}
+use Rattle.rng_model.specs.Tree.{Connector, interleave}
 use Rattle.rng_model.specs.Written as written
 use Rattle.rnc_grammar.specs.FileTree as tree
 use Rattle.rnc_grammar.specs.View as files
