@@ -1,15 +1,14 @@
 -- What reading a document answers.
-use Rattle.std.proofs.Common.{◌≡◌, ℕ, List, Result, Ok, Err, sym, ◌∙◌}
+use Rattle.std.proofs.Common.{ℕ, List, Result, Ok, Err, sym, ◌∙◌}
 use Rattle.std.specs.Prelude.{IfOk, IfErr}
 use Rattle.rng_model.specs.Document as document
 use Rattle.rng_model.specs.View.{item_of}
 use Rattle.rng_model.specs.declared.document.Item.{Item}
 use Rattle.rng_model.specs.Lines.{lines}
 use Rattle.rng_model.specs.Pyx.{IsDocument}
-use Rattle.rng_model.specs.PyxFaults.{Fault}
 use Rattle.rng_run.specs.declared.document.fault.DocumentFault.{DocumentFault}
 use Rattle.rng_run.specs.declared.document.fault.DocumentFault.TheVariants as faults
-use Rattle.rng_run.specs.DocumentReader.{Outcome, document_read}
+use Rattle.rng_run.specs.DocumentReader.{document_read}
 use Rattle.rng_model.specs.Answers.{Gives}
 use Rattle.rng_run.specs.DocumentView.{broken_by}
 use Rattle.rng_run.specs.DocumentAnswer.{IsAnswer, IsFaultOf}

@@ -1,6 +1,6 @@
 -- Patterns of file trees, the kinds with members or parts of their own as they are seen.
 use Rattle.std.proofs.Common.{◌≡◌, map, rules, Vec, Global, Option, Some, None, option_map, string_bytes, List, sym, ap, ◌∙◌, String, Box}
-use Rattle.rng_model.specs.Tree.{group, choice, interleave}
+use Rattle.rng_model.specs.Tree.{group, choice}
 use Rattle.rnc_grammar.specs.View as files
 use Rattle.rnc_grammar.specs.FileTree as tree
 use Rattle.rnc_grammar.specs.declared.file_tree.DatatypeName.{DatatypeName}

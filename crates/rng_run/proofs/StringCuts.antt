@@ -1,5 +1,5 @@
 -- What the cuts of a line are.
-use Rattle.std.proofs.Common.{◌≡◌, ℕ, ◌<◌, ◌+◌, List, [], ◌∷◌, length, drop, Option, Some, None, refl, cond, eqb, ap, sym, arith, rules, suc, one-add, Bool}
+use Rattle.std.proofs.Common.{◌≡◌, ℕ, ◌<◌, ◌+◌, List, [], ◌∷◌, length, drop, Option, Some, None, refl, cond, eqb, ap, sym, arith, suc, one-add, Bool}
 use Rattle.std.proofs.Common.{true, false, add-one, eq-eqb}
 use Rattle.std.specs.Prelude.{◌≢◌, MatchOption}
 use Rattle.std.specs.List.{position_or_len, before_first, after_first}
