@@ -2,4 +2,4 @@ pub mod Views
 pub mod Choices
 pub mod Holding
 pub mod Fresh
-pub mod Plain
+pub mod PlainNames
