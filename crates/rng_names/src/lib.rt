@@ -1,8 +1,9 @@
 //! Name classes: which names a class holds, and whether two classes have a name in common (RELAX NG Specification,
 //! sections 6.1 and 7.3).
 //!
-//! A name is any pair of texts, so a class may hold infinitely many. `contains` decides for one name, `overlap` for all
-//! of them at once, with the names that are written in the classes and one text that is longer than all of those.
+//! `contains` answers exactly whether a class holds a name, and takes no memory. `overlap` answers exactly whether some name
+//! lies in both of two classes, of all pairs of texts and not only of those that are written in them. Only want of memory
+//! keeps its answer back, and none is wanted where one class is a plain name.
 #![tactic(auto)]
 
 mod common_name;
