@@ -109,7 +109,13 @@ def table(seen):
         print(f"| `{crate}` | {' | '.join(map(minutes, row))} | {one} | {minutes(sum(row))} |")
     print(f"| all | {' | '.join(map(minutes, total))} | | {minutes(sum(total))} |")
     way, length = longest({key: end - start for key, (start, end) in spans.items()})
-    print(f"\nThe longest way: {minutes(length)} minutes on the clock, {', '.join(way)}")
+    for crate in crates():
+        names = sorted(it.removesuffix(".edit") for it in os.listdir(f"{ROOT}/crates/{crate}/must-fail")) if edits[crate] else []
+        # (a crate's edits are tried in the order of their names; the first check is also that of the whole crate)
+        dear = sorted(zip([*edits[crate].values()][1:], names[1:]), reverse=True)[:3]
+        if dear:
+            print(f"\nThe dearest edits of `{crate}`: " + ", ".join(f"`{name}` {seconds:.0f}" for seconds, name in dear), end="")
+    print(f"\n\nThe longest way: {minutes(length)} minutes on the clock, {', '.join(way)}")
 
 
 def longest(clock):
