@@ -67,7 +67,9 @@ class Watch:
             while "--crate-name" not in top["words"] and top["parent"] in by_pid and by_pid[top["parent"]] is not top:
                 top = by_pid[top["parent"]]
             words = top["words"]
-            it["crate"] = words[words.index("--crate-name") + 1] if "--crate-name" in words else ""
+            # (another checkout's checks, run beside this, are not the gate's)
+            is_own = top["folder"].startswith(f"{ROOT}/") or "/rt-edit-" in top["folder"]
+            it["crate"] = words[words.index("--crate-name") + 1] if is_own and "--crate-name" in words else ""
             it["part"] = "edits" if "/rt-edit-" in it["folder"] else "tests" if "--test" in words else "proofs"
         return [it for it in self.processes.values() if it["crate"]]
 
