@@ -2,7 +2,7 @@
 use Rattle.std.proofs.Common.{◌≡◌, ℕ, ◌+◌, ◌-◌, List, [], ◌∷◌, ◌++◌, length, Ok, Err, refl, sym, ap, ◌∙◌}
 use Rattle.rnc_syntax.specs.declared.fault.Stop.TheVariants.{Unexpected, TooDeep}
 use Rattle.rnc_syntax.specs.Lexeme.{Lexeme}
-use Rattle.rnc_syntax.specs.Syntax.{Declaration, Body, File}
+use Rattle.rnc_syntax.specs.Syntax.{Declaration, File}
 use Rattle.rnc_syntax.specs.Sentence.{IsStuckAt}
 use Rattle.rnc_syntax.specs.Combinators.{Outcome, ◌>>=◌}
 use Rattle.rnc_syntax.specs.Productions.{Inside, inside_at, body_with, if_ended, declarations_at, file_with}

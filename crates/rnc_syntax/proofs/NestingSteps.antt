@@ -2,7 +2,6 @@
 use mir.Val.{bool_byte}
 use Rattle.std.proofs.Common.{◌≡◌, ◌∙◌, ℕ, zero, suc, ◌+◌, ◌≤◌, ◌<◌, ◌-◌, cond, Bool, true, false, List, [], ◌∷◌, length, take, drop, get_or, arith, refl, sym}
 use Rattle.std.proofs.Common.{ap, subst, add-one}
-use Rattle.std.proofs.lemmas.List.Sums.{sum_by-cons}
 use Rattle.std.proofs.Math.Seq.{drop-cons}
 use Rattle.rnc_text.specs.declared.token.Token.{Token}
 use Rattle.rnc_text.specs.declared.token.TokenKind.{TokenKind}

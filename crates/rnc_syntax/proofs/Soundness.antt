@@ -1,6 +1,6 @@
 -- What is read is in the grammar: steps of reading, and items one after another.
-use Rattle.std.proofs.Common.{◌≡◌, ℕ, zero, suc, Bool, true, false, cond, List, [], ◌∷◌, ◌++◌, length, Option, Some, None, Result, Ok, Err, refl, sym, ap}
-use Rattle.std.proofs.Common.{subst, ◌∙◌, append_assoc, ◌⊎◌, inl, inr}
+use Rattle.std.proofs.Common.{◌≡◌, ℕ, zero, suc, true, List, [], ◌∷◌, ◌++◌, length, Option, Some, None, Result, Ok, Err, refl, sym, ap}
+use Rattle.std.proofs.Common.{subst, ◌∙◌, append_assoc, inl, inr}
 use Rattle.rnc_text.specs.declared.token.Keyword.{Keyword}
 use Rattle.rnc_text.specs.declared.token.Keyword.TheVariants as keywords
 use Rattle.rnc_text.specs.declared.token.Sign.{Sign}

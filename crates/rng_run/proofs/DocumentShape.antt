@@ -1,14 +1,15 @@
 -- What a line says: the plain function and the definition agree.
 use Rattle.std.proofs.Common.{◌≡◌, ℕ, Bool, true, false, cond, eqb, not, ◌&&◌, List, [], ◌∷◌, ◌++◌, length, Option, Some, None, refl, sym, ap, subst, ◌∙◌}
 use Rattle.std.proofs.Common.{true≢false}
-use Rattle.std.specs.Prelude.{◌≢◌, nat_le, is_some, codes}
+use Rattle.std.specs.Prelude.{◌≢◌, nat_le, is_some, option_and_then, codes}
+use Rattle.std.specs.Option.{option_map_or}
 use Rattle.std.specs.List.{list_all, All, AllByRecursion}
 use Rattle.std.specs.Str.{bytes_eq}
 use Rattle.std.proofs.lemmas.Bool.{eqb-true, leb-true, le-leb, not-true, and_parts}
 use Rattle.std.proofs.lemmas.List.Elements.{All-from_recursion, recursion_from_All}
 use Rattle.rng_model.specs.Lines.{Line, Shape, start, attribute, text, end, is_ascii_name_start, is_ascii_name_char, IsAsciiNcname, ncname, IsElementName, Says}
 use Rattle.rng_model.specs.Lines.{says_start, says_attribute, says_text, says_end, is_plain, line_limit, IsLine}
-use Rattle.rng_run.specs.DocumentShape.{behind, either_way, is_ncname, is_element_name, at_front, at_byte, named, attribute_of, kind_of, is_plain_line}
+use Rattle.rng_run.specs.DocumentShape.{behind, is_ncname, is_element_name, at_front, at_byte, named, attribute_of, kind_of, is_plain_line}
 use Rattle.rng_run.specs.DocumentShape.{shape_of}
 use Rattle.rng_run.proofs.DistinctNames.{bytes_differ, bytes_not}
 use Rattle.rng_run.proofs.DocumentSteps.{is_attribute}
@@ -123,7 +124,7 @@ named_says shape name x e = go (is_element_name name) refl e where
   go false q e = absurd (none_some x e)
 
 parts_say : (bytes : List ℕ) (o : Option (List ℕ × List ℕ)) (x : Shape) → Found bytes o →
-    either_way o None (λ p. cond (is_element_name p.0) (Some (attribute p.0 p.1)) None) ≡ Some x → Says (65 ∷ bytes) x
+    option_and_then (λ p. cond (is_element_name p.0) (Some (attribute p.0 p.1)) None) o ≡ Some x → Says (65 ∷ bytes) x
 parts_say bytes None x f e = absurd (none_some x e)
 parts_say bytes (Some p) x f e = go (is_element_name p.0) refl e where
   go : (b : Bool) → is_element_name p.0 ≡ b → cond b (Some (attribute p.0 p.1)) None ≡ Some x → Says (65 ∷ bytes) x
@@ -136,10 +137,10 @@ attribute_says bytes x e = parts_say bytes (at_byte 32 bytes) x (found bytes) e
 
 abbrev chain : Bool → Bool → Bool → Bool → List ℕ → Option Shape
 chain a b c d cs =
-    either_way (cond a (Some cs) None) (
-    either_way (cond b (Some cs) None) (
-    either_way (cond c (Some cs) None) (
-    either_way (cond d (Some cs) None) None (named end)) (λ value. Some (text value))) attribute_of) (named start)
+    option_map_or (named start) (cond a (Some cs) None) (
+    option_map_or attribute_of (cond b (Some cs) None) (
+    option_map_or (λ value. Some (text value)) (cond c (Some cs) None) (
+    option_and_then (named end) (cond d (Some cs) None))))
 
 start_says : (cs : List ℕ) (x : Shape) → named start cs ≡ Some x → Says (40 ∷ cs) x
 start_says cs x e = let n = named_says start cs x e in subst (Says (40 ∷ cs)) n.1 (says_start n.0)

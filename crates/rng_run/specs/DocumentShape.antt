@@ -1,6 +1,7 @@
 -- What one line says, read from left to right.
-use Rattle.std.specs.Prelude.{ℕ, Bool, true, false, nat_le, ◌&&◌, not, List, [], ◌∷◌, length, codes, Option, Some, None, if◌then◌else◌, ◌==◌}
+use Rattle.std.specs.Prelude.{ℕ, Bool, true, false, nat_le, ◌&&◌, not, List, [], ◌∷◌, length, codes, Option, Some, None, option_and_then, if◌then◌else◌, ◌==◌}
 use Rattle.std.specs.List.{list_all}
+use Rattle.std.specs.Option.{option_map_or}
 use Rattle.std.specs.Str.{bytes_eq}
 use Rattle.rng_model.specs.Lines.{Line, Shape, start, attribute, text, end, is_ascii_name_start, is_ascii_name_char, is_plain, line_limit}
 
@@ -12,10 +13,6 @@ is_within c = if c == 10 then false else true
 abbrev pub behind : ℕ → List ℕ → Option (List ℕ)
 behind k [] = None
 behind k (c ∷ cs) = if c == k then Some cs else None
-
-abbrev pub either_way : {A B : Type 0} → Option A → B → (A → B) → B
-either_way None b f = b
-either_way (Some a) b f = f a
 
 abbrev pub is_ncname : List ℕ → Bool
 is_ncname [] = false
@@ -40,15 +37,15 @@ named shape name = if is_element_name name then Some (shape name) else None
 
 -- after `A`: a name, a space and a value
 unfoldable pub attribute_of : List ℕ → Option Shape
-attribute_of bytes = either_way (at_byte 32 bytes) None (λ p. if is_element_name p.0 then Some (attribute p.0 p.1) else None)
+attribute_of bytes = option_and_then (λ p. if is_element_name p.0 then Some (attribute p.0 p.1) else None) (at_byte 32 bytes)
 
 -- what a line of these bytes says
 unfoldable pub kind_of : List ℕ → Option Shape
 kind_of line =
-    either_way (behind 40 line) (
-    either_way (behind 65 line) (
-    either_way (behind 45 line) (
-    either_way (behind 41 line) None (named end)) (λ value. Some (text value))) attribute_of) (named start)
+    option_map_or (named start) (behind 40 line) (
+    option_map_or attribute_of (behind 65 line) (
+    option_map_or (λ value. Some (text value)) (behind 45 line) (
+    option_and_then (named end) (behind 41 line))))
 
 -- the line has the form that every line of the fragment has
 abbrev pub is_plain_line : Line → Bool
