@@ -5,46 +5,15 @@
 //! the program: it prints one line on standard error, and gives the exit status.
 #![tactic(auto)]
 
-mod command_line;
-mod fault;
-mod schema_files;
-mod status;
-mod streams;
-#[cfg(test)]
-mod tests;
-mod words;
-
-use command_line::words_of;
-use fault::Fault;
-use rng_run::Status;
-use schema_files::read_files;
-use status::exit_code;
+use rncv_cli::{answer_command_line, exit_of};
 use std::io;
 use std::process::ExitCode;
-use std::rt::{Env, Files};
-use streams::run_and_flush;
 
 fn main(rt: HostRuntime) -> ExitCode {
-    match program(&rt) {
-        Ok(status) => ExitCode::from(exit_code(status)),
-        Err(fault) => {
-            // Where standard error takes no line either, the exit status is all that is left to say.
-            let _ = eprintln!(rt; "{fault}");
-            ExitCode::from(fault.status())
-        }
+    let (answer, _) = answer_command_line(&rt, &rt, rt.reader(), io::writer(&rt));
+    if let Err(fault) = &answer {
+        // Where standard error takes no line either, the exit status is all that is left to say.
+        let _ = eprintln!(rt; "{fault}");
     }
-}
-
-/// Does what the words after the program's name ask for.
-fn program<R: Env + Files + Input + Print + AllocGlobal>(rt: &R) -> Result<Status, Fault> {
-    let words = words_of(rt)?;
-    let files = read_files(rt, words.files)?;
-    let mut writer = io::writer(rt);
-    run_and_flush(
-        rt.alloc(),
-        words.command,
-        files.as_slice(),
-        rt.reader(),
-        &mut writer,
-    )
+    exit_of(&answer)
 }

@@ -1,8 +1,8 @@
 // A reader or a writer that counts its failed calls.
-ghost use Rattle.std.specs.Prelude.{◌≡◌, ◌+◌, ◌-◌, ◌^◌, ◌<◌, ◌≤◌, length, is_ok, IfOk, IsErr, OnOk, MatchResult, if◌then◌else◌};
+ghost use Rattle.std.specs.Prelude.{◌≡◌, ◌+◌, ◌-◌, ◌^◌, ◌<◌, ◌≤◌, nat_le, length, true, false, is_ok, IfOk, IsErr, OnOk, MatchResult, if◌then◌else◌};
 ghost use Rattle.std.specs.Io.{ReadsAtMost, WritesAtMost};
 ghost use Rattle.std.specs.Io.KnownBytes.{ReadConsumes, WriteAppends, Keeps};
-ghost use Rattle.rng_model.specs.Device.{device_inner, device_failures, device_taken};
+ghost use Rattle.rng_model.specs.Device.{device_inner, device_failures, device_taken, device_flushed};
 
 use std::io::{Read, Write};
 
@@ -16,23 +16,34 @@ pub struct Device<T> {
     inner: T,
     failures: u64,
     taken: u64,
+    flushed: bool,
 }
 
 /// Once this many bytes were read, a further read is refused, so that every loop of reads ends.
 const READ_LIMIT: u64 = 1 << 62;
 
 impl<T> Device<T> {
-    /// A device that has counted no failure and read no byte. Takes no memory.
+    /// A device that has counted no failure, read no byte and flushed nothing. Takes no memory.
     pub fn new(inner: T) -> Self
         ensures inner { device_inner result ≡ inner }
         ensures failures { device_failures result ≡ 0 }
         ensures taken { device_taken result ≡ 0 }
+        ensures flushed { device_flushed result ≡ false }
     {
         Device {
             inner,
             failures: 0,
             taken: 0,
+            flushed: false,
         }
+    }
+
+    /// The reader or the writer, as the calls have left it. Takes no memory.
+    pub fn into_inner(self) -> T
+        ensures { result ≡ device_inner self }
+    {
+        let Device { inner, .. } = self;
+        inner
     }
 
     /// How many calls failed. Takes no memory.
@@ -40,6 +51,13 @@ impl<T> Device<T> {
         ensures { result ≡ device_failures self.now }
     {
         self.failures
+    }
+
+    /// Whether so many bytes were read that a further read is refused: 2^62 or more.
+    fn is_at_limit(&self) -> bool
+        ensures { result ≡ nat_le (2 ^ 62) (device_taken self.now) }
+    {
+        self.taken >= READ_LIMIT
     }
 
     /// Counts a failed call.
@@ -63,10 +81,11 @@ impl<R: Read> Device<R> {
         ensures bytes { ReadConsumes (R.remaining (device_inner self.old)) (R.remaining (device_inner self.new)) result buf.new }
         ensures failures { device_failures self.new ≡ device_failures self.old + (if is_ok result then 0 else 1) }
         ensures taken { MatchResult result (λ n. device_taken self.new ≡ device_taken self.old + n) (λ _. device_taken self.new ≡ device_taken self.old) }
+        ensures flushed { device_flushed self.new ≡ device_flushed self.old }
         // Past the limit the call fails, and the reader was not asked.
         ensures limit { 2 ^ 62 ≤ device_taken self.old → IsErr result × (device_inner self.new ≡ device_inner self.old) × (buf.new ≡ buf.old) }
     {
-        if self.taken >= READ_LIMIT {
+        if self.is_at_limit() {
             return Err(self.failure());
         }
         match self.inner.read(buf) {
@@ -91,10 +110,32 @@ impl<W: Write> Device<W> {
         ensures bytes { WriteAppends (W.contents (device_inner self.old)) (W.contents (device_inner self.new)) result buf.now }
         ensures taken { device_taken self.new ≡ device_taken self.old }
         ensures failures { device_failures self.new ≡ device_failures self.old + (if is_ok result then 0 else 1) }
+        ensures flushed { device_flushed self.new ≡ false }
     {
+        self.flushed = false;
         match self.inner.write(buf) {
             Ok(n) if n > 0 || buf.is_empty() => Ok(n),
             _ => Err(self.failure()),
+        }
+    }
+
+    /// Flushes the writer. Takes no memory.
+    ///
+    /// Every error of the writer counts as a failed call.
+    pub fn flush(&mut self) -> Result<(), DeviceFault>
+        requires { device_failures self.old < 2 ^ 64 - 1 }
+        ensures bytes { Keeps (W.contents (device_inner self.old)) (W.contents (device_inner self.new)) }
+        ensures taken { device_taken self.new ≡ device_taken self.old }
+        ensures failures { device_failures self.new ≡ device_failures self.old + (if is_ok result then 0 else 1) }
+        ensures flushed { device_flushed self.new ≡ is_ok result }
+    {
+        self.flushed = false;
+        match self.inner.flush() {
+            Ok(()) => {
+                self.flushed = true;
+                Ok(())
+            }
+            Err(_) => Err(self.failure()),
         }
     }
 }

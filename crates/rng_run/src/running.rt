@@ -47,9 +47,9 @@ pub enum RunFault {
 /// `Check`, and for `Valid` where the schema is outside what is served, `refused S0`; and else `valid`, `invalid line N`
 /// or `malformed Pk line N`, as the definition says for the document that `input` has left and the pattern of the file's
 /// tree. A line feed ends it. A refused schema leaves the input unread, and the other files are ignored.
-/// `RunFault::Read` and `RunFault::Write` come only where that device counted a failed call; after `Read` and `Memory`
-/// nothing was written, after `Write` a beginning of the line was. The file and the document are kept whole; time is in
-/// proportion to the file, and then what `simplify` and `is_valid` take.
+/// `RunFault::Read` and `RunFault::Write` come only where that device counted a failed call, `RunFault::Memory` only where
+/// neither did; after `Read` and `Memory` nothing was written, after `Write` a beginning of the line was. The file and the
+/// document are kept whole; time is in proportion to the file, and then what `simplify` and `is_valid` take.
 pub fn run<R: Read, W: Write>(
     alloc: Global,
     command: Command,
@@ -74,6 +74,8 @@ pub fn run<R: Read, W: Write>(
     // A fault of a device is answered only where that device counted one.
     ensures read { IsErrOf result RunFault.Read → device_failures input.old < device_failures input.new }
     ensures write { IsErrOf result RunFault.Write → device_failures output.old < device_failures output.new }
+    ensures memory { IsErrOf result RunFault.Memory →
+        (device_failures input.new ≡ device_failures input.old) × (device_failures output.new ≡ device_failures output.old) }
     ensures written { IfErr result (λ fault. WrittenAfter
         (IsAnswer command (main_file files.now) (R.remaining (device_inner input.old)) (R.remaining (device_inner input.new)))
         fault (W.contents (device_inner output.old)) (W.contents (device_inner output.new))) }
@@ -112,6 +114,7 @@ fn answer_for<'n, R: Read>(
     ensures calm { OnOk result (device_failures input.new ≡ device_failures input.old) }
     ensures unread { (verdict : FileVerdict) → IsTheFileVerdict bytes.now verdict → JudgesNone command verdict → input.new ≡ input.old }
     ensures read { IsErrOf result RunFault.Read → device_failures input.old < device_failures input.new }
+    ensures memory { IsErrOf result RunFault.Memory → device_failures input.new ≡ device_failures input.old }
     ensures no_write { IsErrOf result RunFault.Write → ⊥ }
     ensures answer { IfOk result (λ answer. IsAnswer command (record { name = name.now; bytes = bytes.now }) (R.remaining (device_inner input.old)) (R.remaining (device_inner input.new)) (answer_of answer)) }
 {
@@ -134,6 +137,7 @@ fn answer_by<'n, R: Read>(
     ensures calm { OnOk result (device_failures input.new ≡ device_failures input.old) }
     ensures unread { pattern_by command (file_of tree.now) ≡ None → input.new ≡ input.old }
     ensures read { IsErrOf result RunFault.Read → device_failures input.old < device_failures input.new }
+    ensures memory { IsErrOf result RunFault.Memory → device_failures input.new ≡ device_failures input.old }
     ensures no_write { IsErrOf result RunFault.Write → ⊥ }
     ensures answer { IfOk result (λ answer. IsAnswerBy (pattern_by command (file_of tree.now)) (R.remaining (device_inner input.old)) (R.remaining (device_inner input.new)) (answer_of answer)) }
 {

@@ -24,6 +24,7 @@ pub fn read_whole<R: Read>(alloc: Global, input: &mut Device<R>) -> Result<Vec<u
     ensures end { OnOk result (IsAtEnd (R.remaining (device_inner input.new))) }
     ensures calm { OnOk result (device_failures input.new ≡ device_failures input.old) }
     ensures read { IsErrOf result StreamFault.Read → device_failures input.old < device_failures input.new }
+    ensures memory { IsErrOf result StreamFault.Memory → device_failures input.new ≡ device_failures input.old }
 {
     let mut bytes = Vec::new(alloc);
     let mut chunk = [0u8; 4096];

@@ -1,6 +1,7 @@
 // Devices that give and take in pieces, and fail; and refused growths.
 use crate::streams::{Outcome, Source, file, run_over, run_well};
 use rng_run::{Command, RunFault, Status};
+use std::alloc::{AllocError, Global};
 use std::test::Fail;
 
 const SMALL: &[u8] = b"element a { empty }";
@@ -21,6 +22,32 @@ fn pieces_of_any_length(rt: HostRuntime) -> Result<(), Fail> {
             let holds = got.written.as_slice() == *line && got.unread == 0;
             assert!(rt; holds, "{document:?} {most}");
         }
+    }
+    Ok(())
+}
+
+/// A document of one element with so many lines of text, each of 1,024 bytes.
+fn long_document(alloc: Global, lines: u32) -> Result<Vec<u8>, AllocError> {
+    let mut document = Vec::from_slice(alloc, b"(a\n")?;
+    for _line in 0..lines {
+        document.push(b'-')?;
+        document.resize(document.len().saturating_add(1022), b'x')?;
+        document.push(b'\n')?;
+    }
+    document.extend_from_slice(b")a\n")?;
+    Ok(document)
+}
+
+#[test]
+fn a_document_of_three_mebibytes(rt: HostRuntime) -> Result<(), Fail> {
+    let document = long_document(rt.alloc(), 3072)?;
+    for (schema, line) in [
+        (b"element a { text }".as_slice(), b"valid\n".as_slice()),
+        (b"element a { empty }", b"invalid line 3074\n"),
+    ] {
+        let bytes = document.as_slice();
+        let got = run_well(rt.alloc(), Command::Valid, schema, bytes, 1000)?;
+        assert!(rt; got.written.as_slice() == line && got.unread == 0);
     }
     Ok(())
 }

@@ -1,3 +1,0 @@
-mod Beginning
-mod Matches
-mod Unreadable

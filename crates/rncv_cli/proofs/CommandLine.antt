@@ -1,0 +1,69 @@
+-- What clap finds in the words, against the command lines.
+use Rattle.std.proofs.Common.{◌≡◌, ◌∙◌, ◌<◌, ◌≤◌, Bool, true, false, List, [], ◌∷◌, length, map, Some, None, String, string_bytes}
+use Rattle.std.proofs.Common.{ap, refl, sym, subst}
+use Rattle.std.specs.Prelude.{if◌then◌else◌, option_and_then}
+use Rattle.std.specs.List.{AllByRecursion}
+use Rattle.std.specs.Str.{IsUtf8, bytes_eq}
+use Rattle.std.proofs.lemmas.Slice.Eq.{bytes_eq-Decides}
+use Rattle.std.proofs.lemmas.Str.{IsUtf8-string_bytes}
+use Rattle.clap.specs.Lexer.{usize_max}
+use Rattle.clap.specs.Words.{fault_of, matches_of}
+use Rattle.rng_run.specs.declared.running.Command.{Command}
+use Rattle.rng_run.specs.declared.running.Command.TheVariants.{Valid, Check}
+use Rattle.rncv_cli.specs.CommandLine.{IsCommandLine, Text, WithoutDashes, name_of}
+use Rattle.rncv_cli.specs.CommandLineForm.{command_in, command_named, files_in, form}
+use Rattle.rncv_cli.proofs.FormWalk.{are_found, is_read}
+
+pub all_utf8 : {Z : Type 0} (texts : List (String Z)) → AllByRecursion IsUtf8 (map string_bytes texts)
+all_utf8 [] = tt
+all_utf8 (text ∷ texts) = (IsUtf8-string_bytes text, all_utf8 texts)
+
+-- the command of a name is the one with that name
+named_by : (name : Text) (command : Command) (valid check : Bool) → bytes_eq name (name_of Valid) ≡ valid → bytes_eq name (name_of Check) ≡ check
+    → (if valid then Some Valid else (if check then Some Check else None)) ≡ Some command → name ≡ name_of command
+named_by name command true check v c is =
+    let same : Valid ≡ command = cc in
+    (bytes_eq-Decides name (name_of Valid)).0 v ∙ ap name_of same
+named_by name command false true v c is =
+    let same : Check ≡ command = cc in
+    (bytes_eq-Decides name (name_of Check)).0 c ∙ ap name_of same
+named_by name command false false v c is = cc
+
+is_name : (name : Text) (command : Command) → command_named name ≡ Some command → name ≡ name_of command
+is_name name command is = named_by name command _ _ refl refl is
+
+has_name : (command : Command) → command_named (name_of command) ≡ Some command
+has_name Valid = refl
+has_name Check = refl
+
+same_in_some : {A : Type 0} (x y : A) → Some x ≡ Some y → x ≡ y
+same_in_some x y e = cc
+
+-- what clap finds in words that it takes is their command line
+pub is_command_line : (words : List Text) → AllByRecursion IsUtf8 words → fault_of form words ≡ [] → (command : Command) (files : List Text)
+    → command_in (matches_of form words) ≡ Some command → files_in (matches_of form words) ≡ Some files → IsCommandLine words command files
+is_command_line words utf8 fits command files command_is files_is =
+    let found = are_found words utf8 fits in
+    let named = is_name found.command command (sym (ap (option_and_then command_named) found.finds.command_is) ∙ command_is) in
+    let same = same_in_some found.files files (sym found.finds.files_are ∙ files_is) in
+    record {
+      arguments = subst (λ (all : List Text). WithoutDashes words (name_of command ∷ all)) same
+          (subst (λ (name : Text). WithoutDashes words (name ∷ found.files)) named found.parts);
+      some = subst (λ (all : List Text). 0 < length all) same found.some;
+    }
+
+-- clap takes a command line, and finds its command and its files
+pub record IsAccepted (words : List Text) (command : Command) (files : List Text) : Type 0 where
+  pub fits : fault_of form words ≡ []
+  pub command_is : command_in (matches_of form words) ≡ Some command
+  pub files_are : files_in (matches_of form words) ≡ Some files
+
+pub is_accepted : (words : List Text) (command : Command) (files : List Text) → length words ≤ usize_max → IsCommandLine words command files
+    → IsAccepted words command files
+is_accepted words command files few line =
+    let read = is_read words (name_of command) files line.arguments line.some few in
+    record {
+      fits = read.fits;
+      command_is = ap (option_and_then command_named) read.finds.command_is ∙ has_name command;
+      files_are = read.finds.files_are;
+    }

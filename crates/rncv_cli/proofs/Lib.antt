@@ -1,0 +1,7 @@
+mod Beginning
+mod CommandLine
+mod CommandLineExamples
+mod FailedFlush
+mod FormWalk
+mod Matches
+mod WordKinds

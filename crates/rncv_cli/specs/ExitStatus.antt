@@ -1,0 +1,18 @@
+-- The exit status of the program.
+use Rattle.std.specs.Prelude.{ℕ, Result, Ok, Err}
+use Rattle.rng_run.specs.declared.answer.Status.{Status}
+use Rattle.rng_run.specs.declared.answer.Status.TheVariants.{Good, Invalid, Malformed, Refused}
+use Rattle.rncv_cli.specs.declared.fault.Fault.{Fault}
+use Rattle.rncv_cli.specs.declared.fault.Fault.TheVariants.{Memory, Read, Write, File, Usage}
+
+-- by the status where a run found an answer, else by the fault
+abbrev pub exit_status_of : Result Status Fault → ℕ
+exit_status_of (Ok Good) = 0
+exit_status_of (Ok Invalid) = 1
+exit_status_of (Ok Malformed) = 2
+exit_status_of (Ok Refused) = 3
+exit_status_of (Err Memory) = 4
+exit_status_of (Err Read) = 4
+exit_status_of (Err Write) = 4
+exit_status_of (Err (File name)) = 4
+exit_status_of (Err Usage) = 5

@@ -1,0 +1,24 @@
+// The exit status of the program.
+ghost use Rattle.std.specs.Prelude.{◌≡◌};
+ghost use Rattle.std.specs.Process.{exit_status};
+ghost use Rattle.rncv_cli.specs.ExitStatus.{exit_status_of};
+
+use crate::fault::Fault;
+use rng_run::Status;
+use std::process::ExitCode;
+
+/// The exit status: 0 to 3 by the status of a run that found an answer, 5 where the words are no command line of the program,
+/// else 4. Takes no memory.
+pub fn exit_of(answer: &Result<Status, Fault>) -> ExitCode
+    ensures { exit_status result ≡ exit_status_of answer.now }
+{
+    let status: u8 = match answer {
+        Ok(Status::Good) => 0,
+        Ok(Status::Invalid) => 1,
+        Ok(Status::Malformed) => 2,
+        Ok(Status::Refused) => 3,
+        Err(Fault::Usage) => 5,
+        Err(Fault::Memory | Fault::Read | Fault::Write | Fault::File(_)) => 4,
+    };
+    ExitCode::from(status)
+}

@@ -1,0 +1,65 @@
+// Reads the files that the command line names.
+ghost use Rattle.std.specs.Prelude.{◌≡◌, ◌≢◌, ◌≤◌, take, length, IfOk, IfErr, IfSome};
+ghost use Rattle.std.specs.IoError.{error_kind};
+ghost use Rattle.rncv_cli.specs.Answering.{AreRead, read_limit};
+ghost use Rattle.rncv_cli.specs.Faults.{IsUnreadable};
+
+use crate::fault::{Fault, is_want_of_memory};
+use std::alloc::Global;
+use std::io::{ErrorKind, Read};
+use std::rt::Files;
+use std::{fs, io};
+
+/// At most this many bytes of a file are read: one more than a file of a schema may have.
+const READ_LIMIT: usize = 1_048_577;
+
+/// Reads the files of these names, in order, and answers each name with the beginning of its file: at most 1,048,577 bytes.
+///
+/// The first file that cannot be read is answered as `File`, and want of memory as `Memory`.
+pub fn read_files<R: Files + AllocGlobal>(
+    rt: &R,
+    names: Vec<String>,
+) -> Result<Vec<(String, Vec<u8>)>, Fault>
+    ensures read { IfOk result (λ files. AreRead names.items files.items) }
+    ensures fault { IfErr result (IsUnreadable names.items) }
+{
+    let mut files = Vec::new(rt.alloc());
+    for name in names {
+        match read_file(rt, name.as_str()) {
+            Ok(bytes) => files.push((name, bytes)).map_err(|_| Fault::Memory)?,
+            Err(error) => return Err(fault_of(&error, name)),
+        }
+    }
+    Ok(files)
+}
+
+/// Why there are no bytes of the file of this name: `Memory` where the call failed for want of memory, else `File`.
+fn fault_of(error: &io::Error, name: String) -> Fault
+    ensures memory { error_kind error.now ≡ ErrorKind.OutOfMemory → result ≡ Fault.Memory }
+    ensures file { error_kind error.now ≢ ErrorKind.OutOfMemory → result ≡ Fault.File name }
+{
+    if is_want_of_memory(error) {
+        return Fault::Memory;
+    }
+    Fault::File(name)
+}
+
+/// The beginning of the file of this name.
+fn read_file<R: Files + AllocGlobal>(rt: &R, name: &str) -> io::Result<Vec<u8>>
+    ensures { IfOk result (λ bytes. length bytes.items ≤ read_limit) }
+{
+    let file = fs::open(rt, name)?;
+    beginning_of(rt.alloc(), file)
+}
+
+/// As many bytes of a reader as are read of a file.
+fn beginning_of<T: Read + Drop>(alloc: Global, reader: T) -> io::Result<Vec<u8>>
+    ensures bytes { IfOk result (λ bytes. IfSome (T.remaining reader) (λ all. bytes.items ≡ take read_limit all)) }
+    ensures within { IfOk result (λ bytes. length bytes.items ≤ read_limit) }
+{
+    let mut bytes = Vec::new(alloc);
+    reader.take(READ_LIMIT as u64).read_to_end(&mut bytes)?;
+    // A reader of which nothing is known might give more than it is asked for.
+    bytes.truncate(READ_LIMIT);
+    Ok(bytes)
+}

@@ -1,0 +1,35 @@
+//! Prints for each row of `data/runs.txt` the exit status of a run of the program, what it wrote, and the line of its fault.
+//!
+//! The files that the words name lie in `data/` too.
+#![tactic(auto)]
+
+mod devices;
+mod environment;
+
+use case_rows::{Row, rows};
+use devices::{Sink, Source};
+use environment::Environment;
+use rncv_cli::{answer_command_line, exit_of};
+use std::io;
+use std::rt::Files;
+
+fn main(rt: HostRuntime) -> io::Result<()> {
+    for row in rows(&rt, "runs.txt")? {
+        print_run(&rt, &row)?;
+    }
+    Ok(())
+}
+
+/// Prints what a run over the devices and with the words of a row answers and writes.
+fn print_run(rt: &(impl Files + Print + AllocGlobal), row: &Row) -> io::Result<()> {
+    let device = row.text(0)?;
+    let source = Source::new(row.bytes(1)?, device);
+    let sink = Sink::new(rt.alloc(), device);
+    let env = (Environment(row), rt.alloc());
+    let (answer, sink) = answer_command_line(&env, rt, source, sink);
+    print!(rt; "{:?} {}", exit_of(&answer), sink.text()?)?;
+    match answer {
+        Ok(_) => Ok(()),
+        Err(fault) => println!(rt; "{fault}"),
+    }
+}
