@@ -26,24 +26,39 @@ fn pieces_of_any_length(rt: HostRuntime) -> Result<(), Fail> {
     Ok(())
 }
 
-/// A document of one element with so many lines of text, each of 1,024 bytes.
-fn long_document(alloc: Global, lines: u32) -> Result<Vec<u8>, AllocError> {
-    let mut document = Vec::from_slice(alloc, b"(a\n")?;
-    for _line in 0..lines {
+/// An element of this name with 800 lines of text, each of 1,024 bytes.
+fn push_long_text(document: &mut Vec<u8>, name: u8) -> Result<(), AllocError> {
+    document.extend_from_slice(&[b'(', name, b'\n'])?;
+    for _line in 0..800 {
         document.push(b'-')?;
         document.resize(document.len().saturating_add(1022), b'x')?;
         document.push(b'\n')?;
+    }
+    document.extend_from_slice(&[b')', name, b'\n'])
+}
+
+/// A document of more than 3 MiB.
+fn long_document(alloc: Global) -> Result<Vec<u8>, AllocError> {
+    let mut document = Vec::from_slice(alloc, b"(a\n")?;
+    for name in [b'b', b'c', b'd', b'e'] {
+        push_long_text(&mut document, name)?;
     }
     document.extend_from_slice(b")a\n")?;
     Ok(document)
 }
 
+const FOUR_TEXTS: &[u8] =
+    b"element a { element b { text }, element c { text }, element d { text }, element e { text } }";
+
+const LAST_IS_EMPTY: &[u8] =
+    b"element a { element b { text }, element c { text }, element d { text }, element e { empty } }";
+
 #[test]
 fn a_document_of_three_mebibytes(rt: HostRuntime) -> Result<(), Fail> {
-    let document = long_document(rt.alloc(), 3072)?;
+    let document = long_document(rt.alloc())?;
     for (schema, line) in [
-        (b"element a { text }".as_slice(), b"valid\n".as_slice()),
-        (b"element a { empty }", b"invalid line 3074\n"),
+        (FOUR_TEXTS, b"valid\n".as_slice()),
+        (LAST_IS_EMPTY, b"invalid line 3210\n"),
     ] {
         let bytes = document.as_slice();
         let got = run_well(rt.alloc(), Command::Valid, schema, bytes, 1000)?;
