@@ -1,3 +1,4 @@
+pub mod Lists
 pub mod Device
 pub mod Names
 pub mod Tree
@@ -10,6 +11,11 @@ pub mod Table
 pub mod Lines
 pub mod Pyx
 pub mod PyxFaults
+pub mod PyxLines
+pub mod PyxNamespaces
+pub mod PyxTrees
+pub mod PyxClauses
+pub mod PyxHeld
 pub mod Texts
 pub mod Unfold
 pub mod Step
@@ -18,3 +24,4 @@ pub mod Characters
 pub mod Blanks
 pub mod Types
 pub mod Answers
+pub mod Restrictions

@@ -1,0 +1,142 @@
+-- Small grammars in the simple syntax that break one restriction each.
+use Rattle.std.proofs.Common.{ℕ, List, [], ◌∷◌, codes, inl, refl}
+use Rattle.std.proofs.lemmas.Str.{IsUtf8-from_is_utf8}
+use Rattle.std.specs.Str.{chars, is_utf8}
+use Rattle.rng_model.specs.Lists.{here}
+use Rattle.rng_model.specs.Names.{Name, NameClass, any_name, name_is, Overlap}
+use Rattle.rng_model.specs.Tree as tree
+use Rattle.rng_model.specs.Tree.{Datatype, Simple, s_empty, s_text, s_leaf, s_attribute, s_list, s_data, s_data_except, s_value, s_one_or_more, s_joined}
+use Rattle.rng_model.specs.Table.{Grammar}
+use Rattle.rng_model.specs.Restrictions as restrictions
+use Rattle.rng_model.specs.Restrictions.{itself, in_left, inside_attribute, inside_list, inside_left, inside_one_or_more, unrepeated_itself, occurs_itself}
+use Rattle.rng_model.specs.Restrictions.{attribute_in_attribute, text_in_list, empty_in_except, text_in_start, any, interleaved, grouped, BreaksRestriction}
+use Rattle.rng_model.specs.Restrictions.{HasContent, of_both, of_text, of_value, AreGroupable, IsUnordered, ContentType, complex_content, simple_content}
+
+abbrev plain : List ℕ → Name
+plain local = record { ns = []; local = local }
+
+abbrev named : List ℕ → NameClass
+named local = name_is (plain local)
+
+-- one element, of this body, which is the start too
+abbrev one_element : Simple ℕ → Grammar
+one_element body = record { start = s_leaf 0; elements = (named (codes "a"), body) ∷ [] }
+
+abbrev token_type : Datatype
+token_type = record { lib = []; type_name = codes "token"; parameters = [] }
+
+abbrev attribute_x : Simple ℕ
+attribute_x = s_attribute (named (codes "x")) s_text
+
+x_twice : Overlap (named (codes "x")) (named (codes "x"))
+unfolding chars is_utf8 lib.Utf8.encode
+x_twice = (plain (codes "x"), (IsUtf8-from_is_utf8 [] refl, IsUtf8-from_is_utf8 (codes "x") refl), refl, refl)
+
+-- `element a { attribute x { attribute x { text } } }`
+s18 : BreaksRestriction (one_element (s_attribute (named (codes "x")) attribute_x)) 18
+s18 = restrictions.in_attribute_of (restrictions.a_body here) (record {
+  outer = s_attribute (named (codes "x")) attribute_x;
+  inner = attribute_x;
+  stands = itself;
+  is_attribute = refl;
+  inside = inside_attribute itself;
+  barred = attribute_in_attribute;
+})
+
+-- `element a { (attribute x { text }, text)+ }`
+s19 : BreaksRestriction (one_element (s_one_or_more (s_joined tree.group attribute_x s_text))) 19
+s19 = restrictions.in_one_or_more_of (restrictions.a_body here) (record {
+  repeated = s_one_or_more (s_joined tree.group attribute_x s_text);
+  between = s_joined tree.group attribute_x s_text;
+  inner = attribute_x;
+  stands = itself;
+  is_repeated = refl;
+  inside = inside_one_or_more itself;
+  is_between = inl refl;
+  deeper = inside_left itself;
+  is_attribute = refl;
+})
+
+-- `element a { list { text } }`
+s20 : BreaksRestriction (one_element (s_list s_text)) 20
+s20 = restrictions.in_list_of (restrictions.a_body here) (record {
+  outer = s_list s_text;
+  inner = s_text;
+  stands = itself;
+  is_list = refl;
+  inside = inside_list itself;
+  barred = text_in_list;
+})
+
+-- `element a { token - empty }`
+s21 : BreaksRestriction (one_element (s_data_except token_type s_empty)) 21
+s21 = restrictions.in_except_of (restrictions.a_body here) (record {
+  datatype = token_type;
+  except = s_empty;
+  inner = s_empty;
+  stands = itself;
+  inside = itself;
+  barred = empty_in_except;
+})
+
+-- `text`
+s22 : BreaksRestriction (record { start = s_text; elements = [] }) 22
+s22 = restrictions.in_start (record { inner = s_text; inside = itself; barred = text_in_start })
+
+-- `element a { text, "x" }`
+abbrev text_and_value : Simple ℕ
+text_and_value = s_joined tree.group s_text (s_value token_type (codes "x"))
+
+text_and_value_have_no_type : (t : ContentType) → HasContent text_and_value t → ⊥
+text_and_value_have_no_type t (of_both ordered of_text of_value groupable) = elim groupable [ ]
+
+s23 : BreaksRestriction (one_element text_and_value) 23
+s23 = restrictions.in_content here (record { not_whole = λ e. cc; no_type = text_and_value_have_no_type })
+
+-- `element a { attribute x { text }, attribute x { text } }`
+s24 : BreaksRestriction (one_element (s_joined tree.group attribute_x attribute_x)) 24
+s24 = restrictions.in_attribute_names (restrictions.a_body here) (record {
+  connector = tree.group;
+  left = attribute_x;
+  right = attribute_x;
+  stands = itself;
+  is_unordered = grouped;
+  first_class = named (codes "x");
+  first_body = s_text;
+  second_class = named (codes "x");
+  second_body = s_text;
+  occurs_left = occurs_itself;
+  occurs_right = occurs_itself;
+  overlap = x_twice;
+})
+
+-- `element a { attribute * { text } }`
+s25 : BreaksRestriction (one_element (s_attribute any_name s_text)) 25
+s25 = restrictions.in_wildcard (restrictions.a_body here) (record { class = any_name; body = s_text; stands = unrepeated_itself; wildcard = any })
+
+-- `element a { text & text }`
+s27 : BreaksRestriction (one_element (s_joined tree.interleave s_text s_text)) 27
+s27 = restrictions.in_text (restrictions.a_body here) (record {
+  left = s_text;
+  right = s_text;
+  stands = itself;
+  occurs_left = occurs_itself;
+  occurs_right = occurs_itself;
+})
+
+-- `element x { element x { .. } & element x { .. } }`, the element inside itself
+s26 : BreaksRestriction (record { start = s_leaf 0; elements = (named (codes "x"), s_joined tree.interleave (s_leaf 0) (s_leaf 0)) ∷ [] }) 26
+s26 = restrictions.in_element_names (restrictions.a_body here) (record {
+  left = s_leaf 0;
+  right = s_leaf 0;
+  stands = itself;
+  first = 0;
+  second = 0;
+  occurs_left = occurs_itself;
+  occurs_right = occurs_itself;
+  first_class = named (codes "x");
+  second_class = named (codes "x");
+  is_first = (s_joined tree.interleave (s_leaf 0) (s_leaf 0), refl);
+  is_second = (s_joined tree.interleave (s_leaf 0) (s_leaf 0), refl);
+  overlap = x_twice;
+})

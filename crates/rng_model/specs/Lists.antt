@@ -1,0 +1,12 @@
+-- What stands in a list.
+use Rattle.std.specs.Prelude.{List, ◌∷◌}
+
+-- the list has this
+pub data Among {A : Type 0} (x : A) : List A → Type 0 where
+  here : {xs : List A} → Among x (x ∷ xs)
+  there : {y : A} {xs : List A} → Among x xs → Among x (y ∷ xs)
+
+-- two of the list are one
+pub data Repeats {A : Type 0} : List A → Type 0 where
+  at_first : {x : A} {xs : List A} → Among x xs → Repeats (x ∷ xs)
+  later : {x : A} {xs : List A} → Repeats xs → Repeats (x ∷ xs)
