@@ -25,3 +25,8 @@ pub mod Blanks
 pub mod Types
 pub mod Answers
 pub mod Restrictions
+pub mod Values
+pub mod Facets
+pub mod Numerals
+pub mod Datatypes
+pub mod DatatypeTests

@@ -25,4 +25,4 @@ pub use grammar::SimpleGrammar;
 pub use name::{Name, NameClass};
 pub use pattern::Pattern;
 pub use simple::{ElementId, PatternId, Simple};
-pub use type_use::TypeUse;
+pub use type_use::{TypeUse, datatype_laws};

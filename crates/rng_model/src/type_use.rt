@@ -1,4 +1,8 @@
 // Datatypes as a schema names them.
+ghost use Rattle.std.specs.Prelude.{◌≡◌, ◌↔◌, ℕ, List, IsTrue};
+ghost use Rattle.rng_model.specs.Tree.{Datatype};
+ghost use Rattle.rng_model.specs.Datatypes.{BuiltInType, HasType, IsKnownDatatype, IsAllowed, AreEqual};
+ghost use Rattle.rng_model.specs.DatatypeTests.{text_tests};
 
 /// A use of a datatype: its library's uri, its name there, and its parameters in the order in which they are written.
 ///
@@ -9,3 +13,14 @@ pub struct TypeUse {
     pub name: String,
     pub params: Vec<(String, String)>,
 }
+
+/// The laws of the definitions of datatypes. It does nothing: its contract is what it is for.
+///
+/// A datatype has one type at most, and one where it is known. The tests of texts that other contracts cite
+/// (`text_tests`) answer what the definitions say.
+pub fn datatype_laws()
+    ensures one { (d : Datatype) (t u : BuiltInType) → HasType d t → HasType d u → t ≡ u }
+    ensures some { (d : Datatype) → IsKnownDatatype d → (t : BuiltInType) × HasType d t }
+    ensures allowed { (d : Datatype) (s : List ℕ) → IsTrue (text_tests.allows d s) ↔ IsAllowed d s }
+    ensures equal { (d : Datatype) (v w : List ℕ) → IsTrue (text_tests.equals d v w) ↔ AreEqual d v w }
+{}

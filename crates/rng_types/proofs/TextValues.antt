@@ -8,9 +8,9 @@ use Rattle.std.proofs.lemmas.Bool.{and_left, and_right, true≢false}
 use Rattle.std.proofs.lemmas.Slice.Eq.{bytes_eq-Decides}
 use Rattle.rng_model.specs.Blanks.{pieces, collapse}
 use Rattle.rng_model.specs.Characters.{is_name_char, is_colon, is_ncname}
-use Rattle.rng_types.specs.declared.lengths.Lengths.{Lengths}
-use Rattle.rng_types.specs.Lengths.{fits, is_nmtoken}
-use Rattle.rng_types.specs.Values.{Value, text_if, are_equal}
+use Rattle.rng_model.specs.Facets.{Lengths, fits}
+use Rattle.rng_model.specs.Datatypes.{is_nmtoken}
+use Rattle.rng_model.specs.Values.{Value, text_if, are_equal}
 use Rattle.rng_types.specs.Pieces.{only}
 use Rattle.rng_types.proofs.OnePiece.{collapse-only, collapse-other, all_fails, chars-spaced}
 

@@ -1,7 +1,4 @@
-pub mod Values
-pub mod Laws
-pub mod Lengths
-pub mod Numerals
 pub mod Pieces
-pub mod Table
-pub mod Schemas
+pub mod View
+pub mod Fault
+pub mod Finding

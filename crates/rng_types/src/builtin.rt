@@ -1,9 +1,12 @@
 // All datatypes, and which one a schema names.
-ghost use Rattle.std.specs.Prelude.{◌≡◌, is_some, map};
+ghost use Rattle.std.specs.Prelude.{◌≡◌, ◌↔◌, map};
 ghost use Rattle.rng_model.specs.Types.{parameter_of};
-ghost use Rattle.rng_types.specs.Values.{are_equal};
-ghost use Rattle.rng_types.specs.Laws as laws;
-ghost use Rattle.rng_types.specs.Table.{value_of, without_parameters, plain_type, xsd_type, find_type};
+ghost use Rattle.rng_model.specs.Datatypes.{BuiltInType, HasType, is_allowed_by, are_equal_by};
+ghost use Rattle.rng_model.specs.DatatypeTests.{plain_type_named, xsd_type_named, if_none};
+ghost use Rattle.rng_model.proofs.ValueLaws as laws;
+ghost use Rattle.rng_types.specs.View.{built_in_type_of, datatype_at, seen};
+ghost use Rattle.rng_types.specs.Fault.{HasFault};
+ghost use Rattle.rng_types.specs.Finding.{or_bad, chosen, find_type};
 
 use crate::datatype::Datatype;
 use crate::parameters::{bounds, lengths};
@@ -39,24 +42,32 @@ impl Builtin {
     /// The datatype of that library and name, with those parameters.
     ///
     /// The library that is built in has the empty uri, and the other is `http://www.w3.org/2001/XMLSchema-datatypes`.
-    /// Of several faults the first in the order of `TypeFault` is answered. It takes no memory, and reads the
-    /// parameters a few times.
-    #[tactic(auto, unfolding(crate::specs::Table::find_type))]
+    /// It answers a datatype exactly if there is one, with the bounds that the parameters write, and each fault exactly
+    /// where it holds: no two hold of one datatype. It takes no memory, and reads the parameters a few times.
     pub fn find(lib: &str, name: &str, params: &[(String, String)]) -> Result<Builtin, TypeFault>
-        ensures { result ≡ find_type lib.now name.now (map parameter_of params.now) }
+        ensures found { (t : BuiltInType) → (seen built_in_type_of result ≡ Ok t) ↔ HasType (datatype_at lib.now name.now params.now) t }
+        ensures fault { (f : TypeFault) → (result ≡ Err f) ↔ HasFault f (datatype_at lib.now name.now params.now) }
     {
-        match lib {
-            "" => plain(name, params),
-            "http://www.w3.org/2001/XMLSchema-datatypes" => xsd(name, params),
-            _ => Err(TypeFault::UnknownLibrary),
-        }
+        find_type(lib, name, params)
+    }
+}
+
+// the datatype, or the first fault
+#[tactic(auto, unfolding(crate::specs::Finding::find_type))]
+fn find_type(lib: &str, name: &str, params: &[(String, String)]) -> Result<Builtin, TypeFault>
+    ensures { seen built_in_type_of result ≡ find_type lib.now name.now (map parameter_of params.now) }
+{
+    match lib {
+        "" => plain(name, params),
+        "http://www.w3.org/2001/XMLSchema-datatypes" => xsd(name, params),
+        _ => Err(TypeFault::UnknownLibrary),
     }
 }
 
 // the datatype of the library that is built in
-#[tactic(auto, unfolding(crate::specs::Table::plain_type))]
+#[tactic(auto, unfolding(rng_model::specs::DatatypeTests::plain_type_named))]
 fn plain(name: &str, params: &[(String, String)]) -> Result<Builtin, TypeFault>
-    ensures { result ≡ plain_type name.now (map parameter_of params.now) }
+    ensures { seen built_in_type_of result ≡ chosen (plain_type_named name.now) (map parameter_of params.now) }
 {
     match name {
         "string" => without_parameters(Builtin::PlainString(PlainString), params),
@@ -66,9 +77,9 @@ fn plain(name: &str, params: &[(String, String)]) -> Result<Builtin, TypeFault>
 }
 
 // the datatype of the library of XML Schema
-#[tactic(auto, unfolding(crate::specs::Table::xsd_type))]
+#[tactic(auto, unfolding(rng_model::specs::DatatypeTests::xsd_type_named))]
 fn xsd(name: &str, params: &[(String, String)]) -> Result<Builtin, TypeFault>
-    ensures { result ≡ xsd_type name.now (map parameter_of params.now) }
+    ensures { seen built_in_type_of result ≡ chosen (xsd_type_named name.now) (map parameter_of params.now) }
 {
     match name {
         "string" => Ok(Builtin::XsdString(XsdString {
@@ -93,7 +104,7 @@ fn xsd(name: &str, params: &[(String, String)]) -> Result<Builtin, TypeFault>
 
 // the datatype, if there are no parameters
 fn without_parameters(found: Builtin, params: &[(String, String)]) -> Result<Builtin, TypeFault>
-    ensures { result ≡ without_parameters found (map parameter_of params.now) }
+    ensures { seen built_in_type_of result ≡ or_bad (if_none (built_in_type_of found) (map parameter_of params.now)) }
 {
     if params.is_empty() {
         Ok(found)
@@ -103,17 +114,17 @@ fn without_parameters(found: Builtin, params: &[(String, String)]) -> Result<Bui
 }
 
 impl Datatype for Builtin {
-    ghost allows = { λ d s. is_some (value_of d s) };
+    ghost allows = { λ d s. is_allowed_by (built_in_type_of d) s };
 
-    ghost equal = { λ d v w. are_equal (value_of d v) (value_of d w) };
+    ghost equal = { λ d v w. are_equal_by (built_in_type_of d) v w };
 
-    ghost equal_allowed = { λ d v w e. laws.equal_allowed (value_of d v) (value_of d w) e };
+    ghost equal_allowed = { λ d v w e. laws.equal_allowed (built_in_type_of d) v w e };
 
-    ghost equal_reflexive = { λ d v e. laws.equal_reflexive (value_of d v) e };
+    ghost equal_reflexive = { λ d v e. laws.equal_reflexive (built_in_type_of d) v e };
 
-    ghost equal_symmetric = { λ d v w e. laws.equal_symmetric (value_of d v) (value_of d w) e };
+    ghost equal_symmetric = { λ d v w e. laws.equal_symmetric (built_in_type_of d) v w e };
 
-    ghost equal_transitive = { λ d u v w e f. laws.equal_transitive (value_of d u) (value_of d v) (value_of d w) e f };
+    ghost equal_transitive = { λ d u v w e f. laws.equal_transitive (built_in_type_of d) u v w e f };
 
     fn allows(&self, text: &str) -> bool {
         match self {

@@ -1,6 +1,7 @@
 // Bounds on how many characters a text has.
 ghost use Rattle.std.specs.Prelude.{◌≡◌};
-ghost use Rattle.rng_types.specs.Lengths.{is_at_least, is_at_most, is_within};
+ghost use Rattle.rng_model.specs.Facets.{is_at_least, is_at_most, is_within};
+ghost use Rattle.rng_types.specs.View.{lengths_of};
 
 /// The least and the greatest number of characters of a text, where there is one.
 ///
@@ -14,7 +15,7 @@ pub struct Lengths {
 impl Lengths {
     /// Whether so many characters are within the bounds.
     pub fn allow(&self, len: usize) -> bool
-        ensures { result ≡ is_within self.now len }
+        ensures { result ≡ is_within (lengths_of self.now) len }
     {
         is_at_least(self.min, len) && is_at_most(self.max, len)
     }

@@ -4,12 +4,14 @@ ghost use Rattle.std.specs.Char.{is_ascii_digit};
 ghost use Rattle.std.specs.List.{list_all};
 ghost use Rattle.std.specs.Str.Parse.{without_leading_sign};
 ghost use Rattle.rng_model.specs.Blanks.{collapse};
-ghost use Rattle.rng_types.specs.Numerals.{is_decimal, is_no_less, is_no_more, is_inside, truth_of, integer_of, length_of};
+ghost use Rattle.rng_model.specs.Facets.{is_no_less, is_no_more, is_inside};
+ghost use Rattle.rng_model.specs.Numerals.{is_decimal, truth_of, integer_of, length_of};
+ghost use Rattle.rng_types.specs.View.{bounds_of};
 
 use crate::collapsed::only_piece;
 
 /// The greatest number of digits of an integer.
-const MOST_DIGITS: usize = 18;
+const MOST_DIGITS: usize = 38;
 
 /// The greatest number of digits of a length.
 const MOST_LENGTH_DIGITS: usize = 9;
@@ -26,7 +28,7 @@ pub struct Bounds {
 impl Bounds {
     /// Whether the number is within the bounds.
     pub fn allow(&self, n: i128) -> bool
-        ensures { result ≡ is_inside self.now n }
+        ensures { result ≡ is_inside (bounds_of self.now) n }
     {
         is_no_less(self.min, n) && is_no_more(self.max, n)
     }
@@ -61,7 +63,7 @@ pub(crate) fn truth(text: &str) -> Option<bool>
 }
 
 // the truth value that the text writes
-#[tactic(auto, unfolding(crate::specs::Numerals::truth_of))]
+#[tactic(auto, unfolding(rng_model::specs::Numerals::truth_of))]
 fn truth_in(text: &str) -> Option<bool>
     ensures { result ≡ truth_of text.now }
 {
@@ -83,7 +85,7 @@ pub(crate) fn integer(text: &str) -> Option<i128>
 }
 
 // the number that the text writes
-#[tactic(auto, unfolding(crate::specs::Numerals::integer_of))]
+#[tactic(auto, unfolding(rng_model::specs::Numerals::integer_of))]
 fn integer_in(numeral: &str) -> Option<i128>
     ensures { result ≡ integer_of numeral.now }
 {
@@ -95,7 +97,7 @@ fn integer_in(numeral: &str) -> Option<i128>
 }
 
 // the length that the text writes
-#[tactic(auto, unfolding(crate::specs::Numerals::length_of))]
+#[tactic(auto, unfolding(rng_model::specs::Numerals::length_of))]
 pub(crate) fn length(numeral: &str) -> Option<usize>
     ensures { result ≡ length_of numeral.now }
 {

@@ -2,17 +2,20 @@
 ghost use Rattle.std.specs.Prelude.{◌≡◌, map, option_copied};
 ghost use Rattle.std.specs.List.{list_all};
 ghost use Rattle.rng_model.specs.Types.{parameter_of};
-ghost use Rattle.rng_types.specs.Numerals.{length_of};
-ghost use Rattle.rng_types.specs.Table.{is_named, stands_once, value_named, read_named, bound_of, is_length, is_bound, takes_lengths, takes_bounds, lengths_of, bounds_of, or_bad};
+ghost use Rattle.rng_model.specs.Numerals.{length_of, bound_of};
+ghost use Rattle.rng_model.specs.DatatypeTests.{is_named, stands_once, value_named, read_named, is_length, is_bound};
+ghost use Rattle.rng_model.specs.DatatypeTests.{takes_lengths, takes_bounds, written_lengths, written_bounds};
+ghost use Rattle.rng_types.specs.View.{lengths_of, bounds_of, seen};
+ghost use Rattle.rng_types.specs.Finding.{or_bad};
 
 use crate::builtin::TypeFault;
 use crate::lengths::Lengths;
 use crate::numerals::{Bounds, integer, length};
 
 // the bounds on lengths that the parameters write
-#[tactic(auto, unfolding(crate::specs::Table::lengths_of))]
+#[tactic(auto, unfolding(rng_model::specs::DatatypeTests::written_lengths))]
 pub(crate) fn lengths(params: &[(String, String)]) -> Result<Lengths, TypeFault>
-    ensures { result ≡ or_bad (lengths_of (map parameter_of params.now)) }
+    ensures { seen lengths_of result ≡ or_bad (written_lengths (map parameter_of params.now)) }
 {
     if takes_lengths(params) {
         Ok(Lengths {
@@ -25,9 +28,9 @@ pub(crate) fn lengths(params: &[(String, String)]) -> Result<Lengths, TypeFault>
 }
 
 // the bounds on numbers that the parameters write
-#[tactic(auto, unfolding(crate::specs::Table::bounds_of))]
+#[tactic(auto, unfolding(rng_model::specs::DatatypeTests::written_bounds))]
 pub(crate) fn bounds(params: &[(String, String)]) -> Result<Bounds, TypeFault>
-    ensures { result ≡ or_bad (bounds_of (map parameter_of params.now)) }
+    ensures { seen bounds_of result ≡ or_bad (written_bounds (map parameter_of params.now)) }
 {
     if takes_bounds(params) {
         Ok(Bounds {

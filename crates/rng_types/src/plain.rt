@@ -1,8 +1,6 @@
 // The datatypes of the library that is built in.
-ghost use Rattle.std.specs.Prelude.{is_some};
-ghost use Rattle.rng_types.specs.Values.{are_equal};
-ghost use Rattle.rng_types.specs.Lengths.{plain_string_value, plain_token_value};
-ghost use Rattle.rng_types.specs.Laws as laws;
+ghost use Rattle.rng_model.specs.Datatypes.{plain_string, plain_token, is_allowed_by, are_equal_by};
+ghost use Rattle.rng_model.proofs.ValueLaws as laws;
 
 use crate::collapsed::is_same_collapsed;
 use crate::datatype::Datatype;
@@ -14,17 +12,17 @@ use crate::datatype::Datatype;
 pub struct PlainString;
 
 impl Datatype for PlainString {
-    ghost allows = { λ d s. is_some (plain_string_value s) };
+    ghost allows = { λ d s. is_allowed_by plain_string s };
 
-    ghost equal = { λ d v w. are_equal (plain_string_value v) (plain_string_value w) };
+    ghost equal = { λ d v w. are_equal_by plain_string v w };
 
-    ghost equal_allowed = { λ d v w e. laws.equal_allowed (plain_string_value v) (plain_string_value w) e };
+    ghost equal_allowed = { λ d v w e. laws.equal_allowed plain_string v w e };
 
-    ghost equal_reflexive = { λ d v e. laws.equal_reflexive (plain_string_value v) e };
+    ghost equal_reflexive = { λ d v e. laws.equal_reflexive plain_string v e };
 
-    ghost equal_symmetric = { λ d v w e. laws.equal_symmetric (plain_string_value v) (plain_string_value w) e };
+    ghost equal_symmetric = { λ d v w e. laws.equal_symmetric plain_string v w e };
 
-    ghost equal_transitive = { λ d u v w e f. laws.equal_transitive (plain_string_value u) (plain_string_value v) (plain_string_value w) e f };
+    ghost equal_transitive = { λ d u v w e f. laws.equal_transitive plain_string u v w e f };
 
     fn allows(&self, _text: &str) -> bool {
         true
@@ -42,17 +40,17 @@ impl Datatype for PlainString {
 pub struct PlainToken;
 
 impl Datatype for PlainToken {
-    ghost allows = { λ d s. is_some (plain_token_value s) };
+    ghost allows = { λ d s. is_allowed_by plain_token s };
 
-    ghost equal = { λ d v w. are_equal (plain_token_value v) (plain_token_value w) };
+    ghost equal = { λ d v w. are_equal_by plain_token v w };
 
-    ghost equal_allowed = { λ d v w e. laws.equal_allowed (plain_token_value v) (plain_token_value w) e };
+    ghost equal_allowed = { λ d v w e. laws.equal_allowed plain_token v w e };
 
-    ghost equal_reflexive = { λ d v e. laws.equal_reflexive (plain_token_value v) e };
+    ghost equal_reflexive = { λ d v e. laws.equal_reflexive plain_token v e };
 
-    ghost equal_symmetric = { λ d v w e. laws.equal_symmetric (plain_token_value v) (plain_token_value w) e };
+    ghost equal_symmetric = { λ d v w e. laws.equal_symmetric plain_token v w e };
 
-    ghost equal_transitive = { λ d u v w e f. laws.equal_transitive (plain_token_value u) (plain_token_value v) (plain_token_value w) e f };
+    ghost equal_transitive = { λ d u v w e f. laws.equal_transitive plain_token u v w e f };
 
     fn allows(&self, _text: &str) -> bool {
         true

@@ -1,10 +1,9 @@
 // The datatypes of XML Schema whose values are texts.
-ghost use Rattle.std.specs.Prelude.{◌≡◌, is_some};
+ghost use Rattle.std.specs.Prelude.{◌≡◌};
 ghost use Rattle.std.specs.Str.{chars};
-ghost use Rattle.rng_model.specs.Blanks.{collapse};
-ghost use Rattle.rng_types.specs.Values.{are_equal};
-ghost use Rattle.rng_types.specs.Lengths.{is_nmtoken, string_value, token_value, ncname_value, nmtoken_value};
-ghost use Rattle.rng_types.specs.Laws as laws;
+ghost use Rattle.rng_model.specs.Datatypes.{xsd_string, xsd_token, xsd_ncname, xsd_nmtoken, is_nmtoken, is_allowed_by, are_equal_by};
+ghost use Rattle.rng_model.proofs.ValueLaws as laws;
+ghost use Rattle.rng_types.specs.View.{lengths_of};
 
 use crate::collapsed::{char_count, collapsed_char_count, is_same_collapsed, only_piece};
 use crate::datatype::Datatype;
@@ -20,17 +19,17 @@ pub struct XsdString {
 }
 
 impl Datatype for XsdString {
-    ghost allows = { λ d s. is_some (string_value d.lengths s) };
+    ghost allows = { λ d s. is_allowed_by (xsd_string (lengths_of d.lengths)) s };
 
-    ghost equal = { λ d v w. are_equal (string_value d.lengths v) (string_value d.lengths w) };
+    ghost equal = { λ d v w. are_equal_by (xsd_string (lengths_of d.lengths)) v w };
 
-    ghost equal_allowed = { λ d v w e. laws.equal_allowed (string_value d.lengths v) (string_value d.lengths w) e };
+    ghost equal_allowed = { λ d v w e. laws.equal_allowed (xsd_string (lengths_of d.lengths)) v w e };
 
-    ghost equal_reflexive = { λ d v e. laws.equal_reflexive (string_value d.lengths v) e };
+    ghost equal_reflexive = { λ d v e. laws.equal_reflexive (xsd_string (lengths_of d.lengths)) v e };
 
-    ghost equal_symmetric = { λ d v w e. laws.equal_symmetric (string_value d.lengths v) (string_value d.lengths w) e };
+    ghost equal_symmetric = { λ d v w e. laws.equal_symmetric (xsd_string (lengths_of d.lengths)) v w e };
 
-    ghost equal_transitive = { λ d u v w e f. laws.equal_transitive (string_value d.lengths u) (string_value d.lengths v) (string_value d.lengths w) e f };
+    ghost equal_transitive = { λ d u v w e f. laws.equal_transitive (xsd_string (lengths_of d.lengths)) u v w e f };
 
     fn allows(&self, text: &str) -> bool {
         self.lengths.allow(char_count(text))
@@ -51,17 +50,17 @@ pub struct XsdToken {
 }
 
 impl Datatype for XsdToken {
-    ghost allows = { λ d s. is_some (token_value d.lengths s) };
+    ghost allows = { λ d s. is_allowed_by (xsd_token (lengths_of d.lengths)) s };
 
-    ghost equal = { λ d v w. are_equal (token_value d.lengths v) (token_value d.lengths w) };
+    ghost equal = { λ d v w. are_equal_by (xsd_token (lengths_of d.lengths)) v w };
 
-    ghost equal_allowed = { λ d v w e. laws.equal_allowed (token_value d.lengths v) (token_value d.lengths w) e };
+    ghost equal_allowed = { λ d v w e. laws.equal_allowed (xsd_token (lengths_of d.lengths)) v w e };
 
-    ghost equal_reflexive = { λ d v e. laws.equal_reflexive (token_value d.lengths v) e };
+    ghost equal_reflexive = { λ d v e. laws.equal_reflexive (xsd_token (lengths_of d.lengths)) v e };
 
-    ghost equal_symmetric = { λ d v w e. laws.equal_symmetric (token_value d.lengths v) (token_value d.lengths w) e };
+    ghost equal_symmetric = { λ d v w e. laws.equal_symmetric (xsd_token (lengths_of d.lengths)) v w e };
 
-    ghost equal_transitive = { λ d u v w e f. laws.equal_transitive (token_value d.lengths u) (token_value d.lengths v) (token_value d.lengths w) e f };
+    ghost equal_transitive = { λ d u v w e f. laws.equal_transitive (xsd_token (lengths_of d.lengths)) u v w e f };
 
     fn allows(&self, text: &str) -> bool {
         self.lengths.allow(collapsed_char_count(text))
@@ -82,17 +81,17 @@ pub struct NcName {
 }
 
 impl Datatype for NcName {
-    ghost allows = { λ d s. is_some (ncname_value d.lengths s) };
+    ghost allows = { λ d s. is_allowed_by (xsd_ncname (lengths_of d.lengths)) s };
 
-    ghost equal = { λ d v w. are_equal (ncname_value d.lengths v) (ncname_value d.lengths w) };
+    ghost equal = { λ d v w. are_equal_by (xsd_ncname (lengths_of d.lengths)) v w };
 
-    ghost equal_allowed = { λ d v w e. laws.equal_allowed (ncname_value d.lengths v) (ncname_value d.lengths w) e };
+    ghost equal_allowed = { λ d v w e. laws.equal_allowed (xsd_ncname (lengths_of d.lengths)) v w e };
 
-    ghost equal_reflexive = { λ d v e. laws.equal_reflexive (ncname_value d.lengths v) e };
+    ghost equal_reflexive = { λ d v e. laws.equal_reflexive (xsd_ncname (lengths_of d.lengths)) v e };
 
-    ghost equal_symmetric = { λ d v w e. laws.equal_symmetric (ncname_value d.lengths v) (ncname_value d.lengths w) e };
+    ghost equal_symmetric = { λ d v w e. laws.equal_symmetric (xsd_ncname (lengths_of d.lengths)) v w e };
 
-    ghost equal_transitive = { λ d u v w e f. laws.equal_transitive (ncname_value d.lengths u) (ncname_value d.lengths v) (ncname_value d.lengths w) e f };
+    ghost equal_transitive = { λ d u v w e f. laws.equal_transitive (xsd_ncname (lengths_of d.lengths)) u v w e f };
 
     fn allows(&self, text: &str) -> bool {
         match only_piece(text) {
@@ -116,17 +115,17 @@ pub struct NmToken {
 }
 
 impl Datatype for NmToken {
-    ghost allows = { λ d s. is_some (nmtoken_value d.lengths s) };
+    ghost allows = { λ d s. is_allowed_by (xsd_nmtoken (lengths_of d.lengths)) s };
 
-    ghost equal = { λ d v w. are_equal (nmtoken_value d.lengths v) (nmtoken_value d.lengths w) };
+    ghost equal = { λ d v w. are_equal_by (xsd_nmtoken (lengths_of d.lengths)) v w };
 
-    ghost equal_allowed = { λ d v w e. laws.equal_allowed (nmtoken_value d.lengths v) (nmtoken_value d.lengths w) e };
+    ghost equal_allowed = { λ d v w e. laws.equal_allowed (xsd_nmtoken (lengths_of d.lengths)) v w e };
 
-    ghost equal_reflexive = { λ d v e. laws.equal_reflexive (nmtoken_value d.lengths v) e };
+    ghost equal_reflexive = { λ d v e. laws.equal_reflexive (xsd_nmtoken (lengths_of d.lengths)) v e };
 
-    ghost equal_symmetric = { λ d v w e. laws.equal_symmetric (nmtoken_value d.lengths v) (nmtoken_value d.lengths w) e };
+    ghost equal_symmetric = { λ d v w e. laws.equal_symmetric (xsd_nmtoken (lengths_of d.lengths)) v w e };
 
-    ghost equal_transitive = { λ d u v w e f. laws.equal_transitive (nmtoken_value d.lengths u) (nmtoken_value d.lengths v) (nmtoken_value d.lengths w) e f };
+    ghost equal_transitive = { λ d u v w e f. laws.equal_transitive (xsd_nmtoken (lengths_of d.lengths)) u v w e f };
 
     fn allows(&self, text: &str) -> bool {
         match only_piece(text) {

@@ -1,8 +1,7 @@
 // The datatypes of XML Schema whose values are truth values and numbers.
-ghost use Rattle.std.specs.Prelude.{is_some};
-ghost use Rattle.rng_types.specs.Values.{are_equal};
-ghost use Rattle.rng_types.specs.Numerals.{boolean_value, integer_value};
-ghost use Rattle.rng_types.specs.Laws as laws;
+ghost use Rattle.rng_model.specs.Datatypes.{xsd_boolean, xsd_integer, is_allowed_by, are_equal_by};
+ghost use Rattle.rng_model.proofs.ValueLaws as laws;
+ghost use Rattle.rng_types.specs.View.{bounds_of};
 
 use crate::datatype::Datatype;
 use crate::numerals::{Bounds, integer, truth};
@@ -14,17 +13,17 @@ use crate::numerals::{Bounds, integer, truth};
 pub struct Boolean;
 
 impl Datatype for Boolean {
-    ghost allows = { λ d s. is_some (boolean_value s) };
+    ghost allows = { λ d s. is_allowed_by xsd_boolean s };
 
-    ghost equal = { λ d v w. are_equal (boolean_value v) (boolean_value w) };
+    ghost equal = { λ d v w. are_equal_by xsd_boolean v w };
 
-    ghost equal_allowed = { λ d v w e. laws.equal_allowed (boolean_value v) (boolean_value w) e };
+    ghost equal_allowed = { λ d v w e. laws.equal_allowed xsd_boolean v w e };
 
-    ghost equal_reflexive = { λ d v e. laws.equal_reflexive (boolean_value v) e };
+    ghost equal_reflexive = { λ d v e. laws.equal_reflexive xsd_boolean v e };
 
-    ghost equal_symmetric = { λ d v w e. laws.equal_symmetric (boolean_value v) (boolean_value w) e };
+    ghost equal_symmetric = { λ d v w e. laws.equal_symmetric xsd_boolean v w e };
 
-    ghost equal_transitive = { λ d u v w e f. laws.equal_transitive (boolean_value u) (boolean_value v) (boolean_value w) e f };
+    ghost equal_transitive = { λ d u v w e f. laws.equal_transitive xsd_boolean u v w e f };
 
     fn allows(&self, text: &str) -> bool {
         truth(text).is_some()
@@ -38,7 +37,7 @@ impl Datatype for Boolean {
     }
 }
 
-/// `integer`: a sign, which may be left out, and 1 to 18 digits, with blanks around them or not, within the bounds.
+/// `integer`: a sign, which may be left out, and 1 to 38 digits, with blanks around them or not, within the bounds.
 /// Texts are equal that write the same number.
 ///
 /// XML Schema Part 2, section 3.3.13, whose numerals have any number of digits.
@@ -48,17 +47,17 @@ pub struct Integer {
 }
 
 impl Datatype for Integer {
-    ghost allows = { λ d s. is_some (integer_value d.bounds s) };
+    ghost allows = { λ d s. is_allowed_by (xsd_integer (bounds_of d.bounds)) s };
 
-    ghost equal = { λ d v w. are_equal (integer_value d.bounds v) (integer_value d.bounds w) };
+    ghost equal = { λ d v w. are_equal_by (xsd_integer (bounds_of d.bounds)) v w };
 
-    ghost equal_allowed = { λ d v w e. laws.equal_allowed (integer_value d.bounds v) (integer_value d.bounds w) e };
+    ghost equal_allowed = { λ d v w e. laws.equal_allowed (xsd_integer (bounds_of d.bounds)) v w e };
 
-    ghost equal_reflexive = { λ d v e. laws.equal_reflexive (integer_value d.bounds v) e };
+    ghost equal_reflexive = { λ d v e. laws.equal_reflexive (xsd_integer (bounds_of d.bounds)) v e };
 
-    ghost equal_symmetric = { λ d v w e. laws.equal_symmetric (integer_value d.bounds v) (integer_value d.bounds w) e };
+    ghost equal_symmetric = { λ d v w e. laws.equal_symmetric (xsd_integer (bounds_of d.bounds)) v w e };
 
-    ghost equal_transitive = { λ d u v w e f. laws.equal_transitive (integer_value d.bounds u) (integer_value d.bounds v) (integer_value d.bounds w) e f };
+    ghost equal_transitive = { λ d u v w e f. laws.equal_transitive (xsd_integer (bounds_of d.bounds)) u v w e f };
 
     fn allows(&self, text: &str) -> bool {
         match integer(text) {

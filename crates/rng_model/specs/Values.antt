@@ -21,7 +21,7 @@ same_value (number m) (text w) = false
 same_value (number m) (truth b) = false
 same_value (number m) (number n) = int_eq m n
 
--- of two texts, by what they stand for
+-- of two texts, by what they stand for: both stand for something, and that is one value
 abbrev pub are_equal : Option Value → Option Value → Bool
 are_equal None b = false
 are_equal (Some a) None = false

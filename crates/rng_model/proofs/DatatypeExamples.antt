@@ -1,0 +1,136 @@
+-- Worked examples of datatypes, which the checker computes.
+use Rattle.std.proofs.Common.{codes, pos, negsuc, ◌≡◌, refl, inl, inr, ℕ, List, [], ◌∷◌, true, false, Some, None}
+use Rattle.std.specs.Str.{chars}
+use Rattle.rng_model.specs.Blanks.{collapse, pieces}
+use Rattle.rng_model.specs.Tree.{Datatype}
+use Rattle.rng_model.specs.Facets.{no_lengths, no_bounds}
+use Rattle.rng_model.specs.Numerals.{integer_of, length_of, truth_of}
+use Rattle.rng_model.specs.Datatypes.{plain_string, plain_token, xsd_string, xsd_token, xsd_ncname, xsd_nmtoken, xsd_boolean, xsd_integer}
+use Rattle.rng_model.specs.Datatypes.{xsd_uri, Parameter, is_allowed_by, are_equal_by, string_is, boolean_is}
+use Rattle.rng_model.specs.Datatypes.{HasType, HasUnknownLibrary, HasUnknownType, HasBadParameters}
+use Rattle.rng_model.proofs.DatatypeTests.{library_is, differs, no_type, not_known, type_named-complete, type_of-sound}
+use Rattle.rng_model.specs.DatatypeTests.{type_of, plain_type_named, xsd_type_named, type_named, written_lengths, written_bounds}
+
+-- 37 zeros and `7` write the number that `7` writes; `-` and 38 nines are allowed, 39 digits are not
+pub seven : are_equal_by (xsd_integer no_bounds) (codes "00000000000000000000000000000000000007") (codes "7") ≡ true
+unfolding collapse pieces integer_of
+seven = refl
+
+pub thirty_eight_nines : is_allowed_by (xsd_integer no_bounds) (codes "-99999999999999999999999999999999999999") ≡ true
+unfolding collapse pieces integer_of
+thirty_eight_nines = refl
+
+pub thirty_nine_digits : is_allowed_by (xsd_integer no_bounds) (codes "000000000000000000000000000000000000007") ≡ false
+unfolding collapse pieces integer_of
+thirty_nine_digits = refl
+
+-- the sign of nothing, two signs and a blank inside are no integer
+pub sign_alone : is_allowed_by (xsd_integer no_bounds) (codes "+") ≡ false
+unfolding collapse pieces integer_of
+sign_alone = refl
+
+pub two_signs : is_allowed_by (xsd_integer no_bounds) (codes "+-1") ≡ false
+unfolding collapse pieces integer_of
+two_signs = refl
+
+pub blank_inside : is_allowed_by (xsd_integer no_bounds) (codes "1 2") ≡ false
+unfolding collapse pieces integer_of
+blank_inside = refl
+
+-- `-0` and `+0` are one number; a bound may be reached
+pub zeros : are_equal_by (xsd_integer no_bounds) (codes "-0") (codes "+0") ≡ true
+unfolding collapse pieces integer_of
+zeros = refl
+
+pub at_the_bound : is_allowed_by (xsd_integer (record { least = Some (negsuc 0); greatest = Some (pos 12) })) (codes "12") ≡ true
+unfolding collapse pieces integer_of
+at_the_bound = refl
+
+pub above_the_bound : is_allowed_by (xsd_integer (record { least = Some (negsuc 0); greatest = Some (pos 12) })) (codes "13") ≡ false
+unfolding collapse pieces integer_of
+above_the_bound = refl
+
+-- `1` and ` true ` are one truth value, `TRUE` is none
+pub truths : are_equal_by xsd_boolean (codes " true ") (codes "1") ≡ true
+unfolding collapse pieces truth_of
+truths = refl
+
+pub capitals : is_allowed_by xsd_boolean (codes "TRUE") ≡ false
+unfolding collapse pieces truth_of
+capitals = refl
+
+-- a colon stands in an NMTOKEN and in no NCName
+pub colon_in_nmtoken : is_allowed_by (xsd_nmtoken no_lengths) (codes "a:b") ≡ true
+unfolding collapse pieces chars
+colon_in_nmtoken = refl
+
+pub colon_in_ncname : is_allowed_by (xsd_ncname no_lengths) (codes "a:b") ≡ false
+unfolding collapse pieces chars
+colon_in_ncname = refl
+
+-- lengths count characters, and those of the collapsed text: ` é ` has one
+pub one_character : is_allowed_by (xsd_token (record { least = None; greatest = Some 1 })) (32 ∷ 0xC3 ∷ 0xA9 ∷ 32 ∷ []) ≡ true
+unfolding collapse pieces chars
+one_character = refl
+
+-- a lower bound above the upper one allows nothing
+pub crossed : is_allowed_by (xsd_token (record { least = Some 2; greatest = Some 1 })) (codes "ab") ≡ false
+unfolding collapse pieces chars
+crossed = refl
+
+-- `string` keeps blanks, `token` does not
+pub exact : are_equal_by plain_string (codes "a  b") (codes "a b") ≡ false
+exact = refl
+
+pub collapsed : are_equal_by plain_token (codes "a  b") (codes " a b ") ≡ true
+unfolding collapse pieces
+collapsed = refl
+
+-- a bound is a text that `integer` allows, a length is digits alone, and neither stands twice
+abbrev xsd : List ℕ → List Parameter → Datatype
+xsd name ps = record { lib = xsd_uri; type_name = name; parameters = ps }
+
+pub bound_with_blanks : type_of (xsd (codes "integer") ((codes "minInclusive", codes " +1 ") ∷ []))
+    ≡ Some (xsd_integer (record { least = Some (pos 1); greatest = None }))
+unfolding type_named xsd_type_named written_bounds collapse pieces integer_of
+bound_with_blanks = refl
+
+pub length_with_sign : type_of (xsd (codes "string") ((codes "maxLength", codes "+1") ∷ [])) ≡ None
+unfolding type_named xsd_type_named written_lengths length_of
+length_with_sign = refl
+
+pub length_of_ten_digits : type_of (xsd (codes "string") ((codes "maxLength", codes "0000000001") ∷ [])) ≡ None
+unfolding type_named xsd_type_named written_lengths length_of
+length_of_ten_digits = refl
+
+pub bound_twice : type_of (xsd (codes "integer") ((codes "minInclusive", codes "1") ∷ (codes "minInclusive", codes "1") ∷ [])) ≡ None
+unfolding type_named xsd_type_named written_bounds collapse pieces integer_of
+bound_twice = refl
+
+-- a literal without a type is a `token`, which takes no parameters
+pub parameter_of_token : type_of (record { lib = []; type_name = codes "token"; parameters = (codes "minLength", codes "1") ∷ [] }) ≡ None
+unfolding type_named plain_type_named
+parameter_of_token = refl
+
+-- ---- by the definitions
+
+-- the bound that the parameter writes is the type's
+pub integer_from_one : HasType (xsd (codes "integer") ((codes "minInclusive", codes " +1 ") ∷ []))
+    (xsd_integer (record { least = Some (pos 1); greatest = None }))
+integer_from_one = type_of-sound _ _ bound_with_blanks
+
+-- no library has the uri `u`, so that its types are not asked for
+pub library_unknown : (name : List ℕ) (ps : List Parameter) → HasUnknownLibrary (record { lib = codes "u"; type_name = name; parameters = ps })
+library_unknown name ps known =
+    elim (library_is known.2) [ inl is ↦ differs (codes "u") [] refl is | inr is ↦ differs (codes "u") xsd_uri refl is ]
+
+-- no type of this library is named `decimal`, so that its parameters are not asked for
+pub type_unknown : (ps : List Parameter) → HasUnknownType (xsd (codes "decimal") ps)
+unfolding type_named xsd_type_named
+type_unknown ps = ((codes "string", xsd_string no_lengths, string_is refl refl), λ known. no_type (type_named-complete known.1))
+
+-- `boolean` takes no length
+pub parameter_bad : HasBadParameters (xsd (codes "boolean") ((codes "minLength", codes "1") ∷ []))
+unfolding type_named xsd_type_named
+parameter_bad =
+    ((xsd_boolean, boolean_is refl refl), λ known. not_known (xsd (codes "boolean") ((codes "minLength", codes "1") ∷ [])) refl known)
