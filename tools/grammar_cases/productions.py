@@ -1,42 +1,51 @@
 """The productions of the compact syntax, and a program that tries them wherever they may begin."""
 
-# What stands between quotes is that keyword or sign; words in capitals are kinds of tokens.
+# What stands between quotes is that keyword or sign; words in capitals are kinds of tokens, OTHER any token that is no bracket.
 GRAMMAR = """
 file = declarations pattern | declarations contents
 declarations = | declaration declarations
 declaration = 'namespace' WORD '=' uri | 'default' 'namespace' '=' uri | 'default' 'namespace' WORD '=' uri | 'datatypes' WORD '=' literal
 uri = literal | 'inherit'
-pattern = particle | particle groups | particle interleaves | particle choices | typename '-' primary | typename parameters '-' primary
+pattern = particle | particle groups | particle interleaves | particle choices | dataexcept | annotation dataexcept
+dataexcept = typename '-' primary | typename parameters '-' primary
 groups = ',' particle | ',' particle groups
 interleaves = '&' particle | '&' particle interleaves
 choices = '|' particle | '|' particle choices
 particle = primary | primary '?' | primary '*' | primary '+'
-primary = 'element' class '{' pattern '}' | 'attribute' class '{' pattern '}' | 'list' '{' pattern '}' | 'mixed' '{' pattern '}'
-primary = IDENTIFIER | 'parent' IDENTIFIER | 'empty' | 'text' | 'notAllowed' | literal | typename literal | typename | typename parameters
-primary = 'external' literal | 'external' literal inherit | 'grammar' '{' contents '}' | '(' pattern ')'
+primary = bareprimary | annotation bareprimary
+bareprimary = 'element' class '{' pattern '}' | 'attribute' class '{' pattern '}' | 'list' '{' pattern '}' | 'mixed' '{' pattern '}'
+bareprimary = IDENTIFIER | 'parent' IDENTIFIER | 'empty' | 'text' | 'notAllowed' | literal | typename literal | typename | typename parameters
+bareprimary = 'external' literal | 'external' literal inherit | 'grammar' '{' contents '}' | '(' pattern ')'
 typename = CNAME | 'string' | 'token'
 parameters = '{' parameterlist '}'
-parameterlist = | parameter parameterlist
+parameterlist = | parameter parameterlist | annotation parameter parameterlist
 parameter = WORD '=' literal
 inherit = 'inherit' '=' WORD
 contents = | content contents
-content = start | define | 'div' '{' contents '}' | 'include' literal | 'include' literal inherit
-content = 'include' literal '{' overrides '}' | 'include' literal inherit '{' overrides '}'
+content = barecontent | annotation barecontent
+barecontent = start | define | 'div' '{' contents '}' | 'include' literal | 'include' literal inherit
+barecontent = 'include' literal '{' overrides '}' | 'include' literal inherit '{' overrides '}'
 overrides = | override overrides
-override = start | define | 'div' '{' overrides '}'
+override = bareoverride | annotation bareoverride
+bareoverride = start | define | 'div' '{' overrides '}'
 start = 'start' method pattern
 define = IDENTIFIER method pattern
 method = '=' | '|=' | '&='
-class = basic | basic classes | NSNAME '-' basic | '*' '-' basic
+class = basic | basic classes | classexcept | annotation classexcept
+classexcept = NSNAME '-' basic | '*' '-' basic
 classes = '|' basic | '|' basic classes
-basic = WORD | CNAME | NSNAME | '*' | '(' class ')'
+basic = barebasic | annotation barebasic
+barebasic = WORD | CNAME | NSNAME | '*' | '(' class ')'
 literal = SEGMENT | SEGMENT '~' literal
+annotation = '[' inannotation ']'
+inannotation = | annotation inannotation | OTHER inannotation
 """
 
 KEYWORDS = set(
     "attribute default datatypes div element empty external grammar include inherit list mixed namespace notAllowed parent start string text token".split()
 )
-SIGNS = set("= |= &= , | & ? * + - { } ( ) ~".split())
+SIGNS = set("= |= &= , | & ? * + - { } ( ) [ ] ~".split())
+BRACKETS = set("[ ] { } ( )".split())
 
 
 def read_productions():
@@ -80,6 +89,8 @@ def kind(word):
 def allows(symbol, word):
     if symbol[0] == "'":
         return word == symbol[1:-1]
+    if symbol == "OTHER":
+        return word not in BRACKETS
     return kind(word) == symbol or symbol == "WORD" and kind(word) in ("IDENTIFIER", "KEYWORD")
 
 

@@ -1,4 +1,4 @@
-"""Random sentences of the compact syntax, each with the tree that it is made with."""
+"""Random sentences of the compact syntax, each with the tree that it is made with. Annotations stand wherever one may, and leave the tree as it is."""
 import random
 
 import trees as t
@@ -15,11 +15,16 @@ XML = Prefix("xml", "xml", "lang", t.XML)
 XSD = Prefix("xsd", "xsd", "integer", t.XSD)
 
 
-class Sentence:
-    """The words of a sentence so far, and what its declarations declare."""
+# what an annotation may hold beside other annotations: names of other namespaces, and what means something elsewhere
+CONTENT = "x \\y a:documentation xsd:* 'a' \"\"\"b\"\"\" = |= &= , | & ? * + - ~ external include inherit namespace start text".split()
 
-    def __init__(self, seed):
+
+class Sentence:
+    """The words of a sentence so far, and what its declarations declare. One in so many places has an annotation, or none if that is 0."""
+
+    def __init__(self, seed, annotated=0):
         self.random, self.words = random.Random(seed), []
+        self.annotated, self.annotations = annotated, random.Random(seed)
         self.default, self.prefixes, self.libraries = None, [XML], [XSD]
 
     def one_in(self, bound):
@@ -33,6 +38,20 @@ class Sentence:
         word, says = self.random.choice(words)
         self.put(word)
         return says
+
+    def annotation(self):
+        """Puts an annotation, or none."""
+        if self.annotated and self.annotations.randrange(self.annotated) == 0:
+            self.brackets(2)
+
+    def brackets(self, depth):
+        self.put("[")
+        for _ in range(self.annotations.randrange(4)):
+            if depth and self.annotations.randrange(3) == 0:
+                self.brackets(depth - 1)
+            else:
+                self.put(self.annotations.choice(CONTENT))
+        self.put("]")
 
     def identifier(self):
         return self.either(("x", "x"), ("y", "y"), ("\\y", "y"), ("\\start", "start"))
@@ -109,6 +128,7 @@ class Sentence:
         return True, prefix.uri
 
     def basic(self, depth, default):
+        self.annotation()
         if depth == 0 or self.one_in(2):
             if self.one_in(3):
                 prefix = self.prefix()
@@ -132,6 +152,7 @@ class Sentence:
                     members.append(self.basic(depth, default))
                 return t.classes(*members)
             case 1:
+                self.annotation()
                 has_prefix, uri = self.wide()
                 self.put("-")
                 inner = self.basic(depth, default)
@@ -158,6 +179,7 @@ class Sentence:
         self.put("{")
         pairs = []
         for _ in range(self.random.randrange(3)):
+            self.annotation()
             says = self.word()
             self.put("=")
             pairs.append((says, self.literal()))
@@ -193,9 +215,13 @@ class Sentence:
             case _:
                 return self.either(("empty", t.EMPTY), ("text", t.TEXT), ("notAllowed", t.NOT_ALLOWED))
 
+    def annotated_atom(self):
+        self.annotation()
+        return self.atom()
+
     def enclosed(self, depth, opening, closing):
         self.put(opening)
-        body = self.pattern(depth - 1) if depth else self.atom()
+        body = self.pattern(depth - 1) if depth else self.annotated_atom()
         self.put(closing)
         return body
 
@@ -206,6 +232,7 @@ class Sentence:
         return inner
 
     def primary(self, depth):
+        self.annotation()
         if self.one_in(2):
             return self.atom()
         if self.one_in(8):
@@ -241,6 +268,7 @@ class Sentence:
                     members.append(self.particle(depth))
                 return joined(*members)
             case 3:
+                self.annotation()
                 type_name, parameters = self.type_name(), self.parameters()
                 self.put("-")
                 return t.data(type_name, *parameters, excepted=self.primary(depth))
@@ -250,6 +278,7 @@ class Sentence:
     # components
 
     def component(self, depth, is_override):
+        self.annotation()
         match self.random.randrange(6):
             case 0:
                 self.put("div")

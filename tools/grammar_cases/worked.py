@@ -78,6 +78,24 @@ PATTERNS = {
     "grammar { x = y }": t.grammar(t.define("x", "Plain", Y)),
     "( grammar { x = y } )": t.grammar(t.define("x", "Plain", Y)),
     "( ( grammar { x = y } ) )": t.grammar(t.define("x", "Plain", Y)),
+    # annotations leave no node, and nothing in them is judged or mentioned
+    '[ a:documentation [ "x" ] ] element a { [ b ] empty }': t.element(A, t.EMPTY),
+    '[ external "q.rnc" ] element a { empty }': t.element(A, t.EMPTY),
+    '[ p:q x "y" = , ~ ] element a { empty }': t.element(A, t.EMPTY),
+    "element [ x ] a { xsd:integer { [ x ] minInclusive = '1' } }": t.element(A, t.data(INTEGER, ("minInclusive", "1"))),
+    'element a { [ x ] string - "y" }': t.element(A, t.data(t.STRING, excepted=t.token("y"))),
+    "element [ x ] * - a { text }": t.element(t.any_except(A), t.TEXT),
+    "element [ x ] * - [ y ] ( [ z ] a | [ ] b ) { text }": t.element(t.any_except(t.classes(A, B)), t.TEXT),
+    "namespace p = 'u' attribute [ q:r ] p:* - [ ] a { text }": t.attribute(t.every_except("u", t.name("", "a")), t.TEXT),
+    "[ ] x": X,
+    "[ [ ] [ x [ ] y ] ] x": X,
+    "[ x ] ( [ y ] x )": X,
+    "[ x ] x , [ y ] y ? , ( [ z ] z )": t.group(X, t.optional(Y), Z),
+    "[ x ] string { [ y ] a = '1' [ ] b = '2' list = '3' } - [ z ] 'b'": t.data(
+        t.STRING, ("a", "1"), ("b", "2"), ("list", "3"), excepted=t.token("b")
+    ),
+    "[ namespace p = 'u' ] xsd:date { } - x": t.data(DATE, excepted=X),
+    " ".join([*["["] * 1_000, *["]"] * 1_000, "x"]): X,
     # declarations that break no rule
     'namespace xml = "http://www.w3.org/XML/1998/" ~ "namespace" element xml:a { empty }': t.element(t.name(t.XML, "a"), t.EMPTY),
     f'default namespace xml = "{t.XML}" empty': t.EMPTY,
@@ -117,6 +135,7 @@ EXTERNALS = {
     'default namespace p = "u" external "b" inherit = p': ("u", 6),
     'default namespace = "u" namespace p = inherit external "b" inherit = p': (None, 9),
     "( external 'b' inherit = xml )": (t.XML, 2),
+    '[ external "q" ] external "b"': (None, 5),
 }
 
 GRAMMARS = {
@@ -137,6 +156,12 @@ GRAMMARS = {
     ],
     'include "b"': [t.include(t.mention("b", None, 1))],
     "namespace p = 'u' include 'b' ~ 'c' inherit = p { }": [t.include(t.mention("bc", "u", 5))],
+    "[ x ] start = [ y ] text": [t.start("Plain", t.TEXT)],
+    "[ x ] a = empty": [t.define("a", "Plain", t.EMPTY)],
+    "[ x ] div { [ y ] start = text }": [t.div(t.start("Plain", t.TEXT))],
+    '[ x ] include "b" { [ y ] start = text }': [t.include(t.mention("b", None, 4), t.start("Plain", t.TEXT))],
+    '[ include "c" ] start = x [ y ] z = x [ ] y &= z': [t.start("Plain", X), t.define("z", "Plain", X), t.define("y", "Interleave", Z)],
+    "x = string [ b ] y = z": [t.define("x", "Plain", t.data(t.STRING)), t.define("y", "Plain", Z)],
     "include 'b' { div { start |= x } y = z }": [
         t.include(t.mention("b", None, 1), t.div(t.start("Choice", X)), t.define("y", "Plain", Z))
     ],
@@ -175,6 +200,36 @@ NO_SENTENCES = {
     "( x }": 3,
     'namespace p = "u" namespace p = "u" empty empty': 10,
     "element p:a { empty": 5,
+    # annotations where none may stand, that hold what none may, or that do not end
+    "element a { empty [ x ] }": 5,
+    "[ x ] [ y ] element a { empty }": 4,
+    "element a { [ [ ] empty }": 8,
+    "element a { empty ]": 5,
+    '[ x ] namespace p = "u" empty': 4,
+    "element a { [ { ] empty }": 5,
+    "[ ( ) ] x": 2,
+    "[ x } ] x": 3,
+    "[": 2,
+    "[ x ]": 4,
+    "]": 1,
+    "a [ x ] = empty": 2,
+    "x [ y ] | z": 2,
+    "x ? [ y ]": 3,
+    "x , [ y ] [ z ] x": 6,
+    "start = x [ y ]": 7,
+    "grammar { [ x ] }": 6,
+    "string { [ x ] }": 6,
+    "include 'b' { [ x ] include 'c' }": 7,
+    "namespace [ x ] p = 'u' x": 2,
+    "namespace p = [ x ] 'u' x": 4,
+    "datatypes [ x ] p = 'u' x": 2,
+    "parent [ x ] y": 2,
+    "string [ x ] 'a'": 2,
+    "list [ x ] { x }": 2,
+    "element a [ x ] { empty }": 3,
+    "element [ x ] { empty }": 5,
+    "element [ x ] [ y ] a { empty }": 5,
+    "xsd:date { a [ x ] = 'b' }": 4,
 }
 
 # files whose declarations or prefixes break a rule
@@ -228,6 +283,8 @@ NESTED = {
     " ".join(["("] * 128): "clause 6 at token 129",
     enclosed("(", "}", ")", 128): "clause 6 at token 129",
     " ".join([*[")"] * 129, *["("] * 129]): "clause 6 at token 1",
+    " ".join(["[", *["{"] * 129]): "clause 7",
+    " ".join(["["] * 1_000): "clause 6 at token 1001",
 }
 
 MANY = 1_000

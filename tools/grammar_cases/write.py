@@ -7,7 +7,7 @@ from productions import judged
 from sentences import Sentence
 from worked import cases
 
-OTHERS = "x \\start xml:lang xml:* 'a' element empty grammar include inherit namespace parent start string = , | * - { } ( ) ~".split()
+OTHERS = "x \\start xml:lang xml:* 'a' element empty grammar include inherit namespace parent start string = , | * - { } ( ) [ ] ~".split()
 
 
 def components_of(printed):
@@ -38,12 +38,13 @@ def row(text):
 
 
 def sentences(count):
-    """Random sentences with their printed trees, none twice."""
+    """Random sentences with their printed trees, none twice: without annotations, and half of them with annotations too."""
     made = {}
     for seed in range(count):
-        sentence = Sentence(seed)
-        tree = sentence.file(seed % 4 + 1)
-        made.setdefault(" ".join(sentence.words), tree)
+        for annotated in (0,) if seed % 2 else (0, 3):
+            sentence = Sentence(seed, annotated)
+            tree = sentence.file(seed % 4 + 1)
+            made.setdefault(" ".join(sentence.words), tree)
     return made
 
 
@@ -61,9 +62,9 @@ def beside(count):
     """Texts one token beside short random sentences, with what the productions say of them."""
     made, choice = {}, random.Random(0)
     for seed in range(count):
-        sentence = Sentence(1_000_000 + seed)
+        sentence = Sentence(1_000_000 + seed, seed % 2 and 4)
         sentence.file(2)
-        if len(sentence.words) <= 24:
+        if len(sentence.words) <= 28:
             for words in neighbors(sentence.words, choice):
                 made.setdefault(" ".join(words), judged(words))
     return made

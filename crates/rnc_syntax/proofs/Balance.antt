@@ -8,14 +8,15 @@ use Rattle.rng_model.specs.Tree.{Connector}
 use Rattle.rnc_text.specs.declared.token.Keyword.TheVariants as keywords
 use Rattle.rnc_text.specs.declared.token.Sign.{Sign}
 use Rattle.rnc_text.specs.declared.token.Sign.TheVariants.{Equal, BarEqual, AndEqual, Comma, Bar, And, Question, Star, Plus, Minus, OpenBrace, CloseBrace}
-use Rattle.rnc_text.specs.declared.token.Sign.TheVariants.{OpenParenthesis, CloseParenthesis, Tilde}
+use Rattle.rnc_text.specs.declared.token.Sign.TheVariants.{OpenParenthesis, CloseParenthesis, OpenBracket, CloseBracket, Tilde}
 use Rattle.rnc_syntax.specs.declared.syntax_tree.Method.{Method}
 use Rattle.rnc_syntax.specs.Lexeme.{Lexeme, keyword, identifier, cname, ns_name, segment, sign}
 use Rattle.rnc_syntax.specs.Syntax.{NameClass, DatatypeName, Pattern, Component, Uri, Declaration}
 use Rattle.rnc_syntax.specs.Grammar as grammar
 use Rattle.rnc_syntax.specs.Grammar.{word_of, type_of, method_of, connector_of, Setting, IsLiteral, AreParameters, MayBeParameters, MayInherit, IsClass}
 use Rattle.rnc_syntax.specs.Grammar.{AreMoreClasses, IsBasic, IsPattern, AreMore, IsParticle, IsPrimary, IsBraced, AreComponents, IsComponent, MayOverride}
-use Rattle.rnc_syntax.specs.Grammar.{IsUri, IsDeclaration, AreDeclarations}
+use Rattle.rnc_syntax.specs.Grammar.{is_bracket, IsAnnotationContent, MayBeAnnotation, IsBareBasic, IsBarePrimary, IsBareComponent, IsUri, IsDeclaration}
+use Rattle.rnc_syntax.specs.Grammar.{AreDeclarations}
 use Rattle.rnc_syntax.specs.Sentence.{is_opening, is_closing, openings, closings, NestsWithin}
 
 -- as many brackets are closed as are opened
@@ -178,6 +179,28 @@ plain_connector _ k e = absurd cc
 pub plain : (x : Lexeme) → is_opening x ≡ false → is_closing x ≡ false → Plain x
 plain x o c = record { no_opening = o; no_closing = c }
 
+plain_content : (x : Lexeme) → is_bracket x ≡ false → Plain x
+plain_content (sign OpenBracket) e = absurd cc
+plain_content (sign CloseBracket) e = absurd cc
+plain_content (sign OpenBrace) e = absurd cc
+plain_content (sign CloseBrace) e = absurd cc
+plain_content (sign OpenParenthesis) e = absurd cc
+plain_content (sign CloseParenthesis) e = absurd cc
+plain_content _ e = record { no_opening = refl; no_closing = refl }
+
+content_even : {ts : List Lexeme} → IsAnnotationContent ts → Balanced ts
+content_even (grammar.no_content e) = subst Balanced (sym e) refl
+content_even {ts} (grammar.and_token {a = a} {x = x} is p e) = plain_even x a ts (plain_content x is) e (content_even p)
+content_even {ts} (grammar.and_annotation {a = a} {b = b} p q e) =
+    plain_even (sign OpenBracket) (a ++ sign CloseBracket ∷ b) ts (plain _ refl refl) e
+    (join_even a (sign CloseBracket ∷ b) (a ++ sign CloseBracket ∷ b) refl (content_even p) (plain_even (sign CloseBracket) b (sign CloseBracket ∷ b)
+    (plain _ refl refl) refl (content_even q)))
+
+pub annotation_even : {ts : List Lexeme} → MayBeAnnotation ts → Balanced ts
+annotation_even (grammar.without_annotation e) = subst Balanced (sym e) refl
+annotation_even {ts} (grammar.with_annotation {a = a} p e) = plain_even (sign OpenBracket) (a ++ sign CloseBracket ∷ []) ts (plain _ refl refl) e
+    (join_even a (sign CloseBracket ∷ []) (a ++ sign CloseBracket ∷ []) refl (content_even p) refl)
+
 pub literal_even : {ts : List Lexeme} {v : List ℕ} → IsLiteral ts v → Balanced ts
 literal_even (grammar.one_segment e) = subst Balanced (sym e) refl
 literal_even {ts} (grammar.more_segments {a = a} {w = w} p e f) = plain_even (segment w) (sign Tilde ∷ a) ts (plain _ refl refl) e
@@ -185,9 +208,10 @@ literal_even {ts} (grammar.more_segments {a = a} {w = w} p e f) = plain_even (se
 
 pub parameters_even : {ts : List Lexeme} {ps : List (List ℕ × List ℕ)} → AreParameters ts ps → Balanced ts
 parameters_even (grammar.no_parameters e) = subst Balanced (sym e) refl
-parameters_even {ts} (grammar.and_parameter {a = a} {b = b} {x = x} {w = w} is p q e) =
-    plain_even x (sign Equal ∷ (a ++ b)) ts (plain_word x w is) e (plain_even (sign Equal) (a ++ b) (sign Equal ∷ (a ++ b)) (plain _ refl refl) refl
-    (join_even a b (a ++ b) refl (literal_even p) (parameters_even q)))
+parameters_even {ts} (grammar.and_parameter {n = n} {a = a} {b = b} {w = w} x may is p q e) =
+    join_even n (x ∷ sign Equal ∷ (a ++ b)) ts e (annotation_even may)
+    (plain_even x (sign Equal ∷ (a ++ b)) (x ∷ sign Equal ∷ (a ++ b)) (plain_word x w is) refl
+    (plain_even (sign Equal) (a ++ b) (sign Equal ∷ (a ++ b)) (plain _ refl refl) refl (join_even a b (a ++ b) refl (literal_even p) (parameters_even q))))
 
 pub may_parameters_even : {ts : List Lexeme} {ps : List (List ℕ × List ℕ)} → MayBeParameters ts ps → Balanced ts
 may_parameters_even (grammar.without_parameters e) = subst Balanced (sym e) refl
@@ -203,10 +227,12 @@ mutual
   pub class_even : {ts : List Lexeme} {c : NameClass} → IsClass ts c → Balanced ts
   class_even (grammar.basic_class p) = basic_even p
   class_even {ts} (grammar.choice_class {a = a} {b = b} p q e f) = join_even a b ts e (basic_even p) (more_classes_even q)
-  class_even {ts} (grammar.any_except {a = a} p e) = plain_even (sign Star) (sign Minus ∷ a) ts (plain _ refl refl) e
-      (plain_even (sign Minus) a (sign Minus ∷ a) (plain _ refl refl) refl (basic_even p))
-  class_even {ts} (grammar.ns_except {a = a} {p = n} p e) = plain_even (ns_name n) (sign Minus ∷ a) ts (plain _ refl refl) e
-      (plain_even (sign Minus) a (sign Minus ∷ a) (plain _ refl refl) refl (basic_even p))
+  class_even {ts} (grammar.any_except {n = n} {a = a} may p e) = join_even n (sign Star ∷ sign Minus ∷ a) ts e (annotation_even may)
+      (plain_even (sign Star) (sign Minus ∷ a) (sign Star ∷ sign Minus ∷ a) (plain _ refl refl) refl
+      (plain_even (sign Minus) a (sign Minus ∷ a) (plain _ refl refl) refl (basic_even p)))
+  class_even {ts} (grammar.ns_except {n = n} {a = a} {p = w} may p e) = join_even n (ns_name w ∷ sign Minus ∷ a) ts e (annotation_even may)
+      (plain_even (ns_name w) (sign Minus ∷ a) (ns_name w ∷ sign Minus ∷ a) (plain _ refl refl) refl
+      (plain_even (sign Minus) a (sign Minus ∷ a) (plain _ refl refl) refl (basic_even p)))
 
   pub more_classes_even : {ts : List Lexeme} {cs : List NameClass} → AreMoreClasses ts cs → Balanced ts
   more_classes_even {ts} (grammar.last_class {a = a} p e) = plain_even (sign Bar) a ts (plain _ refl refl) e (basic_even p)
@@ -214,19 +240,23 @@ mutual
       (join_even a b (a ++ b) refl (basic_even p) (more_classes_even q))
 
   pub basic_even : {ts : List Lexeme} {c : NameClass} → IsBasic ts c → Balanced ts
-  basic_even {ts} (grammar.word_class {x = x} {w = w} is e) = plain_even x [] ts (plain_word x w is) e refl
-  basic_even (grammar.cname_class e) = subst Balanced (sym e) refl
-  basic_even (grammar.ns_class e) = subst Balanced (sym e) refl
-  basic_even (grammar.any_class e) = subst Balanced (sym e) refl
-  basic_even {ts} (grammar.class_in_parens {a = a} p e) = bracket_even _ _ a ts parens e (class_even p)
+  basic_even {ts} (grammar.annotated_basic {n = n} {a = a} may p e) = join_even n a ts e (annotation_even may) (bare_basic_even p)
+
+  pub bare_basic_even : {ts : List Lexeme} {c : NameClass} → IsBareBasic ts c → Balanced ts
+  bare_basic_even {ts} (grammar.word_class {x = x} {w = w} is e) = plain_even x [] ts (plain_word x w is) e refl
+  bare_basic_even (grammar.cname_class e) = subst Balanced (sym e) refl
+  bare_basic_even (grammar.ns_class e) = subst Balanced (sym e) refl
+  bare_basic_even (grammar.any_class e) = subst Balanced (sym e) refl
+  bare_basic_even {ts} (grammar.class_in_parens {a = a} p e) = bracket_even _ _ a ts parens e (class_even p)
 
 mutual
   pub pattern_even : {ts : List Lexeme} {t : Pattern} → IsPattern ts t → Balanced ts
   pattern_even (grammar.one_particle p) = particle_even p
   pattern_even {ts} (grammar.particles {a = a} {b = b} {s = s} {k = k} is p q e f) = join_even a b ts e (particle_even p) (more_even q k is)
-  pattern_even {ts} (grammar.data_except {a = a} {b = b} {x = x} {d = d} is p q e) = plain_even x (a ++ sign Minus ∷ b) ts (plain_type x d is) e
-      (join_even a (sign Minus ∷ b) (a ++ sign Minus ∷ b) refl (may_parameters_even p) (plain_even (sign Minus) b (sign Minus ∷ b) (plain _ refl refl) refl
-      (primary_even q)))
+  pattern_even {ts} (grammar.data_except {n = n} {a = a} {b = b} {d = d} x may is p q e) =
+      join_even n (x ∷ (a ++ sign Minus ∷ b)) ts e (annotation_even may)
+      (plain_even x (a ++ sign Minus ∷ b) (x ∷ (a ++ sign Minus ∷ b)) (plain_type x d is) refl (join_even a (sign Minus ∷ b) (a ++ sign Minus ∷ b) refl
+      (may_parameters_even p) (plain_even (sign Minus) b (sign Minus ∷ b) (plain _ refl refl) refl (primary_even q))))
 
   pub more_even : {s : Sign} {ts : List Lexeme} {us : List Pattern} → AreMore s ts us → (k : Connector) → connector_of s ≡ Some k → Balanced ts
   more_even {s} {ts} (grammar.last_particle {a = a} p e) k is = plain_even (sign s) a ts (plain_connector s k is) e (particle_even p)
@@ -240,25 +270,28 @@ mutual
   particle_even {ts} (grammar.one_or_more {a = a} p e) = join_even a (sign Plus ∷ []) ts e (primary_even p) refl
 
   pub primary_even : {ts : List Lexeme} {t : Pattern} → IsPrimary ts t → Balanced ts
-  primary_even {ts} (grammar.element {a = a} {b = b} p q e) = plain_even _ (a ++ b) ts (plain _ refl refl) e
+  primary_even {ts} (grammar.annotated_primary {n = n} {a = a} may p e) = join_even n a ts e (annotation_even may) (bare_primary_even p)
+
+  pub bare_primary_even : {ts : List Lexeme} {t : Pattern} → IsBarePrimary ts t → Balanced ts
+  bare_primary_even {ts} (grammar.element {a = a} {b = b} p q e) = plain_even _ (a ++ b) ts (plain _ refl refl) e
       (join_even a b (a ++ b) refl (class_even p) (braced_even q))
-  primary_even {ts} (grammar.attribute {a = a} {b = b} p q e) = plain_even _ (a ++ b) ts (plain _ refl refl) e
+  bare_primary_even {ts} (grammar.attribute {a = a} {b = b} p q e) = plain_even _ (a ++ b) ts (plain _ refl refl) e
       (join_even a b (a ++ b) refl (class_even p) (braced_even q))
-  primary_even {ts} (grammar.list {a = a} p e) = plain_even _ a ts (plain _ refl refl) e (braced_even p)
-  primary_even {ts} (grammar.mixed {a = a} p e) = plain_even _ a ts (plain _ refl refl) e (braced_even p)
-  primary_even (grammar.ref e) = subst Balanced (sym e) refl
-  primary_even (grammar.parent_ref e) = subst Balanced (sym e) refl
-  primary_even (grammar.empty e) = subst Balanced (sym e) refl
-  primary_even (grammar.text e) = subst Balanced (sym e) refl
-  primary_even (grammar.not_allowed e) = subst Balanced (sym e) refl
-  primary_even (grammar.untyped_value p) = literal_even p
-  primary_even {ts} (grammar.value {a = a} {x = x} {d = d} is p e) = plain_even x a ts (plain_type x d is) e (literal_even p)
-  primary_even {ts} (grammar.data_of {a = a} {x = x} {d = d} is p e) = plain_even x a ts (plain_type x d is) e (may_parameters_even p)
-  primary_even {ts} (grammar.external {a = a} {b = b} p q e f) = plain_even _ (a ++ b) ts (plain _ refl refl) e
+  bare_primary_even {ts} (grammar.list {a = a} p e) = plain_even _ a ts (plain _ refl refl) e (braced_even p)
+  bare_primary_even {ts} (grammar.mixed {a = a} p e) = plain_even _ a ts (plain _ refl refl) e (braced_even p)
+  bare_primary_even (grammar.ref e) = subst Balanced (sym e) refl
+  bare_primary_even (grammar.parent_ref e) = subst Balanced (sym e) refl
+  bare_primary_even (grammar.empty e) = subst Balanced (sym e) refl
+  bare_primary_even (grammar.text e) = subst Balanced (sym e) refl
+  bare_primary_even (grammar.not_allowed e) = subst Balanced (sym e) refl
+  bare_primary_even (grammar.untyped_value p) = literal_even p
+  bare_primary_even {ts} (grammar.value {a = a} {x = x} {d = d} is p e) = plain_even x a ts (plain_type x d is) e (literal_even p)
+  bare_primary_even {ts} (grammar.data_of {a = a} {x = x} {d = d} is p e) = plain_even x a ts (plain_type x d is) e (may_parameters_even p)
+  bare_primary_even {ts} (grammar.external {a = a} {b = b} p q e f) = plain_even _ (a ++ b) ts (plain _ refl refl) e
       (join_even a b (a ++ b) refl (literal_even p) (may_inherit_even q))
-  primary_even {ts} (grammar.grammar {a = a} p e f) = plain_even _ (sign OpenBrace ∷ (a ++ sign CloseBrace ∷ [])) ts (plain _ refl refl) e
+  bare_primary_even {ts} (grammar.grammar {a = a} p e f) = plain_even _ (sign OpenBrace ∷ (a ++ sign CloseBrace ∷ [])) ts (plain _ refl refl) e
       (bracket_even _ _ a (sign OpenBrace ∷ (a ++ sign CloseBrace ∷ [])) braces refl (components_even p))
-  primary_even {ts} (grammar.in_parens {a = a} p e) = bracket_even _ _ a ts parens e (pattern_even p)
+  bare_primary_even {ts} (grammar.in_parens {a = a} p e) = bracket_even _ _ a ts parens e (pattern_even p)
 
   pub braced_even : {ts : List Lexeme} {t : Pattern} → IsBraced ts t → Balanced ts
   braced_even {ts} (grammar.in_braces {a = a} p e) = bracket_even _ _ a ts braces e (pattern_even p)
@@ -268,13 +301,16 @@ mutual
   components_even {w} {ts} (grammar.and_component {a = a} {b = b} p q e) = join_even a b ts e (component_even p) (components_even q)
 
   pub component_even : {w : Setting} {ts : List Lexeme} {c : Component} → IsComponent w ts c → Balanced ts
-  component_even {w} {ts} (grammar.start {a = a} {x = x} {m = m} is p e) = plain_even _ (x ∷ a) ts (plain _ refl refl) e
+  component_even {w} {ts} (grammar.annotated_component {n = n} {a = a} may p e) = join_even n a ts e (annotation_even may) (bare_component_even p)
+
+  pub bare_component_even : {w : Setting} {ts : List Lexeme} {c : Component} → IsBareComponent w ts c → Balanced ts
+  bare_component_even {w} {ts} (grammar.start {a = a} {x = x} {m = m} is p e) = plain_even _ (x ∷ a) ts (plain _ refl refl) e
       (plain_even x a (x ∷ a) (plain_method x m is) refl (pattern_even p))
-  component_even {w} {ts} (grammar.define {a = a} {x = x} {m = m} is p e) = plain_even _ (x ∷ a) ts (plain _ refl refl) e
+  bare_component_even {w} {ts} (grammar.define {a = a} {x = x} {m = m} is p e) = plain_even _ (x ∷ a) ts (plain _ refl refl) e
       (plain_even x a (x ∷ a) (plain_method x m is) refl (pattern_even p))
-  component_even {w} {ts} (grammar.div {a = a} p e f) = plain_even _ (sign OpenBrace ∷ (a ++ sign CloseBrace ∷ [])) ts (plain _ refl refl) e
+  bare_component_even {w} {ts} (grammar.div {a = a} p e f) = plain_even _ (sign OpenBrace ∷ (a ++ sign CloseBrace ∷ [])) ts (plain _ refl refl) e
       (bracket_even _ _ a (sign OpenBrace ∷ (a ++ sign CloseBrace ∷ [])) braces refl (components_even p))
-  component_even {w} {ts} (grammar.include {a = a} {b = b} {o = o} w-is p q r e f) = plain_even _ (a ++ (b ++ o)) ts (plain _ refl refl) e
+  bare_component_even {w} {ts} (grammar.include {a = a} {b = b} {o = o} w-is p q r e f) = plain_even _ (a ++ (b ++ o)) ts (plain _ refl refl) e
       (join_even a (b ++ o) (a ++ (b ++ o)) refl (literal_even p) (join_even b o (b ++ o) refl (may_inherit_even q) (overrides_even r)))
 
   pub overrides_even : {ts : List Lexeme} {cs : List Component} → MayOverride ts cs → Balanced ts

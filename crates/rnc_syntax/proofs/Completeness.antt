@@ -6,10 +6,12 @@ use Rattle.rnc_text.specs.declared.token.Sign.{Sign}
 use Rattle.rnc_text.specs.declared.token.Sign.TheVariants.{Equal, OpenBrace, CloseBrace, Tilde}
 use Rattle.rnc_syntax.specs.Lexeme.{Lexeme, Spelling, keyword, identifier, segment, sign}
 use Rattle.rnc_syntax.specs.Grammar as grammar
-use Rattle.rnc_syntax.specs.Grammar.{word_of, IsLiteral, AreParameters, MayBeParameters, MayInherit}
+use Rattle.rnc_syntax.specs.Grammar.{word_of, MayBeAnnotation, IsLiteral, AreParameters, MayBeParameters, MayInherit}
 use Rattle.rnc_syntax.specs.Combinators.{Outcome, follow, follow_keyword, after, word_at, segment_at, many_with, many}
-use Rattle.rnc_syntax.specs.Productions.{literal_at, parameter_at, word_front, in_braces_at, parameters_at, word_after_equal, inherit_at, mention_at}
+use Rattle.rnc_syntax.specs.Productions.{literal_at, parameter_at, parameter_front, annotated_parameter_at, in_braces_at, parameters_at, word_after_equal}
+use Rattle.rnc_syntax.specs.Productions.{inherit_at, mention_at}
 use Rattle.rnc_syntax.specs.Syntax.{joined_text}
+use Rattle.rnc_syntax.proofs.CompletenessAnnotations.{StandsAlone, annotated_behind}
 
 -- ---- items one after another
 
@@ -43,7 +45,7 @@ word_read (identifier v) w rest e = let q : v ≡ w = cc in ap (λ (w : List ℕ
 word_read (keyword k s) w rest e = let q : s.text ≡ w = cc in ap (λ (w : List ℕ). Ok (w, rest)) q
 word_read _ w rest e = absurd cc
 
-pub word_fronts : (x : Lexeme) (w : List ℕ) (rest : List Lexeme) → word_of x ≡ Some w → word_front (x ∷ rest) ≡ Some (x ∷ rest)
+word_fronts : (x : Lexeme) (w : List ℕ) (rest : List Lexeme) → word_of x ≡ Some w → parameter_front (x ∷ rest) ≡ Some (x ∷ rest)
 word_fronts (identifier v) w rest e = refl
 word_fronts (keyword k s) w rest e = refl
 word_fronts _ w rest e = absurd cc
@@ -111,28 +113,47 @@ pub parameter_read : (x : Lexeme) (w v : List ℕ) (a rest : List Lexeme) → wo
 unfolding parameter_at after
 parameter_read x w v a rest is value = rw (word_read x w (sign Equal ∷ (a ++ rest)) is, value) refl
 
+parameter_alone : StandsAlone parameter_at
+unfolding parameter_at word_at
+parameter_alone us x e = absurd cc
+
+parameter_fronts : {note : List Lexeme} → MayBeAnnotation note → (x : Lexeme) (w : List ℕ) (r : List Lexeme) → word_of x ≡ Some w
+    → parameter_front (note ++ x ∷ r) ≡ Some (note ++ x ∷ r)
+parameter_fronts (grammar.without_annotation e) x w r is = rw e (word_fronts x w r is)
+parameter_fronts (grammar.with_annotation p e) x w r is = rw e refl
+
+annotation_no_tilde : {note : List Lexeme} → MayBeAnnotation note → (x : Lexeme) (w : List ℕ) (r : List Lexeme) → word_of x ≡ Some w
+    → follow Tilde (note ++ x ∷ r) ≡ None
+annotation_no_tilde (grammar.without_annotation e) x w r is = rw e (word_no_sign Tilde x w r is)
+annotation_no_tilde (grammar.with_annotation p e) x w r is = rw e refl
+
 no_tilde : {b : List Lexeme} {ps : List (List ℕ × List ℕ)} → AreParameters b ps → (r : List Lexeme) → follow Tilde (b ++ sign CloseBrace ∷ r) ≡ None
 no_tilde (grammar.no_parameters e) r = rw e refl
-no_tilde (grammar.and_parameter {a = a} {b = b} {x = x} {w = w} is p q e) r = rw e (word_no_sign Tilde x w (sign Equal ∷ ((a ++ b) ++ sign CloseBrace ∷ r)) is)
+no_tilde (grammar.and_parameter {n = note} {a = a} {b = b} {w = w} x may is p q e) r =
+    let behind = (a ++ b) ++ sign CloseBrace ∷ r in
+    rw (e, append_assoc note (x ∷ sign Equal ∷ (a ++ b)) (sign CloseBrace ∷ r)) (annotation_no_tilde may x w (sign Equal ∷ behind) is)
 
-parameters_more : (x : Lexeme) (w v : List ℕ) (ts a b rest end : List Lexeme) (ps : List (List ℕ × List ℕ)) → word_of x ≡ Some w
-    → ts ≡ x ∷ sign Equal ∷ (a ++ b) → literal_at (a ++ (b ++ rest)) ≡ Ok (v, b ++ rest) → Manys word_front parameter_at (b ++ rest) ps end
-    → Manys word_front parameter_at (ts ++ rest) ((w, v) ∷ ps) end
-parameters_more x w v ts a b rest end ps is e value others =
-    let parts : ts ++ rest ≡ x ∷ sign Equal ∷ (a ++ (b ++ rest)) = ap (λ (ts : List Lexeme). ts ++ rest) e ∙ ap (λ (r : List Lexeme). x ∷ sign Equal ∷ r)
-    (append_assoc a b rest) in
-    let shorter : length (b ++ rest) < length (x ∷ sign Equal ∷ (a ++ (b ++ rest))) = omega (arith, length-append a (b ++ rest)) in
-    subst (λ (us : List Lexeme). Manys word_front parameter_at us ((w, v) ∷ ps) end) (sym parts)
-    (manys_more word_front parameter_at (x ∷ sign Equal ∷ (a ++ (b ++ rest))) (x ∷ sign Equal ∷ (a ++ (b ++ rest))) (b ++ rest) end (w, v) ps
-    (word_fronts x w (sign Equal ∷ (a ++ (b ++ rest))) is) (parameter_read x w v a (b ++ rest) is value) shorter others)
+parameters_more : {note : List Lexeme} (x : Lexeme) (w v : List ℕ) (ts a b rest end : List Lexeme) (ps : List (List ℕ × List ℕ)) → MayBeAnnotation note
+    → word_of x ≡ Some w → ts ≡ note ++ x ∷ sign Equal ∷ (a ++ b) → literal_at (a ++ (b ++ rest)) ≡ Ok (v, b ++ rest)
+    → Manys parameter_front annotated_parameter_at (b ++ rest) ps end → Manys parameter_front annotated_parameter_at (ts ++ rest) ((w, v) ∷ ps) end
+unfolding annotated_parameter_at
+parameters_more {note} x w v ts a b rest end ps may is e value others =
+    let behind = x ∷ sign Equal ∷ (a ++ (b ++ rest)) in
+    let parts : ts ++ rest ≡ note ++ behind = ap (λ (ts : List Lexeme). ts ++ rest) e ∙ append_assoc note (x ∷ sign Equal ∷ (a ++ b)) rest
+    ∙ ap (λ (r : List Lexeme). note ++ x ∷ sign Equal ∷ r) (append_assoc a b rest) in
+    let shorter : length (b ++ rest) < length (note ++ behind) = omega (arith, length-append note behind, length-append a (b ++ rest)) in
+    subst (λ (us : List Lexeme). Manys parameter_front annotated_parameter_at us ((w, v) ∷ ps) end) (sym parts)
+    (manys_more parameter_front annotated_parameter_at (note ++ behind) (note ++ behind) (b ++ rest) end (w, v) ps
+    (parameter_fronts may x w (sign Equal ∷ (a ++ (b ++ rest))) is)
+    (annotated_behind parameter_at parameter_alone may behind ((w, v), b ++ rest) (parameter_read x w v a (b ++ rest) is value)) shorter others)
 
 parameters_are : {ts : List Lexeme} {ps : List (List ℕ × List ℕ)} → AreParameters ts ps → (r : List Lexeme)
-    → Manys word_front parameter_at (ts ++ sign CloseBrace ∷ r) ps (sign CloseBrace ∷ r)
+    → Manys parameter_front annotated_parameter_at (ts ++ sign CloseBrace ∷ r) ps (sign CloseBrace ∷ r)
 parameters_are {ts} (grammar.no_parameters e) r =
-    subst (λ (ts : List Lexeme). Manys word_front parameter_at (ts ++ sign CloseBrace ∷ r) [] (sign CloseBrace ∷ r)) (sym e)
-    (manys_end word_front parameter_at (sign CloseBrace ∷ r) refl)
-parameters_are {ts} (grammar.and_parameter {ps = ps} {a = a} {b = b} {x = x} {w = w} {v = v} is p q e) r =
-    parameters_more x w v ts a b (sign CloseBrace ∷ r) (sign CloseBrace ∷ r) ps is e (literal_complete p (b ++ sign CloseBrace ∷ r) (no_tilde q r))
+    subst (λ (ts : List Lexeme). Manys parameter_front annotated_parameter_at (ts ++ sign CloseBrace ∷ r) [] (sign CloseBrace ∷ r)) (sym e)
+    (manys_end parameter_front annotated_parameter_at (sign CloseBrace ∷ r) refl)
+parameters_are {ts} (grammar.and_parameter {ps = ps} {a = a} {b = b} {w = w} {v = v} x may is p q e) r =
+    parameters_more x w v ts a b (sign CloseBrace ∷ r) (sign CloseBrace ∷ r) ps may is e (literal_complete p (b ++ sign CloseBrace ∷ r) (no_tilde q r))
     (parameters_are q r)
 
 -- what stands in braces
@@ -145,7 +166,7 @@ parameters_none : (rest : List Lexeme) → follow OpenBrace rest ≡ None → pa
 unfolding parameters_at
 parameters_none rest is = rw is refl
 
-parameters_some : (a rest : List Lexeme) (ps : List (List ℕ × List ℕ)) → in_braces_at (many word_front parameter_at) (a ++ rest) ≡ Ok (ps, rest)
+parameters_some : (a rest : List Lexeme) (ps : List (List ℕ × List ℕ)) → in_braces_at (many parameter_front annotated_parameter_at) (a ++ rest) ≡ Ok (ps, rest)
     → parameters_at (sign OpenBrace ∷ (a ++ rest)) ≡ Ok (ps, rest)
 unfolding parameters_at
 parameters_some a rest ps e = e
@@ -155,8 +176,8 @@ pub parameters_complete : {ts : List Lexeme} {ps : List (List ℕ × List ℕ)} 
 parameters_complete (grammar.without_parameters e) rest is = rw e (parameters_none rest is)
 parameters_complete (grammar.with_parameters {ps = ps} {a = a} p e) rest is =
     rw e (parameters_some (a ++ sign CloseBrace ∷ []) rest ps
-    (braces_read (many word_front parameter_at) a rest ps (manys_read word_front parameter_at (a ++ sign CloseBrace ∷ rest) (sign CloseBrace ∷ rest) ps
-    (parameters_are p rest))))
+    (braces_read (many parameter_front annotated_parameter_at) a rest ps
+    (manys_read parameter_front annotated_parameter_at (a ++ sign CloseBrace ∷ rest) (sign CloseBrace ∷ rest) ps (parameters_are p rest))))
 
 -- ---- mentions
 

@@ -1,25 +1,32 @@
 -- Each sentence that nests within a limit is read, so that it has one tree.
-use Rattle.std.proofs.Common.{◌≡◌, ℕ, ◌<◌, true, false, List, [], ◌∷◌, ◌++◌, length, Some, None, Result, Ok, refl, sym, ap, subst, ◌∙◌, append_assoc, arith}
+use Rattle.std.proofs.Common.{◌≡◌, ℕ, ◌<◌, Bool, true, false, List, [], ◌∷◌, ◌++◌, length, Option, Some, None, Result, Ok, refl, sym, ap, subst, ◌∙◌}
+use Rattle.std.proofs.Common.{append_assoc, arith}
 use Rattle.std.proofs.lemmas.List.{length-append, append-nil}
-use Rattle.rng_model.specs.Tree.{Connector}
 use Rattle.rnc_text.specs.declared.token.Keyword.TheVariants as keywords
-use Rattle.rnc_text.specs.declared.token.Sign.{Sign}
 use Rattle.rnc_syntax.specs.declared.syntax_tree.Method.{Method}
-use Rattle.rnc_text.specs.declared.token.Sign.TheVariants.{Equal, BarEqual, AndEqual, Bar, Comma, And, Question, Star, Plus, Minus, Tilde}
+use Rattle.rnc_text.specs.declared.token.Sign.TheVariants.{Equal, BarEqual, AndEqual, Question, Star, Plus, Minus, OpenBracket, CloseBracket}
+use Rattle.rnc_text.specs.declared.token.Sign.TheVariants.{Tilde}
 use Rattle.rnc_syntax.specs.declared.fault.Stop.{Stop}
 use Rattle.rnc_syntax.specs.Lexeme.{Lexeme, Spelling, keyword, identifier, cname, segment, sign}
 use Rattle.rnc_syntax.specs.Syntax as syntax
 use Rattle.rnc_syntax.specs.Syntax.{DatatypeName, Pattern, Component, Uri, Declaration, Body, File}
 use Rattle.rnc_syntax.specs.Grammar as grammar
-use Rattle.rnc_syntax.specs.Grammar.{content, word_of, type_of, method_of, connector_of, IsLiteral, IsPattern, AreMore, IsParticle, IsPrimary, AreComponents}
+use Rattle.rnc_syntax.specs.Grammar.{content, word_of, type_of, method_of, IsAnnotationContent, MayBeAnnotation, IsLiteral, IsPattern, IsParticle, IsPrimary}
+use Rattle.rnc_syntax.specs.Grammar.{IsBarePrimary, AreComponents, IsBareComponent}
 use Rattle.rnc_syntax.specs.Grammar.{IsComponent, IsUri, IsDeclaration, AreDeclarations, IsBody, IsFile}
-use Rattle.rnc_syntax.specs.Combinators.{follow, after, after_keyword, many}
-use Rattle.rnc_syntax.specs.Productions.{literal_at, parameter_at, pattern_with, components_with, inside_at, uri_at, prefix_at, default_at, declaration_at}
-use Rattle.rnc_syntax.specs.Productions.{declaration_front, begins_method, is_grammar_body, body_with, declarations_at, file_with}
+use Rattle.rnc_syntax.specs.Combinators.{Outcome, ◌>>=◌, follow, after, after_keyword, many}
+use Rattle.rnc_syntax.specs.Productions.{annotation_end, annotation_at, literal_at, parameter_at, bare_primary_with, atom_at, other_at, rest_with}
+use Rattle.rnc_syntax.specs.Productions.{bare_pattern_with, pattern_with, bare_component_with, components_with, inside_at, uri_at, prefix_at, default_at}
+use Rattle.rnc_syntax.specs.Productions.{declaration_at, bare_body_with, annotated_body_with}
+use Rattle.rnc_syntax.specs.Productions.{declaration_front, is_grammar_body, body_with, declarations_at, file_with}
 use Rattle.rnc_syntax.specs.Sentence.{NestsWithin}
-use Rattle.rnc_syntax.proofs.Balance.{second_within, declarations_even, length_within}
+use Rattle.rnc_syntax.proofs.Balance.{first_within, second_within, annotation_even, component_even, declarations_even, length_within}
+use Rattle.rnc_syntax.proofs.Soundness.{bind_ok, ok_is}
+use Rattle.rnc_syntax.proofs.CompletenessAnnotations.{end_read, annotated_is}
+use Rattle.rnc_syntax.proofs.CompletenessClasses.{two_parts}
 use Rattle.rnc_syntax.proofs.Completeness.{Manys, manys_end, manys_more, manys_read, word_read, literal_complete, literal_begins, parameter_read}
-use Rattle.rnc_syntax.proofs.CompletenessPatterns.{follows_end, ended, more_begin, pattern_complete, components_complete, components_read}
+use Rattle.rnc_syntax.proofs.CompletenessPatterns.{follows_end, ended, more_follow, pattern_complete, components_complete, bare_component_complete}
+use Rattle.rnc_syntax.proofs.CompletenessPatterns.{components_read}
 
 -- ---- declarations
 
@@ -164,22 +171,29 @@ typed_body _ d r e = absurd cc
 segment_body : (w : List ℕ) (us ts r : List Lexeme) → ts ≡ segment w ∷ us → NoDeclaration (ts ++ r)
 segment_body w us ts r e = rw e (record { no_tilde = refl; none = refl })
 
+bare_primary_body : {ts : List Lexeme} {t : Pattern} → IsBarePrimary ts t → (r : List Lexeme) → NoDeclaration (ts ++ r)
+bare_primary_body (grammar.element p q e) r = rw e (record { no_tilde = refl; none = refl })
+bare_primary_body (grammar.attribute p q e) r = rw e (record { no_tilde = refl; none = refl })
+bare_primary_body (grammar.list p e) r = rw e (record { no_tilde = refl; none = refl })
+bare_primary_body (grammar.mixed p e) r = rw e (record { no_tilde = refl; none = refl })
+bare_primary_body (grammar.ref e) r = rw e (record { no_tilde = refl; none = refl })
+bare_primary_body (grammar.parent_ref e) r = rw e (record { no_tilde = refl; none = refl })
+bare_primary_body (grammar.empty e) r = rw e (record { no_tilde = refl; none = refl })
+bare_primary_body (grammar.text e) r = rw e (record { no_tilde = refl; none = refl })
+bare_primary_body (grammar.not_allowed e) r = rw e (record { no_tilde = refl; none = refl })
+bare_primary_body {ts} (grammar.untyped_value p) r = let b = literal_begins p in segment_body b.0 b.1 ts r b.2
+bare_primary_body (grammar.value {a = a} {x = x} {d = d} is p e) r = rw e (typed_body x d (a ++ r) is)
+bare_primary_body (grammar.data_of {a = a} {x = x} {d = d} is p e) r = rw e (typed_body x d (a ++ r) is)
+bare_primary_body (grammar.external p q e g) r = rw e (record { no_tilde = refl; none = refl })
+bare_primary_body (grammar.grammar p e g) r = rw e (record { no_tilde = refl; none = refl })
+bare_primary_body (grammar.in_parens p e) r = rw e (record { no_tilde = refl; none = refl })
+
+annotation_body : {note : List Lexeme} → MayBeAnnotation note → (ts a r : List Lexeme) → ts ≡ note ++ a → NoDeclaration (a ++ r) → NoDeclaration (ts ++ r)
+annotation_body (grammar.without_annotation f) ts a r e b = rw (e, f) b
+annotation_body (grammar.with_annotation p f) ts a r e b = rw (e, f) (record { no_tilde = refl; none = refl })
+
 primary_body : {ts : List Lexeme} {t : Pattern} → IsPrimary ts t → (r : List Lexeme) → NoDeclaration (ts ++ r)
-primary_body (grammar.element p q e) r = rw e (record { no_tilde = refl; none = refl })
-primary_body (grammar.attribute p q e) r = rw e (record { no_tilde = refl; none = refl })
-primary_body (grammar.list p e) r = rw e (record { no_tilde = refl; none = refl })
-primary_body (grammar.mixed p e) r = rw e (record { no_tilde = refl; none = refl })
-primary_body (grammar.ref e) r = rw e (record { no_tilde = refl; none = refl })
-primary_body (grammar.parent_ref e) r = rw e (record { no_tilde = refl; none = refl })
-primary_body (grammar.empty e) r = rw e (record { no_tilde = refl; none = refl })
-primary_body (grammar.text e) r = rw e (record { no_tilde = refl; none = refl })
-primary_body (grammar.not_allowed e) r = rw e (record { no_tilde = refl; none = refl })
-primary_body {ts} (grammar.untyped_value p) r = let b = literal_begins p in segment_body b.0 b.1 ts r b.2
-primary_body (grammar.value {a = a} {x = x} {d = d} is p e) r = rw e (typed_body x d (a ++ r) is)
-primary_body (grammar.data_of {a = a} {x = x} {d = d} is p e) r = rw e (typed_body x d (a ++ r) is)
-primary_body (grammar.external p q e g) r = rw e (record { no_tilde = refl; none = refl })
-primary_body (grammar.grammar p e g) r = rw e (record { no_tilde = refl; none = refl })
-primary_body (grammar.in_parens p e) r = rw e (record { no_tilde = refl; none = refl })
+primary_body {ts} (grammar.annotated_primary {a = a} may p e) r = annotation_body may ts a r e (bare_primary_body p r)
 
 particle_body : {ts : List Lexeme} {t : Pattern} → IsParticle ts t → (r : List Lexeme) → NoDeclaration (ts ++ r)
 particle_body (grammar.once p) r = primary_body p r
@@ -190,13 +204,17 @@ particle_body (grammar.one_or_more {a = a} p e) r = rw (e, append_assoc a (sign 
 pattern_body : {ts : List Lexeme} {t : Pattern} → IsPattern ts t → NoDeclaration (ts ++ [])
 pattern_body (grammar.one_particle p) = particle_body p []
 pattern_body (grammar.particles {a = a} {b = b} is p q e g) = rw (e, append_assoc a b []) (particle_body p (b ++ []))
-pattern_body (grammar.data_except {a = a} {b = b} {x = x} {d = d} is p q e) = rw e (typed_body x d ((a ++ sign Minus ∷ b) ++ []) is)
+pattern_body {ts} (grammar.data_except {a = a} {b = b} {d = d} x may is p q e) =
+    annotation_body may ts (x ∷ (a ++ sign Minus ∷ b)) [] e (typed_body x d ((a ++ sign Minus ∷ b) ++ []) is)
+
+bare_component_body : {ts : List Lexeme} {c : Component} → IsBareComponent content ts c → (r : List Lexeme) → NoDeclaration (ts ++ r)
+bare_component_body (grammar.start is p e) r = rw e (record { no_tilde = refl; none = refl })
+bare_component_body (grammar.define is p e) r = rw e (record { no_tilde = refl; none = refl })
+bare_component_body (grammar.div p e g) r = rw e (record { no_tilde = refl; none = refl })
+bare_component_body (grammar.include is p q o e g) r = rw e (record { no_tilde = refl; none = refl })
 
 component_body : {ts : List Lexeme} {c : Component} → IsComponent content ts c → (r : List Lexeme) → NoDeclaration (ts ++ r)
-component_body (grammar.start is p e) r = rw e (record { no_tilde = refl; none = refl })
-component_body (grammar.define is p e) r = rw e (record { no_tilde = refl; none = refl })
-component_body (grammar.div p e g) r = rw e (record { no_tilde = refl; none = refl })
-component_body (grammar.include is p q o e g) r = rw e (record { no_tilde = refl; none = refl })
+component_body {ts} (grammar.annotated_component {a = a} may p e) r = annotation_body may ts a r e (bare_component_body p r)
 
 components_body : {ts : List Lexeme} {cs : List Component} → AreComponents content ts cs → NoDeclaration (ts ++ [])
 components_body (grammar.no_components e) = rw e (record { no_tilde = refl; none = refl })
@@ -208,81 +226,127 @@ body_begins (grammar.grammar_body p e) = components_body p
 
 -- ---- a grammar or a pattern
 
-typed_no_grammar : (x : Lexeme) (d : DatatypeName) (r : List Lexeme) → type_of x ≡ Some d → is_grammar_body (x ∷ r) ≡ false
-typed_no_grammar (cname p l) d r e = refl
-typed_no_grammar (keyword keywords.String s) d r e = refl
-typed_no_grammar (keyword keywords.Token s) d r e = refl
-typed_no_grammar _ d r e = absurd cc
+left_over : (t u : Pattern) (x : Lexeme) (ts : List Lexeme) → ◌≡◌ {A = Outcome Pattern} (Ok (t, x ∷ ts)) (Ok (u, [])) → ⊥
+left_over t u x ts e = let q : x ∷ ts ≡ [] = ap (λ (y : Pattern × List Lexeme). y.1) (ok_is (t, x ∷ ts) (u, []) e) in absurd cc
 
-segment_no_grammar : (w : List ℕ) (us ts r : List Lexeme) → ts ≡ segment w ∷ us → is_grammar_body (ts ++ r) ≡ false
-segment_no_grammar w us ts r e = rw e refl
+-- what is read as one pattern to the end begins as no grammar
+pattern_no_grammar : (n : ℕ) (us : List Lexeme) (t : Pattern) (b : Bool) → bare_pattern_with (inside_at n) us ≡ Ok (t, []) → is_grammar_body b us ≡ false
+unfolding bare_pattern_with bare_primary_with atom_at other_at rest_with
+pattern_no_grammar n [] t b e = absurd cc
+pattern_no_grammar n (keyword keywords.Start s ∷ us) t b e = absurd cc
+pattern_no_grammar n (keyword keywords.Div s ∷ us) t b e = absurd cc
+pattern_no_grammar n (keyword keywords.Include s ∷ us) t b e = absurd cc
+pattern_no_grammar n (identifier w ∷ sign Equal ∷ us) t b e = absurd (left_over (syntax.ref w) t (sign Equal) us e)
+pattern_no_grammar n (identifier w ∷ sign BarEqual ∷ us) t b e = absurd (left_over (syntax.ref w) t (sign BarEqual) us e)
+pattern_no_grammar n (identifier w ∷ sign AndEqual ∷ us) t b e = absurd (left_over (syntax.ref w) t (sign AndEqual) us e)
+pattern_no_grammar n (identifier w ∷ _) t b e = refl
+pattern_no_grammar n (_ ∷ us) t b e = refl
 
-primary_no_grammar : {ts : List Lexeme} {t : Pattern} → IsPrimary ts t → (r : List Lexeme) → begins_method r ≡ false → is_grammar_body (ts ++ r) ≡ false
-primary_no_grammar (grammar.element p q e) r f = rw e refl
-primary_no_grammar (grammar.attribute p q e) r f = rw e refl
-primary_no_grammar (grammar.list p e) r f = rw e refl
-primary_no_grammar (grammar.mixed p e) r f = rw e refl
-primary_no_grammar (grammar.ref e) r f = rw e f
-primary_no_grammar (grammar.parent_ref e) r f = rw e refl
-primary_no_grammar (grammar.empty e) r f = rw e refl
-primary_no_grammar (grammar.text e) r f = rw e refl
-primary_no_grammar (grammar.not_allowed e) r f = rw e refl
-primary_no_grammar {ts} (grammar.untyped_value p) r f = let b = literal_begins p in segment_no_grammar b.0 b.1 ts r b.2
-primary_no_grammar (grammar.value {a = a} {x = x} {d = d} is p e) r f = rw e (typed_no_grammar x d (a ++ r) is)
-primary_no_grammar (grammar.data_of {a = a} {x = x} {d = d} is p e) r f = rw e (typed_no_grammar x d (a ++ r) is)
-primary_no_grammar (grammar.external p q e g) r f = rw e refl
-primary_no_grammar (grammar.grammar p e g) r f = rw e refl
-primary_no_grammar (grammar.in_parens p e) r f = rw e refl
+name_is_grammar : (x : Lexeme) (m : Method) (n : List ℕ) (b : Bool) (r : List Lexeme) → method_of x ≡ Some m → is_grammar_body b (identifier n ∷ x ∷ r) ≡ true
+name_is_grammar (sign Equal) m n b r e = refl
+name_is_grammar (sign BarEqual) m n b r e = refl
+name_is_grammar (sign AndEqual) m n b r e = refl
+name_is_grammar _ m n b r e = absurd cc
 
-particle_no_grammar : {ts : List Lexeme} {t : Pattern} → IsParticle ts t → (r : List Lexeme) → begins_method r ≡ false → is_grammar_body (ts ++ r) ≡ false
-particle_no_grammar (grammar.once p) r f = primary_no_grammar p r f
-particle_no_grammar (grammar.optional {a = a} p e) r f = rw (e, append_assoc a (sign Question ∷ []) r) (primary_no_grammar p (sign Question ∷ r) refl)
-particle_no_grammar (grammar.zero_or_more {a = a} p e) r f = rw (e, append_assoc a (sign Star ∷ []) r) (primary_no_grammar p (sign Star ∷ r) refl)
-particle_no_grammar (grammar.one_or_more {a = a} p e) r f = rw (e, append_assoc a (sign Plus ∷ []) r) (primary_no_grammar p (sign Plus ∷ r) refl)
+component_is_grammar : {ts : List Lexeme} {c : Component} → IsBareComponent content ts c → (b : Bool) (r : List Lexeme) → is_grammar_body b (ts ++ r) ≡ true
+component_is_grammar (grammar.start is p e) b r = rw e refl
+component_is_grammar (grammar.define {a = a} {x = x} {n = n} {m = m} is p e) b r = rw e (name_is_grammar x m n b (a ++ r) is)
+component_is_grammar (grammar.div p e g) b r = rw e refl
+component_is_grammar (grammar.include is p q o e g) b r = rw e refl
 
-connector_no_method : (s : Sign) (k : Connector) (b c : List Lexeme) → connector_of s ≡ Some k → b ≡ sign s ∷ c → begins_method (b ++ []) ≡ false
-connector_no_method Comma k b c is e = rw e refl
-connector_no_method And k b c is e = rw e refl
-connector_no_method Bar k b c is e = rw e refl
-connector_no_method _ k b c is e = absurd cc
+component_no_bracket : {ts : List Lexeme} {c : Component} → IsBareComponent content ts c → (r : List Lexeme) → follow OpenBracket (ts ++ r) ≡ None
+component_no_bracket (grammar.start is p e) r = rw e refl
+component_no_bracket (grammar.define is p e) r = rw e refl
+component_no_bracket (grammar.div p e g) r = rw e refl
+component_no_bracket (grammar.include is p q o e g) r = rw e refl
 
-pattern_no_grammar : {ts : List Lexeme} {t : Pattern} → IsPattern ts t → is_grammar_body (ts ++ []) ≡ false
-pattern_no_grammar (grammar.one_particle p) = particle_no_grammar p [] refl
-pattern_no_grammar (grammar.particles {a = a} {b = b} {s = s} {k = k} is p q e g) = let c = more_begin q in let m = connector_no_method s k b c.0 is c.1 in
-    rw (e, append_assoc a b []) (particle_no_grammar p (b ++ []) m)
-pattern_no_grammar (grammar.data_except {a = a} {b = b} {x = x} {d = d} is p q e) = rw e (typed_no_grammar x d ((a ++ sign Minus ∷ b) ++ []) is)
+module _ (n : ℕ) where
+  bare_pattern_read : (us : List Lexeme) (t : Pattern) → bare_pattern_with (inside_at n) us ≡ Ok (t, [])
+      → bare_body_with (inside_at n) us ≡ Ok (syntax.pattern_body t, [])
+  unfolding bare_body_with
+  bare_pattern_read us t e = let none = pattern_no_grammar n us t true e in rw (none, e) refl
 
-name_is_grammar : (x : Lexeme) (m : Method) (n : List ℕ) (r : List Lexeme) → method_of x ≡ Some m → is_grammar_body (identifier n ∷ x ∷ r) ≡ true
-name_is_grammar (sign Equal) m n r e = refl
-name_is_grammar (sign BarEqual) m n r e = refl
-name_is_grammar (sign AndEqual) m n r e = refl
-name_is_grammar _ m n r e = absurd cc
+  annotated_pattern_read : (us : List Lexeme) (t : Pattern) → bare_pattern_with (inside_at n) us ≡ Ok (t, [])
+      → annotated_body_with (inside_at n) us ≡ Ok (syntax.pattern_body t, [])
+  unfolding annotated_body_with
+  annotated_pattern_read us t e = let none = pattern_no_grammar n us t false e in rw (none, e) refl
 
-component_is_grammar : {ts : List Lexeme} {c : Component} → IsComponent content ts c → (r : List Lexeme) → is_grammar_body (ts ++ r) ≡ true
-component_is_grammar (grammar.start is p e) r = rw e refl
-component_is_grammar (grammar.define {a = a} {x = x} {n = n} {m = m} is p e) r = rw e (name_is_grammar x m n (a ++ r) is)
-component_is_grammar (grammar.div p e g) r = rw e refl
-component_is_grammar (grammar.include is p q o e g) r = rw e refl
+  bare_grammar_read : (us : List Lexeme) (cs : List Component) → is_grammar_body true us ≡ true → components_with (inside_at n) content us ≡ Ok (cs, [])
+      → bare_body_with (inside_at n) us ≡ Ok (syntax.grammar_body (syntax.components_of cs), [])
+  unfolding bare_body_with
+  bare_grammar_read us cs is e = rw (is, e) refl
 
-components_are_grammar : {ts : List Lexeme} {cs : List Component} → AreComponents content ts cs → is_grammar_body (ts ++ []) ≡ true
-components_are_grammar (grammar.no_components e) = rw e refl
-components_are_grammar (grammar.and_component {a = a} {b = b} p q e) = rw (e, append_assoc a b []) (component_is_grammar p (b ++ []))
+  annotated_grammar_read : (us vs : List Lexeme) (c : Component) (cs : List Component) → is_grammar_body false us ≡ true
+      → bare_component_with (inside_at n) content us ≡ Ok (c, vs) → components_with (inside_at n) content vs ≡ Ok (cs, [])
+      → annotated_body_with (inside_at n) us ≡ Ok (syntax.grammar_body (syntax.components_of (c ∷ cs)), [])
+  unfolding annotated_body_with
+  annotated_grammar_read us vs c cs is one others = rw (is, one, others) refl
 
-pattern_body_read : (n : ℕ) (ts : List Lexeme) (t : Pattern) → is_grammar_body ts ≡ false → pattern_with (inside_at n) ts ≡ Ok (t, [])
-    → body_with (inside_at n) ts ≡ Ok (syntax.pattern_body t, [])
-unfolding body_with
-pattern_body_read n ts t is e = rw (is, e) refl
+  -- a body without an annotation in front, and one with it
+  alone_body_read : (us : List Lexeme) (b : Body) → follow OpenBracket us ≡ None → bare_body_with (inside_at n) us ≡ Ok (b, [])
+      → body_with (inside_at n) us ≡ Ok (b, [])
+  unfolding body_with
+  alone_body_read us b none e = rw none e
 
-grammar_body_read : (n : ℕ) (ts : List Lexeme) (cs : List Component) → is_grammar_body ts ≡ true → components_with (inside_at n) content ts ≡ Ok (cs, [])
-    → body_with (inside_at n) ts ≡ Ok (syntax.grammar_body (syntax.components_of cs), [])
-unfolding body_with
-grammar_body_read n ts cs is e = rw (is, e) refl
+  opened_body_read : (us vs ws : List Lexeme) (b : Body) → follow OpenBracket us ≡ Some vs → annotation_end 0 vs ≡ Ok (tt, ws)
+      → annotated_body_with (inside_at n) ws ≡ Ok (b, []) → body_with (inside_at n) us ≡ Ok (b, [])
+  unfolding body_with
+  opened_body_read us vs ws b some end e = rw (some, end) e
+
+  annotation_opened : (us vs : List Lexeme) → follow OpenBracket us ≡ Some vs → annotation_at us ≡ annotation_end 0 vs
+  unfolding annotation_at
+  annotation_opened us vs some = rw some refl
+
+  pattern_body_by : (us : List Lexeme) (t : Pattern) (o : Option (List Lexeme)) → follow OpenBracket us ≡ o → pattern_with (inside_at n) us ≡ Ok (t, [])
+      → body_with (inside_at n) us ≡ Ok (syntax.pattern_body t, [])
+  unfolding pattern_with
+  pattern_body_by us t None is e =
+      let bare = bare_pattern_with (inside_at n) in
+      alone_body_read us (syntax.pattern_body t) is (bare_pattern_read us t (sym (annotated_is bare (grammar.without_annotation refl) us is) ∙ e))
+  pattern_body_by us t (Some vs) is e =
+      let bare = bare_pattern_with (inside_at n) in
+      let whole = sym (ap (λ (r : Outcome (Unit {0})). r >>= λ x. bare x.1) (annotation_opened us vs is)) ∙ e in
+      let a = bind_ok (annotation_end 0 vs) (λ x. bare x.1) (t, []) whole in
+      opened_body_read us vs a.0.1 (syntax.pattern_body t) is a.1 (annotated_pattern_read a.0.1 t a.2)
+
+  pattern_body_read : (us : List Lexeme) (t : Pattern) → pattern_with (inside_at n) us ≡ Ok (t, [])
+      → body_with (inside_at n) us ≡ Ok (syntax.pattern_body t, [])
+  pattern_body_read us t e = pattern_body_by us t (follow OpenBracket us) refl e
+
+  empty_body_read : (ts : List Lexeme) → ts ≡ [] → components_with (inside_at n) content (ts ++ []) ≡ Ok ([], [])
+      → body_with (inside_at n) (ts ++ []) ≡ Ok (syntax.grammar_body (syntax.components_of []), [])
+  empty_body_read ts e others = alone_body_read (ts ++ []) (syntax.grammar_body (syntax.components_of [])) (rw e refl)
+      (bare_grammar_read (ts ++ []) [] (rw e refl) others)
+
+  -- the first component has an annotation, or none
+  grammar_body_read : {note : List Lexeme} → MayBeAnnotation note → (us vs : List Lexeme) (c : Component) (cs : List Component)
+      → ((b : Bool) → is_grammar_body b us ≡ true) → follow OpenBracket us ≡ None → components_with (inside_at n) content (note ++ us) ≡ Ok (c ∷ cs, [])
+      → bare_component_with (inside_at n) content us ≡ Ok (c, vs) → components_with (inside_at n) content vs ≡ Ok (cs, [])
+      → body_with (inside_at n) (note ++ us) ≡ Ok (syntax.grammar_body (syntax.components_of (c ∷ cs)), [])
+  grammar_body_read {note} (grammar.without_annotation f) us vs c cs is none whole one others =
+      let w = subst (λ (note : List Lexeme). components_with (inside_at n) content (note ++ us) ≡ Ok (c ∷ cs, [])) f whole in
+      rw f (alone_body_read us (syntax.grammar_body (syntax.components_of (c ∷ cs))) none (bare_grammar_read us (c ∷ cs) (is true) w))
+  grammar_body_read {note} (grammar.with_annotation {a = a} p f) us vs c cs is none whole one others =
+      opened_body_read (note ++ us) ((a ++ sign CloseBracket ∷ []) ++ us) us (syntax.grammar_body (syntax.components_of (c ∷ cs))) (rw f refl) (end_read p us)
+      (annotated_grammar_read us vs c cs (is false) one others)
 
 body_complete : {ts : List Lexeme} {b : Body} → IsBody ts b → (n : ℕ) → NestsWithin n ts → body_with (inside_at n) (ts ++ []) ≡ Ok (b, [])
-body_complete {ts} (grammar.pattern_body {t = t} p) n nest = pattern_body_read n (ts ++ []) t (pattern_no_grammar p) (pattern_complete p n nest [] follows_end)
-body_complete {ts} (grammar.grammar_body {cs = cs} p e) n nest =
-    rw e (grammar_body_read n (ts ++ []) cs (components_are_grammar p)
-    (components_read n content (ts ++ []) [] cs (components_complete p n nest [] (ended refl))))
+body_complete {ts} (grammar.pattern_body {t = t} p) n nest = pattern_body_read n (ts ++ []) t (pattern_complete p n nest [] follows_end)
+body_complete {ts} (grammar.grammar_body (grammar.no_components e) f) n nest =
+    let none = components_complete {w = content} (grammar.no_components e) n nest [] (ended refl) in
+    rw f (empty_body_read n ts e (components_read n content (ts ++ []) [] [] none))
+body_complete {ts} (grammar.grammar_body (grammar.and_component {cs = cs} {a = a} {b = b} {c = c}
+    (grammar.annotated_component {n = note} {a = x} may p g) q e) f) n nest =
+    let whole = components_read n content (ts ++ []) [] (c ∷ cs)
+    (components_complete (grammar.and_component (grammar.annotated_component may p g) q e) n nest [] (ended refl)) in
+    let parts = two_parts ts note a b x [] e g in
+    let nest_a = first_within n ts a b e nest in
+    let nest_b = second_within n ts a b e (component_even (grammar.annotated_component may p g)) nest in
+    let one = bare_component_complete p n (second_within n a note x g (annotation_even may) nest_a) (b ++ []) (more_follow q [] (ended refl)) in
+    let others = components_read n content (b ++ []) [] cs (components_complete q n nest_b [] (ended refl)) in
+    rw f (subst (λ (us : List Lexeme). body_with (inside_at n) us ≡ Ok (syntax.grammar_body (syntax.components_of (c ∷ cs)), [])) (sym parts)
+    (grammar_body_read n may (x ++ (b ++ [])) (b ++ []) c cs (λ k. component_is_grammar p k (b ++ [])) (component_no_bracket p (b ++ []))
+    (subst (λ (us : List Lexeme). components_with (inside_at n) content us ≡ Ok (c ∷ cs, [])) parts whole) one others))
 
 -- ---- files
 

@@ -6,7 +6,7 @@ use Rattle.rng_model.specs.Tree.{Connector, choice, group, interleave}
 use Rattle.rnc_text.specs.declared.token.Keyword.TheVariants as keywords
 use Rattle.rnc_text.specs.declared.token.Sign.{Sign}
 use Rattle.rnc_text.specs.declared.token.Sign.TheVariants.{Equal, BarEqual, AndEqual, Comma, Bar, And, Question, Star, Plus, Minus, OpenBrace, CloseBrace}
-use Rattle.rnc_text.specs.declared.token.Sign.TheVariants.{OpenParenthesis, CloseParenthesis, Tilde}
+use Rattle.rnc_text.specs.declared.token.Sign.TheVariants.{OpenParenthesis, CloseParenthesis, OpenBracket, CloseBracket, Tilde}
 use Rattle.rnc_syntax.specs.declared.syntax_tree.Method.{Method}
 use Rattle.rnc_syntax.specs.declared.syntax_tree.Method.TheVariants as methods
 use Rattle.rnc_syntax.specs.Lexeme.{Lexeme, Spelling, keyword, identifier, cname, segment, sign}
@@ -14,16 +14,19 @@ use Rattle.rnc_syntax.specs.Syntax as syntax
 use Rattle.rnc_syntax.specs.Syntax.{NameClass, DatatypeName, Mention, Pattern, Component}
 use Rattle.rnc_syntax.specs.Grammar as grammar
 use Rattle.rnc_syntax.specs.Grammar.{Setting, content, override, type_of, method_of, connector_of, IsLiteral, MayBeParameters, IsClass, IsPattern, AreMore}
-use Rattle.rnc_syntax.specs.Grammar.{IsParticle, IsPrimary, IsBraced, AreComponents, IsComponent, MayOverride}
+use Rattle.rnc_syntax.specs.Grammar.{IsParticle, IsPrimary, IsBarePrimary, IsBraced, AreComponents, IsComponent, IsBareComponent, MayOverride}
+use Rattle.rnc_syntax.specs.Grammar.{MayBeAnnotation}
 use Rattle.rnc_syntax.specs.Combinators.{follow, follow_keyword, after, identifier_at, many}
 use Rattle.rnc_syntax.specs.Productions.{literal_at, parameters_at, mention_at, braced_with, contents_with, named_with, begins_segment, typed_at, type_front}
-use Rattle.rnc_syntax.specs.Productions.{other_at, atom_at, parens_with, opened_with, primary_with, repeated, particle_with, separator_of, joined, rest_with}
-use Rattle.rnc_syntax.specs.Productions.{pattern_from, data_front, data_with, pattern_with, method_at, overrides_with, component_front, assigned_at}
-use Rattle.rnc_syntax.specs.Productions.{component_with, components_with, inside_at}
+use Rattle.rnc_syntax.specs.Productions.{other_at, atom_at, parens_with, opened_with, bare_primary_with, primary_with, repeated, particle_with, separator_of}
+use Rattle.rnc_syntax.specs.Productions.{joined, rest_with}
+use Rattle.rnc_syntax.specs.Productions.{pattern_from, data_front, data_with, bare_pattern_with, pattern_with, method_at, overrides_with, component_front}
+use Rattle.rnc_syntax.specs.Productions.{assigned_at, bare_component_with, component_with, components_with, inside_at}
 use Rattle.rnc_syntax.specs.Sentence.{NestsWithin}
 use Rattle.rnc_syntax.proofs.Balance.{Plain, plain, braces, parens, first_within, second_within, behind_within, inside_within, none_within, plain_type}
-use Rattle.rnc_syntax.proofs.Balance.{plain_method, plain_connector, literal_even, may_parameters_even, may_inherit_even, class_even, particle_even}
-use Rattle.rnc_syntax.proofs.Balance.{component_even}
+use Rattle.rnc_syntax.proofs.Balance.{plain_method, plain_connector, annotation_even, literal_even, may_parameters_even, may_inherit_even, class_even}
+use Rattle.rnc_syntax.proofs.Balance.{particle_even, component_even}
+use Rattle.rnc_syntax.proofs.CompletenessAnnotations.{StandsAlone, no_bracket, annotated_parts, annotated_is, annotated_behind, annotated_read}
 use Rattle.rnc_syntax.proofs.Completeness.{Manys, manys_end, manys_more, manys_read, literal_complete, literal_begins, parameters_complete, braces_read}
 use Rattle.rnc_syntax.proofs.Completeness.{mention_complete}
 use Rattle.rnc_syntax.proofs.CompletenessClasses.{classes, class_complete}
@@ -104,6 +107,7 @@ starts_component (identifier n) = true
 starts_component (keyword keywords.Start s) = true
 starts_component (keyword keywords.Div s) = true
 starts_component (keyword keywords.Include s) = true
+starts_component (sign OpenBracket) = true
 starts_component _ = false
 
 follows_start : (x : Lexeme) (r : List Lexeme) → starts_component x ≡ true → FollowsPattern (x ∷ r)
@@ -130,14 +134,32 @@ follows_start (keyword keywords.Include s) r e =
       particle = record { primary = record { tilde = refl; brace = refl; inherits = refl; no_segment = refl }; once = λ t. refl; minus = refl };
       separator = refl;
     }
+follows_start (sign OpenBracket) r e =
+    record {
+      particle = record { primary = record { tilde = refl; brace = refl; inherits = refl; no_segment = refl }; once = λ t. refl; minus = refl };
+      separator = refl;
+    }
 follows_start _ r e = absurd cc
 
-component_starts : {w : Setting} {ts : List Lexeme} {c : Component} → IsComponent w ts c → (x : Lexeme) × (r : List Lexeme) × (ts ≡ x ∷ r)
-    × (starts_component x ≡ true)
-component_starts (grammar.start {a = a} {x = x} {s = s} is p e) = (keyword keywords.Start s, x ∷ a, e, refl)
-component_starts (grammar.define {a = a} {x = x} {n = n} is p e) = (identifier n, x ∷ a, e, refl)
-component_starts (grammar.div {a = a} {s = s} p e f) = (keyword keywords.Div s, sign OpenBrace ∷ (a ++ sign CloseBrace ∷ []), e, refl)
-component_starts (grammar.include {a = a} {b = b} {o = o} {s = s} w-is p q r e f) = (keyword keywords.Include s, a ++ (b ++ o), e, refl)
+-- the first token is one of a component
+abbrev Starts : List Lexeme → Type 0
+Starts ts = (x : Lexeme) × (r : List Lexeme) × (ts ≡ x ∷ r) × (starts_component x ≡ true)
+
+bare_component_starts : {w : Setting} {ts : List Lexeme} {c : Component} → IsBareComponent w ts c → Starts ts
+bare_component_starts (grammar.start {a = a} {x = x} {s = s} is p e) = (keyword keywords.Start s, x ∷ a, e, refl)
+bare_component_starts (grammar.define {a = a} {x = x} {n = n} is p e) = (identifier n, x ∷ a, e, refl)
+bare_component_starts (grammar.div {a = a} {s = s} p e f) = (keyword keywords.Div s, sign OpenBrace ∷ (a ++ sign CloseBrace ∷ []), e, refl)
+bare_component_starts (grammar.include {a = a} {b = b} {o = o} {s = s} w-is p q r e f) = (keyword keywords.Include s, a ++ (b ++ o), e, refl)
+
+starts_behind : {note : List Lexeme} → MayBeAnnotation note → (ts a : List Lexeme) → ts ≡ note ++ a → Starts a → Starts ts
+starts_behind (grammar.without_annotation f) ts a e s = (s.0, s.1, e ∙ ap (λ (n : List Lexeme). n ++ a) f ∙ s.2, s.3)
+starts_behind (grammar.with_annotation {a = c} p f) ts a e s =
+    let rest = (c ++ sign CloseBracket ∷ []) ++ a in
+    let parts : ts ≡ sign OpenBracket ∷ rest = e ∙ ap (λ (n : List Lexeme). n ++ a) f in
+    (sign OpenBracket, rest, parts, refl)
+
+component_starts : {w : Setting} {ts : List Lexeme} {c : Component} → IsComponent w ts c → Starts ts
+component_starts {w} {ts} (grammar.annotated_component {a = a} may p e) = starts_behind may ts a e (bare_component_starts p)
 
 follows_components : {rest : List Lexeme} → FollowsComponents rest → FollowsPattern rest
 follows_components (ended e) = rw e follows_end
@@ -147,7 +169,7 @@ follows_component_at : (a ts rest : List Lexeme) (x : Lexeme) (r : List Lexeme) 
 follows_component_at a ts rest x r e is = rw e (follows_start x ((r ++ ts) ++ rest) is)
 
 -- more components, or what follows them
-more_follow : {w : Setting} {b : List Lexeme} {cs : List Component} → AreComponents w b cs → (rest : List Lexeme) → FollowsComponents rest
+pub more_follow : {w : Setting} {b : List Lexeme} {cs : List Component} → AreComponents w b cs → (rest : List Lexeme) → FollowsComponents rest
     → FollowsPattern (b ++ rest)
 more_follow (grammar.no_components e) rest f = rw e (follows_components f)
 more_follow (grammar.and_component {a = a} {b = b} p q e) rest f = let s = component_starts p in rw e (follows_component_at a b rest s.0 s.1 s.2 s.3)
@@ -173,15 +195,15 @@ value_read d w ts us rest v e p =
     subst (λ (ts : List Lexeme). typed_at d ts ≡ Ok (syntax.value d v, rest)) (sym e) (rw q refl)
 
 untyped_read : (n : ℕ) (w : List ℕ) (ts us rest : List Lexeme) (v : List ℕ) → ts ≡ segment w ∷ us → literal_at ts ≡ Ok (v, rest)
-    → primary_with (inside_at n) ts ≡ Ok (syntax.value syntax.token_type v, rest)
-unfolding primary_with atom_at other_at
+    → bare_primary_with (inside_at n) ts ≡ Ok (syntax.value syntax.token_type v, rest)
+unfolding bare_primary_with atom_at other_at
 untyped_read n w ts us rest v e p =
     let q : literal_at (segment w ∷ us) ≡ Ok (v, rest) = subst (λ (ts : List Lexeme). literal_at ts ≡ Ok (v, rest)) e p in
-    subst (λ (ts : List Lexeme). primary_with (inside_at n) ts ≡ Ok (syntax.value syntax.token_type v, rest)) (sym e) (rw q refl)
+    subst (λ (ts : List Lexeme). bare_primary_with (inside_at n) ts ≡ Ok (syntax.value syntax.token_type v, rest)) (sym e) (rw q refl)
 
 typed_read : (n : ℕ) (x : Lexeme) (d : DatatypeName) (ts rest : List Lexeme) (t : Pattern) → type_of x ≡ Some d → typed_at d ts ≡ Ok (t, rest)
-    → primary_with (inside_at n) (x ∷ ts) ≡ Ok (t, rest)
-unfolding primary_with atom_at
+    → bare_primary_with (inside_at n) (x ∷ ts) ≡ Ok (t, rest)
+unfolding bare_primary_with atom_at
 typed_read n (cname p l) d ts rest t is e = let q : syntax.prefixed_type p l ≡ d = cc in ap (λ (d : DatatypeName). typed_at d ts) q ∙ e
 typed_read n (keyword keywords.String s) d ts rest t is e = let q : syntax.string_type ≡ d = cc in ap (λ (d : DatatypeName). typed_at d ts) q ∙ e
 typed_read n (keyword keywords.Token s) d ts rest t is e = let q : syntax.token_type ≡ d = cc in ap (λ (d : DatatypeName). typed_at d ts) q ∙ e
@@ -226,7 +248,7 @@ data_is_read : (x : Lexeme) (d : DatatypeName) (ts a rest : List Lexeme) (ps : L
     → begins_segment (a ++ rest) ≡ false → parameters_at (a ++ rest) ≡ Ok (ps, rest) → IsDataRead (syntax.data_of d ps) (ts ++ rest) rest
 data_is_read x d ts a rest ps e is s p = (d, ps, a ++ rest, ap (λ (ts : List Lexeme). data_front (ts ++ rest)) e ∙ front_typed x d (a ++ rest) is s, p, refl)
 
-first_is : {ts : List Lexeme} {t : Pattern} → IsPrimary ts t → (rest : List Lexeme) → FollowsPrimary rest → (data_front (ts ++ rest) ≡ None)
+first_is : {ts : List Lexeme} {t : Pattern} → IsBarePrimary ts t → (rest : List Lexeme) → FollowsPrimary rest → (data_front (ts ++ rest) ≡ None)
     ⊎ IsDataRead t (ts ++ rest) rest
 first_is (grammar.element p q e) rest f = inl (other_front _ _ _ rest e refl)
 first_is (grammar.attribute p q e) rest f = inl (other_front _ _ _ rest e refl)
@@ -247,19 +269,19 @@ first_is (grammar.external p q e g) rest f = inl (other_front _ _ _ rest e refl)
 first_is (grammar.grammar p e g) rest f = inl (other_front _ _ _ rest e refl)
 first_is (grammar.in_parens p e) rest f = inl (other_front _ _ _ rest e refl)
 
-first_from : (n : ℕ) (ts rest : List Lexeme) (t : Pattern) → data_front ts ≡ None → primary_with (inside_at n) ts ≡ Ok (t, rest)
-    → pattern_with (inside_at n) ts ≡ pattern_from (inside_at n) t rest
-unfolding pattern_with
+first_from : (n : ℕ) (ts rest : List Lexeme) (t : Pattern) → data_front ts ≡ None → bare_primary_with (inside_at n) ts ≡ Ok (t, rest)
+    → bare_pattern_with (inside_at n) ts ≡ pattern_from (inside_at n) t rest
+unfolding bare_pattern_with
 first_from n ts rest t none one = rw (none, one) refl
 
 data_from : (n : ℕ) (ts us rest : List Lexeme) (d : DatatypeName) (ps : List (List ℕ × List ℕ)) → data_front ts ≡ Some (d, us)
-    → parameters_at us ≡ Ok (ps, rest) → follow Minus rest ≡ None → pattern_with (inside_at n) ts ≡ pattern_from (inside_at n) (syntax.data_of d ps) rest
-unfolding pattern_with data_with
+    → parameters_at us ≡ Ok (ps, rest) → follow Minus rest ≡ None → bare_pattern_with (inside_at n) ts ≡ pattern_from (inside_at n) (syntax.data_of d ps) rest
+unfolding bare_pattern_with data_with
 data_from n ts us rest d ps some params minus = rw (some, params, minus) refl
 
 -- a pattern whose first primary is read
 from_first : (n : ℕ) (ts rest : List Lexeme) (t : Pattern) → (data_front ts ≡ None) ⊎ IsDataRead t ts rest → follow Minus rest ≡ None
-    → primary_with (inside_at n) ts ≡ Ok (t, rest) → pattern_with (inside_at n) ts ≡ pattern_from (inside_at n) t rest
+    → bare_primary_with (inside_at n) ts ≡ Ok (t, rest) → bare_pattern_with (inside_at n) ts ≡ pattern_from (inside_at n) t rest
 from_first n ts rest t (inl none) minus one = first_from n ts rest t none one
 from_first n ts rest t (inr (d, ps, us, front, params, is)) minus one = data_from n ts us rest d ps front params minus
     ∙ ap (λ (t : Pattern). pattern_from (inside_at n) t rest) (sym is)
@@ -270,8 +292,8 @@ from_once n rest t e = ap (λ (x : Pattern × List Lexeme). rest_with (inside_at
 
 except_read : (n : ℕ) (x : Lexeme) (d : DatatypeName) (ts us rest : List Lexeme) (ps : List (List ℕ × List ℕ)) (t : Pattern)
     → data_front (x ∷ ts) ≡ Some (d, ts) → parameters_at ts ≡ Ok (ps, sign Minus ∷ us) → primary_with (inside_at n) us ≡ Ok (t, rest)
-    → pattern_with (inside_at n) (x ∷ ts) ≡ Ok (syntax.data_except d ps t, rest)
-unfolding pattern_with data_with
+    → bare_pattern_with (inside_at n) (x ∷ ts) ≡ Ok (syntax.data_except d ps t, rest)
+unfolding bare_pattern_with data_with
 except_read n x d ts us rest ps t front params one = rw (front, params, one) refl
 
 ended_read : (n : ℕ) (rest : List Lexeme) (t : Pattern) → separator_of rest ≡ None → rest_with (inside_at n) t (separator_of rest) rest ≡ Ok (t, rest)
@@ -344,66 +366,67 @@ last_read n s k ts a rest t is e one none =
     (manys_end (follow s) (particle_with (inside_at n)) rest none))
 
 element_read : (n : ℕ) (s : Spelling) (a b rest : List Lexeme) (c : NameClass) (t : Pattern) → classes n (a ++ (b ++ rest)) ≡ Ok (c, b ++ rest)
-    → braced_with (inside_at n) (b ++ rest) ≡ Ok (t, rest) → primary_with (inside_at n) ((keyword keywords.Element s ∷ (a ++ b)) ++ rest) ≡ Ok
+    → braced_with (inside_at n) (b ++ rest) ≡ Ok (t, rest) → bare_primary_with (inside_at n) ((keyword keywords.Element s ∷ (a ++ b)) ++ rest) ≡ Ok
     (syntax.element c t, rest)
-unfolding primary_with opened_with named_with
+unfolding bare_primary_with opened_with named_with
 element_read n s a b rest c t class body = rw (append_assoc a b rest, class, body) refl
 
 attribute_read : (n : ℕ) (s : Spelling) (a b rest : List Lexeme) (c : NameClass) (t : Pattern) → classes n (a ++ (b ++ rest)) ≡ Ok (c, b ++ rest)
-    → braced_with (inside_at n) (b ++ rest) ≡ Ok (t, rest) → primary_with (inside_at n) ((keyword keywords.Attribute s ∷ (a ++ b)) ++ rest) ≡ Ok
+    → braced_with (inside_at n) (b ++ rest) ≡ Ok (t, rest) → bare_primary_with (inside_at n) ((keyword keywords.Attribute s ∷ (a ++ b)) ++ rest) ≡ Ok
     (syntax.attribute c t, rest)
-unfolding primary_with opened_with named_with
+unfolding bare_primary_with opened_with named_with
 attribute_read n s a b rest c t class body = rw (append_assoc a b rest, class, body) refl
 
 list_read : (n : ℕ) (s : Spelling) (a rest : List Lexeme) (t : Pattern) → braced_with (inside_at n) (a ++ rest) ≡ Ok (t, rest)
-    → primary_with (inside_at n) ((keyword keywords.List s ∷ a) ++ rest) ≡ Ok (syntax.list t, rest)
-unfolding primary_with opened_with
+    → bare_primary_with (inside_at n) ((keyword keywords.List s ∷ a) ++ rest) ≡ Ok (syntax.list t, rest)
+unfolding bare_primary_with opened_with
 list_read n s a rest t body = rw body refl
 
 mixed_read : (n : ℕ) (s : Spelling) (a rest : List Lexeme) (t : Pattern) → braced_with (inside_at n) (a ++ rest) ≡ Ok (t, rest)
-    → primary_with (inside_at n) ((keyword keywords.Mixed s ∷ a) ++ rest) ≡ Ok (syntax.mixed t, rest)
-unfolding primary_with opened_with
+    → bare_primary_with (inside_at n) ((keyword keywords.Mixed s ∷ a) ++ rest) ≡ Ok (syntax.mixed t, rest)
+unfolding bare_primary_with opened_with
 mixed_read n s a rest t body = rw body refl
 
-ref_read : (n : ℕ) (w : List ℕ) (rest : List Lexeme) → primary_with (inside_at n) (identifier w ∷ rest) ≡ Ok (syntax.ref w, rest)
-unfolding primary_with atom_at
+ref_read : (n : ℕ) (w : List ℕ) (rest : List Lexeme) → bare_primary_with (inside_at n) (identifier w ∷ rest) ≡ Ok (syntax.ref w, rest)
+unfolding bare_primary_with atom_at
 ref_read n w rest = refl
 
-parent_read : (n : ℕ) (s : Spelling) (w : List ℕ) (rest : List Lexeme) → primary_with (inside_at n) (keyword keywords.Parent s ∷ identifier w ∷ rest) ≡ Ok
+parent_read : (n : ℕ) (s : Spelling) (w : List ℕ) (rest : List Lexeme) → bare_primary_with (inside_at n) (keyword keywords.Parent s ∷ identifier w ∷ rest) ≡ Ok
     (syntax.parent_ref w, rest)
-unfolding primary_with atom_at other_at identifier_at
+unfolding bare_primary_with atom_at other_at identifier_at
 parent_read n s w rest = refl
 
-empty_read : (n : ℕ) (s : Spelling) (rest : List Lexeme) → primary_with (inside_at n) (keyword keywords.Empty s ∷ rest) ≡ Ok (syntax.empty, rest)
-unfolding primary_with atom_at
+empty_read : (n : ℕ) (s : Spelling) (rest : List Lexeme) → bare_primary_with (inside_at n) (keyword keywords.Empty s ∷ rest) ≡ Ok (syntax.empty, rest)
+unfolding bare_primary_with atom_at
 empty_read n s rest = refl
 
-text_read : (n : ℕ) (s : Spelling) (rest : List Lexeme) → primary_with (inside_at n) (keyword keywords.Text s ∷ rest) ≡ Ok (syntax.text, rest)
-unfolding primary_with atom_at
+text_read : (n : ℕ) (s : Spelling) (rest : List Lexeme) → bare_primary_with (inside_at n) (keyword keywords.Text s ∷ rest) ≡ Ok (syntax.text, rest)
+unfolding bare_primary_with atom_at
 text_read n s rest = refl
 
-not_allowed_read : (n : ℕ) (s : Spelling) (rest : List Lexeme) → primary_with (inside_at n) (keyword keywords.NotAllowed s ∷ rest) ≡ Ok (
+not_allowed_read : (n : ℕ) (s : Spelling) (rest : List Lexeme) → bare_primary_with (inside_at n) (keyword keywords.NotAllowed s ∷ rest) ≡ Ok (
   syntax.not_allowed,
   rest,
 )
-unfolding primary_with atom_at
+unfolding bare_primary_with atom_at
 not_allowed_read n s rest = refl
 
 external_read : (n : ℕ) (s : Spelling) (a b rest : List Lexeme) (m : Mention) → mention_at s.place (a ++ (b ++ rest)) ≡ Ok (m, rest)
-    → primary_with (inside_at n) ((keyword keywords.External s ∷ (a ++ b)) ++ rest) ≡ Ok (syntax.external m, rest)
-unfolding primary_with atom_at other_at
+    → bare_primary_with (inside_at n) ((keyword keywords.External s ∷ (a ++ b)) ++ rest) ≡ Ok (syntax.external m, rest)
+unfolding bare_primary_with atom_at other_at
 external_read n s a b rest m e = rw (append_assoc a b rest, e) refl
 
 grammar_read : (n : ℕ) (s : Spelling) (a rest : List Lexeme) (cs : List Component)
     → contents_with (inside_at n) content ((sign OpenBrace ∷ (a ++ sign CloseBrace ∷ [])) ++ rest) ≡ Ok (cs, rest)
-    → primary_with (inside_at n) ((keyword keywords.Grammar s ∷ sign OpenBrace ∷ (a ++ sign CloseBrace ∷ [])) ++ rest) ≡ Ok
+    → bare_primary_with (inside_at n) ((keyword keywords.Grammar s ∷ sign OpenBrace ∷ (a ++ sign CloseBrace ∷ [])) ++ rest) ≡ Ok
     (syntax.grammar (syntax.components_of cs), rest)
-unfolding primary_with opened_with
+unfolding bare_primary_with opened_with
 grammar_read n s a rest cs e = rw e refl
 
 parens_read : (n : ℕ) (a rest : List Lexeme) (t : Pattern) → pattern_with (inside_at n) (a ++ (sign CloseParenthesis ∷ rest)) ≡ Ok
-    (t, sign CloseParenthesis ∷ rest) → primary_with (inside_at (suc n)) ((sign OpenParenthesis ∷ (a ++ sign CloseParenthesis ∷ [])) ++ rest) ≡ Ok (t, rest)
-unfolding primary_with opened_with parens_with inside_at after
+    (t, sign CloseParenthesis ∷ rest)
+    → bare_primary_with (inside_at (suc n)) ((sign OpenParenthesis ∷ (a ++ sign CloseParenthesis ∷ [])) ++ rest) ≡ Ok (t, rest)
+unfolding bare_primary_with opened_with parens_with inside_at after
 parens_read n a rest t body = rw (append_assoc a (sign CloseParenthesis ∷ []) rest, body) refl
 
 braced_read : (n : ℕ) (a rest : List Lexeme) (t : Pattern) → pattern_with (inside_at n) (a ++ (sign CloseBrace ∷ rest)) ≡ Ok (t, sign CloseBrace ∷ rest)
@@ -433,35 +456,43 @@ method_read (sign AndEqual) m ts e = let q : methods.Interleave ≡ m = cc in ap
 method_read _ m ts e = absurd cc
 
 start_read : (n : ℕ) (w : Setting) (s : Spelling) (x : Lexeme) (m : Method) (ts rest : List Lexeme) (t : Pattern) → method_of x ≡ Some m
-    → pattern_with (inside_at n) ts ≡ Ok (t, rest) → component_with (inside_at n) w (keyword keywords.Start s ∷ x ∷ ts) ≡ Ok (syntax.start m t, rest)
-unfolding component_with assigned_at
+    → pattern_with (inside_at n) ts ≡ Ok (t, rest) → bare_component_with (inside_at n) w (keyword keywords.Start s ∷ x ∷ ts) ≡ Ok (syntax.start m t, rest)
+unfolding bare_component_with assigned_at
 start_read n w s x m ts rest t is body = rw (method_read x m ts is, body) refl
 
 define_read : (n : ℕ) (w : Setting) (name : List ℕ) (x : Lexeme) (m : Method) (ts rest : List Lexeme) (t : Pattern) → method_of x ≡ Some m
-    → pattern_with (inside_at n) ts ≡ Ok (t, rest) → component_with (inside_at n) w (identifier name ∷ x ∷ ts) ≡ Ok (syntax.define name m t, rest)
-unfolding component_with assigned_at
+    → pattern_with (inside_at n) ts ≡ Ok (t, rest) → bare_component_with (inside_at n) w (identifier name ∷ x ∷ ts) ≡ Ok (syntax.define name m t, rest)
+unfolding bare_component_with assigned_at
 define_read n w name x m ts rest t is body = rw (method_read x m ts is, body) refl
 
 div_read : (n : ℕ) (w : Setting) (s : Spelling) (ts rest : List Lexeme) (cs : List Component) → contents_with (inside_at n) w ts ≡ Ok (cs, rest)
-    → component_with (inside_at n) w (keyword keywords.Div s ∷ ts) ≡ Ok (syntax.div (syntax.components_of cs), rest)
-unfolding component_with
+    → bare_component_with (inside_at n) w (keyword keywords.Div s ∷ ts) ≡ Ok (syntax.div (syntax.components_of cs), rest)
+unfolding bare_component_with
 div_read n w s ts rest cs e = rw e refl
 
-include_read : (n : ℕ) (w : Setting) (s : Spelling) (a b o rest : List Lexeme) (m : Mention) (cs : List Component)
+include_read : (n : ℕ) (s : Spelling) (a b o rest : List Lexeme) (m : Mention) (cs : List Component)
     → mention_at s.place (a ++ (b ++ (o ++ rest))) ≡ Ok (m, o ++ rest) → overrides_with (inside_at n) (o ++ rest) ≡ Ok (cs, rest)
-    → component_with (inside_at n) w ((keyword keywords.Include s ∷ (a ++ (b ++ o))) ++ rest) ≡ Ok (syntax.include m (syntax.components_of cs), rest)
-unfolding component_with
-include_read n w s a b o rest m cs e f = rw (append_assoc a (b ++ o) rest, append_assoc b o rest, e, f) refl
+    → bare_component_with (inside_at n) content ((keyword keywords.Include s ∷ (a ++ (b ++ o))) ++ rest) ≡ Ok (syntax.include m (syntax.components_of cs), rest)
+unfolding bare_component_with
+include_read n s a b o rest m cs e f = rw (append_assoc a (b ++ o) rest, append_assoc b o rest, e, f) refl
+
+bare_front_starts : (w : Setting) {ts : List Lexeme} {c : Component} → IsBareComponent w ts c → (r : List Lexeme) → component_front w (ts ++ r) ≡ Some (ts ++ r)
+bare_front_starts content (grammar.start is p e) r = rw e refl
+bare_front_starts content (grammar.define is p e) r = rw e refl
+bare_front_starts content (grammar.div p e f) r = rw e refl
+bare_front_starts content (grammar.include is p q o e f) r = rw e refl
+bare_front_starts override (grammar.start is p e) r = rw e refl
+bare_front_starts override (grammar.define is p e) r = rw e refl
+bare_front_starts override (grammar.div p e f) r = rw e refl
+bare_front_starts override (grammar.include is p q o e f) r = absurd cc
+
+front_behind : (w : Setting) {note : List Lexeme} → MayBeAnnotation note → (ts a r : List Lexeme) → ts ≡ note ++ a → component_front w (a ++ r) ≡ Some (a ++ r)
+    → component_front w (ts ++ r) ≡ Some (ts ++ r)
+front_behind w (grammar.without_annotation f) ts a r e is = rw (e, f) is
+front_behind w (grammar.with_annotation p f) ts a r e is = rw (e, f) refl
 
 front_starts : (w : Setting) {ts : List Lexeme} {c : Component} → IsComponent w ts c → (r : List Lexeme) → component_front w (ts ++ r) ≡ Some (ts ++ r)
-front_starts content (grammar.start is p e) r = rw e refl
-front_starts content (grammar.define is p e) r = rw e refl
-front_starts content (grammar.div p e f) r = rw e refl
-front_starts content (grammar.include is p q o e f) r = rw e refl
-front_starts override (grammar.start is p e) r = rw e refl
-front_starts override (grammar.define is p e) r = rw e refl
-front_starts override (grammar.div p e f) r = rw e refl
-front_starts override (grammar.include is p q o e f) r = absurd cc
+front_starts w {ts} (grammar.annotated_component {a = a} may p e) r = front_behind w may ts a r e (bare_front_starts w p r)
 
 takes_some : (a : List Lexeme) (x : Lexeme) (c r : List Lexeme) → a ≡ x ∷ c → length r < length (a ++ r)
 takes_some a x c r e = rw e (omega (arith, length-append c r))
@@ -491,18 +522,40 @@ may_override_follows : {o : List Lexeme} {cs : List Component} → MayOverride o
 may_override_follows (grammar.without_overrides e) rest f = (rw e f.tilde, rw e f.inherits)
 may_override_follows (grammar.with_overrides p e) rest f = (rw e refl, rw e refl)
 
-minus_parts : (x : Lexeme) (ts a b rest : List Lexeme) → ts ≡ x ∷ (a ++ sign Minus ∷ b) → ts ++ rest ≡ x ∷ (a ++ sign Minus ∷ (b ++ rest))
-minus_parts x ts a b rest e = ap (λ (ts : List Lexeme). ts ++ rest) e ∙ ap (λ (r : List Lexeme). x ∷ r) (append_assoc a (sign Minus ∷ b) rest)
+minus_parts : (note : List Lexeme) (x : Lexeme) (ts a b rest : List Lexeme) → ts ≡ note ++ x ∷ (a ++ sign Minus ∷ b)
+    → ts ++ rest ≡ note ++ x ∷ (a ++ sign Minus ∷ (b ++ rest))
+minus_parts note x ts a b rest e = annotated_parts ts note (x ∷ (a ++ sign Minus ∷ b)) rest e
+    ∙ ap (λ (r : List Lexeme). note ++ x ∷ r) (append_assoc a (sign Minus ∷ b) rest)
 
 sign_parts : (s : Sign) (ts a rest : List Lexeme) → ts ≡ a ++ sign s ∷ [] → ts ++ rest ≡ a ++ sign s ∷ rest
 sign_parts s ts a rest e = ap (λ (ts : List Lexeme). ts ++ rest) e ∙ append_assoc a (sign s ∷ []) rest
 
 -- a particle that a sign ends, first in a pattern
-from_repeated : (n : ℕ) (ts us rest : List Lexeme) (t u : Pattern) → (data_front ts ≡ None) ⊎ IsDataRead t ts us → follow Minus us ≡ None
-    → primary_with (inside_at n) ts ≡ Ok (t, us) → repeated t us ≡ (u, rest) → pattern_with (inside_at n) ts ≡ rest_with (inside_at n) u (separator_of rest)
-    rest
-from_repeated n ts us rest t u front minus one is =
-    from_first n ts us t front minus one ∙ ap (λ (x : Pattern × List Lexeme). rest_with (inside_at n) x.0 (separator_of x.1) x.1) is
+from_repeated : (n : ℕ) (ts us rest : List Lexeme) (t u : Pattern) → pattern_with (inside_at n) ts ≡ pattern_from (inside_at n) t us
+    → repeated t us ≡ (u, rest) → pattern_with (inside_at n) ts ≡ rest_with (inside_at n) u (separator_of rest) rest
+from_repeated n ts us rest t u first is = first ∙ ap (λ (x : Pattern × List Lexeme). rest_with (inside_at n) x.0 (separator_of x.1) x.1) is
+
+primary_alone : (n : ℕ) → StandsAlone (bare_primary_with (inside_at n))
+unfolding bare_primary_with atom_at other_at
+primary_alone n us x e = absurd cc
+
+pattern_alone : (n : ℕ) → StandsAlone (bare_pattern_with (inside_at n))
+unfolding bare_pattern_with bare_primary_with atom_at other_at
+pattern_alone n us x e = absurd cc
+
+component_alone : (n : ℕ) (w : Setting) → StandsAlone (bare_component_with (inside_at n) w)
+unfolding bare_component_with assigned_at
+component_alone n w us x e = absurd cc
+
+-- a pattern whose first primary has an annotation
+behind_annotation : (n : ℕ) {note : List Lexeme} → MayBeAnnotation note → (ts a rest : List Lexeme) (t : Pattern) → ts ≡ note ++ a
+    → bare_primary_with (inside_at n) (a ++ rest) ≡ Ok (t, rest) → bare_pattern_with (inside_at n) (a ++ rest) ≡ pattern_from (inside_at n) t rest
+    → pattern_with (inside_at n) (ts ++ rest) ≡ pattern_from (inside_at n) t rest
+unfolding pattern_with
+behind_annotation n {note} may ts a rest t e one first =
+    let bare = bare_pattern_with (inside_at n) in
+    ap (pattern_with (inside_at n)) (annotated_parts ts note a rest e)
+    ∙ annotated_is bare may (a ++ rest) (no_bracket (bare_primary_with (inside_at n)) (primary_alone n) (a ++ rest) (t, rest) one) ∙ first
 
 braced_begins : {b : List Lexeme} {t : Pattern} → IsBraced b t → (c : List Lexeme) × (b ≡ sign OpenBrace ∷ c)
 braced_begins (grammar.in_braces {a = a} p e) = (a ++ sign CloseBrace ∷ [], e)
@@ -529,6 +582,8 @@ contents_many : (n : ℕ) (w : Setting) (a rest : List Lexeme) (cs : List Compon
 contents_many n w a rest cs m = contents_read n w a rest cs (components_read n w (a ++ sign CloseBrace ∷ rest) (sign CloseBrace ∷ rest) cs m)
 
 mutual
+  unfolding pattern_with primary_with component_with
+
   pub pattern_complete : {ts : List Lexeme} {t : Pattern} → IsPattern ts t → (n : ℕ) → NestsWithin n ts → (rest : List Lexeme) → FollowsPattern rest
       → pattern_with (inside_at n) (ts ++ rest) ≡ Ok (t, rest)
   pattern_complete {ts} {t} (grammar.one_particle p) n nest rest f = first_complete p n nest rest f.particle ∙ ended_read n rest t f.separator
@@ -541,35 +596,40 @@ mutual
       subst (λ (u : Pattern). pattern_with (inside_at n) (ts ++ rest) ≡ Ok (u, rest)) (sym g)
       (subst (λ (ts : List Lexeme). pattern_with (inside_at n) ts ≡ Ok (syntax.members k (t ∷ us), rest))
       (sym (ap (λ (ts : List Lexeme). ts ++ rest) e ∙ append_assoc a b rest)) whole)
-  pattern_complete {ts} (grammar.data_except {a = a} {b = b} {x = x} {d = d} {ps = ps} {t = t} is p q e) n nest rest f =
-      let inner = behind_within n ts x (a ++ sign Minus ∷ b) e (plain_type x d is) nest in
+  pattern_complete {ts} (grammar.data_except {n = note} {a = a} {b = b} {d = d} {ps = ps} {t = t} x may is p q e) n nest rest f =
+      let inner = behind_within n (x ∷ (a ++ sign Minus ∷ b)) x (a ++ sign Minus ∷ b) refl (plain_type x d is)
+      (second_within n ts note (x ∷ (a ++ sign Minus ∷ b)) e (annotation_even may) nest) in
       let last = behind_within n (sign Minus ∷ b) (sign Minus) b refl (plain _ refl refl) (second_within n (a ++ sign Minus ∷ b) a (sign Minus ∷ b) refl
       (may_parameters_even p) inner) in
       let behind = sign Minus ∷ (b ++ rest) in
-      subst (λ (ts : List Lexeme). pattern_with (inside_at n) ts ≡ Ok (syntax.data_except d ps t, rest)) (sym (minus_parts x ts a b rest e))
+      subst (λ (ts : List Lexeme). pattern_with (inside_at n) ts ≡ Ok (syntax.data_except d ps t, rest)) (sym (minus_parts note x ts a b rest e))
+      (annotated_behind (bare_pattern_with (inside_at n)) (pattern_alone n) may (x ∷ (a ++ behind)) (syntax.data_except d ps t, rest)
       (except_read n x d (a ++ behind) (b ++ rest) rest ps t (front_typed x d (a ++ behind) is (may_no_segment p behind refl))
-      (parameters_complete p behind refl) (primary_complete q n last rest f.particle.primary))
+      (parameters_complete p behind refl) (primary_complete q n last rest f.particle.primary)))
 
   -- the first particle of a pattern
   first_complete : {ts : List Lexeme} {t : Pattern} → IsParticle ts t → (n : ℕ) → NestsWithin n ts → (rest : List Lexeme) → FollowsParticle rest
       → pattern_with (inside_at n) (ts ++ rest) ≡ rest_with (inside_at n) t (separator_of rest) rest
-  first_complete {ts} {t} (grammar.once p) n nest rest f = from_repeated n (ts ++ rest) rest rest t t (first_is p rest f.primary) f.minus
-      (primary_complete p n nest rest f.primary) (f.once t)
-  first_complete {ts} (grammar.optional {a = a} {t = t} p e) n nest rest f =
-      subst (λ (ts : List Lexeme). pattern_with (inside_at n) ts ≡ rest_with (inside_at n) (syntax.optional t) (separator_of rest) rest)
-      (sym (sign_parts Question ts a rest e))
-      (from_repeated n (a ++ sign Question ∷ rest) (sign Question ∷ rest) rest t (syntax.optional t) (first_is p (sign Question ∷ rest) (follows_question rest))
-      refl (primary_complete p n (first_within n ts a (sign Question ∷ []) e nest) (sign Question ∷ rest) (follows_question rest)) refl)
-  first_complete {ts} (grammar.zero_or_more {a = a} {t = t} p e) n nest rest f =
-      subst (λ (ts : List Lexeme). pattern_with (inside_at n) ts ≡ rest_with (inside_at n) (syntax.zero_or_more t) (separator_of rest) rest)
-      (sym (sign_parts Star ts a rest e))
-      (from_repeated n (a ++ sign Star ∷ rest) (sign Star ∷ rest) rest t (syntax.zero_or_more t) (first_is p (sign Star ∷ rest) (follows_star rest)) refl
-      (primary_complete p n (first_within n ts a (sign Star ∷ []) e nest) (sign Star ∷ rest) (follows_star rest)) refl)
-  first_complete {ts} (grammar.one_or_more {a = a} {t = t} p e) n nest rest f =
-      subst (λ (ts : List Lexeme). pattern_with (inside_at n) ts ≡ rest_with (inside_at n) (syntax.one_or_more t) (separator_of rest) rest)
-      (sym (sign_parts Plus ts a rest e))
-      (from_repeated n (a ++ sign Plus ∷ rest) (sign Plus ∷ rest) rest t (syntax.one_or_more t) (first_is p (sign Plus ∷ rest) (follows_plus rest)) refl
-      (primary_complete p n (first_within n ts a (sign Plus ∷ []) e nest) (sign Plus ∷ rest) (follows_plus rest)) refl)
+  first_complete {ts} {t} (grammar.once p) n nest rest f = from_repeated n (ts ++ rest) rest rest t t (primary_first p n nest rest f.primary f.minus) (f.once t)
+  first_complete {ts} {t} (grammar.optional {a = a} {t = u} p e) n nest rest f =
+      subst (λ (ts : List Lexeme). pattern_with (inside_at n) ts ≡ rest_with (inside_at n) t (separator_of rest) rest) (sym (sign_parts Question ts a rest e))
+      (from_repeated n (a ++ sign Question ∷ rest) (sign Question ∷ rest) rest u t
+      (primary_first p n (first_within n ts a (sign Question ∷ []) e nest) (sign Question ∷ rest) (follows_question rest) refl) refl)
+  first_complete {ts} {t} (grammar.zero_or_more {a = a} {t = u} p e) n nest rest f =
+      subst (λ (ts : List Lexeme). pattern_with (inside_at n) ts ≡ rest_with (inside_at n) t (separator_of rest) rest) (sym (sign_parts Star ts a rest e))
+      (from_repeated n (a ++ sign Star ∷ rest) (sign Star ∷ rest) rest u t
+      (primary_first p n (first_within n ts a (sign Star ∷ []) e nest) (sign Star ∷ rest) (follows_star rest) refl) refl)
+  first_complete {ts} {t} (grammar.one_or_more {a = a} {t = u} p e) n nest rest f =
+      subst (λ (ts : List Lexeme). pattern_with (inside_at n) ts ≡ rest_with (inside_at n) t (separator_of rest) rest) (sym (sign_parts Plus ts a rest e))
+      (from_repeated n (a ++ sign Plus ∷ rest) (sign Plus ∷ rest) rest u t
+      (primary_first p n (first_within n ts a (sign Plus ∷ []) e nest) (sign Plus ∷ rest) (follows_plus rest) refl) refl)
+
+  -- the first primary of a pattern
+  primary_first : {ts : List Lexeme} {t : Pattern} → IsPrimary ts t → (n : ℕ) → NestsWithin n ts → (rest : List Lexeme) → FollowsPrimary rest
+      → follow Minus rest ≡ None → pattern_with (inside_at n) (ts ++ rest) ≡ pattern_from (inside_at n) t rest
+  primary_first {ts} {t} (grammar.annotated_primary {n = note} {a = a} may p e) n nest rest f minus =
+      let one = bare_primary_complete p n (second_within n ts note a e (annotation_even may) nest) rest f in
+      behind_annotation n may ts a rest t e one (from_first n (a ++ rest) rest t (first_is p rest f) minus one)
 
   more_complete : {s : Sign} {ts : List Lexeme} {us : List Pattern} → AreMore s ts us → (k : Connector) → connector_of s ≡ Some k → (n : ℕ) → NestsWithin n ts
       → (rest : List Lexeme) → FollowsPattern rest → Manys (follow s) (particle_with (inside_at n)) (ts ++ rest) us rest
@@ -601,45 +661,51 @@ mutual
 
   primary_complete : {ts : List Lexeme} {t : Pattern} → IsPrimary ts t → (n : ℕ) → NestsWithin n ts → (rest : List Lexeme) → FollowsPrimary rest
       → primary_with (inside_at n) (ts ++ rest) ≡ Ok (t, rest)
-  primary_complete {ts} (grammar.element {a = a} {b = b} {c = c} {t = t} {s = s} p q e) n nest rest f =
+  primary_complete {ts} {t} (grammar.annotated_primary {n = note} {a = a} may p e) n nest rest f =
+      annotated_read (bare_primary_with (inside_at n)) (primary_alone n) may ts a rest t e
+      (bare_primary_complete p n (second_within n ts note a e (annotation_even may) nest) rest f)
+
+  bare_primary_complete : {ts : List Lexeme} {t : Pattern} → IsBarePrimary ts t → (n : ℕ) → NestsWithin n ts → (rest : List Lexeme) → FollowsPrimary rest
+      → bare_primary_with (inside_at n) (ts ++ rest) ≡ Ok (t, rest)
+  bare_primary_complete {ts} (grammar.element {a = a} {b = b} {c = c} {t = t} {s = s} p q e) n nest rest f =
       let inner = behind_within n ts (keyword keywords.Element s) (a ++ b) e (plain _ refl refl) nest in
       let g = braced_begins q in
       rw e (element_read n s a b rest c t (class_complete p n (first_within n (a ++ b) a b refl inner) (b ++ rest) (brace_no_bar b rest g.0 g.1)
       (brace_no_minus b rest g.0 g.1)) (braced_complete q n (second_within n (a ++ b) a b refl (class_even p) inner) rest))
-  primary_complete {ts} (grammar.attribute {a = a} {b = b} {c = c} {t = t} {s = s} p q e) n nest rest f =
+  bare_primary_complete {ts} (grammar.attribute {a = a} {b = b} {c = c} {t = t} {s = s} p q e) n nest rest f =
       let inner = behind_within n ts (keyword keywords.Attribute s) (a ++ b) e (plain _ refl refl) nest in
       let g = braced_begins q in
       rw e (attribute_read n s a b rest c t (class_complete p n (first_within n (a ++ b) a b refl inner) (b ++ rest) (brace_no_bar b rest g.0 g.1)
       (brace_no_minus b rest g.0 g.1)) (braced_complete q n (second_within n (a ++ b) a b refl (class_even p) inner) rest))
-  primary_complete {ts} (grammar.list {a = a} {t = t} {s = s} p e) n nest rest f =
+  bare_primary_complete {ts} (grammar.list {a = a} {t = t} {s = s} p e) n nest rest f =
       rw e (list_read n s a rest t (braced_complete p n (behind_within n ts (keyword keywords.List s) a e (plain _ refl refl) nest) rest))
-  primary_complete {ts} (grammar.mixed {a = a} {t = t} {s = s} p e) n nest rest f =
+  bare_primary_complete {ts} (grammar.mixed {a = a} {t = t} {s = s} p e) n nest rest f =
       rw e (mixed_read n s a rest t (braced_complete p n (behind_within n ts (keyword keywords.Mixed s) a e (plain _ refl refl) nest) rest))
-  primary_complete (grammar.ref {n = w} e) n nest rest f = rw e (ref_read n w rest)
-  primary_complete (grammar.parent_ref {n = w} {s = s} e) n nest rest f = rw e (parent_read n s w rest)
-  primary_complete (grammar.empty {s = s} e) n nest rest f = rw e (empty_read n s rest)
-  primary_complete (grammar.text {s = s} e) n nest rest f = rw e (text_read n s rest)
-  primary_complete (grammar.not_allowed {s = s} e) n nest rest f = rw e (not_allowed_read n s rest)
-  primary_complete {ts} (grammar.untyped_value {v = v} p) n nest rest f =
+  bare_primary_complete (grammar.ref {n = w} e) n nest rest f = rw e (ref_read n w rest)
+  bare_primary_complete (grammar.parent_ref {n = w} {s = s} e) n nest rest f = rw e (parent_read n s w rest)
+  bare_primary_complete (grammar.empty {s = s} e) n nest rest f = rw e (empty_read n s rest)
+  bare_primary_complete (grammar.text {s = s} e) n nest rest f = rw e (text_read n s rest)
+  bare_primary_complete (grammar.not_allowed {s = s} e) n nest rest f = rw e (not_allowed_read n s rest)
+  bare_primary_complete {ts} (grammar.untyped_value {v = v} p) n nest rest f =
       let b = literal_begins p in
       untyped_read n b.0 (ts ++ rest) (b.1 ++ rest) rest v (ap (λ (ts : List Lexeme). ts ++ rest) b.2) (literal_complete p rest f.tilde)
-  primary_complete {ts} (grammar.value {a = a} {x = x} {d = d} {v = v} is p e) n nest rest f =
+  bare_primary_complete {ts} (grammar.value {a = a} {x = x} {d = d} {v = v} is p e) n nest rest f =
       let b = literal_begins p in
       rw e (typed_read n x d (a ++ rest) rest (syntax.value d v) is
       (value_read d b.0 (a ++ rest) (b.1 ++ rest) rest v (ap (λ (ts : List Lexeme). ts ++ rest) b.2) (literal_complete p rest f.tilde)))
-  primary_complete {ts} (grammar.data_of {a = a} {x = x} {d = d} {ps = ps} is p e) n nest rest f =
+  bare_primary_complete {ts} (grammar.data_of {a = a} {x = x} {d = d} {ps = ps} is p e) n nest rest f =
       rw e (typed_read n x d (a ++ rest) rest (syntax.data_of d ps) is (type_read d (a ++ rest) rest ps (may_no_segment p rest f.no_segment)
       (parameters_complete p rest f.brace)))
-  primary_complete {ts} (grammar.external {a = a} {b = b} {v = v} {p = x} {s = s} p q e g) n nest rest f =
+  bare_primary_complete {ts} (grammar.external {a = a} {b = b} {v = v} {p = x} {s = s} p q e g) n nest rest f =
       rw (g, e) (external_read n s a b rest (record { href = v; inherit = x; token = s.place }) (mention_complete s.place p q rest f.tilde f.inherits))
-  primary_complete {ts} (grammar.grammar {a = a} {s = s} p e g) zero nest rest f =
+  bare_primary_complete {ts} (grammar.grammar {a = a} {s = s} p e g) zero nest rest f =
       absurd (none_in_braces ts (keyword keywords.Grammar s) a e (plain _ refl refl) nest)
-  primary_complete {ts} (grammar.grammar {a = a} {cs = cs} {s = s} p e g) (suc n) nest rest f =
+  bare_primary_complete {ts} (grammar.grammar {a = a} {cs = cs} {s = s} p e g) (suc n) nest rest f =
       let inner = within_braces n ts (keyword keywords.Grammar s) a e (plain _ refl refl) nest in
       rw (g, e) (grammar_read (suc n) s a rest cs (contents_many n content a rest cs (components_complete p n inner (sign CloseBrace ∷ rest) (closed refl))))
-  primary_complete {ts} (grammar.in_parens {a = a} p e) zero nest rest f =
+  bare_primary_complete {ts} (grammar.in_parens {a = a} p e) zero nest rest f =
       absurd (none_within ts (sign OpenParenthesis) (a ++ sign CloseParenthesis ∷ []) refl refl e nest)
-  primary_complete {ts} {t} (grammar.in_parens {a = a} p e) (suc n) nest rest f =
+  bare_primary_complete {ts} {t} (grammar.in_parens {a = a} p e) (suc n) nest rest f =
       rw e (parens_read n a rest t (pattern_complete p n (inside_within n ts (sign OpenParenthesis) (sign CloseParenthesis) a parens e nest)
       (sign CloseParenthesis ∷ rest) (follows_closing CloseParenthesis rest (inr refl))))
 
@@ -660,23 +726,29 @@ mutual
 
   component_complete : {w : Setting} {ts : List Lexeme} {c : Component} → IsComponent w ts c → (n : ℕ) → NestsWithin n ts → (rest : List Lexeme)
       → FollowsPattern rest → component_with (inside_at n) w (ts ++ rest) ≡ Ok (c, rest)
-  component_complete {w} {ts} (grammar.start {a = a} {x = x} {m = m} {t = t} {s = s} is p e) n nest rest f =
+  component_complete {w} {ts} {c} (grammar.annotated_component {n = note} {a = a} may p e) n nest rest f =
+      annotated_read (bare_component_with (inside_at n) w) (component_alone n w) may ts a rest c e
+      (bare_component_complete p n (second_within n ts note a e (annotation_even may) nest) rest f)
+
+  pub bare_component_complete : {w : Setting} {ts : List Lexeme} {c : Component} → IsBareComponent w ts c → (n : ℕ) → NestsWithin n ts → (rest : List Lexeme)
+      → FollowsPattern rest → bare_component_with (inside_at n) w (ts ++ rest) ≡ Ok (c, rest)
+  bare_component_complete {w} {ts} (grammar.start {a = a} {x = x} {m = m} {t = t} {s = s} is p e) n nest rest f =
       let inner = behind_within n (x ∷ a) x a refl (plain_method x m is) (behind_within n ts (keyword keywords.Start s) (x ∷ a) e (plain _ refl refl) nest) in
       rw e (start_read n w s x m (a ++ rest) rest t is (pattern_complete p n inner rest f))
-  component_complete {w} {ts} (grammar.define {a = a} {x = x} {n = name} {m = m} {t = t} is p e) n nest rest f =
+  bare_component_complete {w} {ts} (grammar.define {a = a} {x = x} {n = name} {m = m} {t = t} is p e) n nest rest f =
       let inner = behind_within n (x ∷ a) x a refl (plain_method x m is) (behind_within n ts (identifier name) (x ∷ a) e (plain _ refl refl) nest) in
       rw e (define_read n w name x m (a ++ rest) rest t is (pattern_complete p n inner rest f))
-  component_complete {w} {ts} (grammar.div {a = a} {s = s} p e g) zero nest rest f =
+  bare_component_complete {w} {ts} (grammar.div {a = a} {s = s} p e g) zero nest rest f =
       absurd (none_in_braces ts (keyword keywords.Div s) a e (plain _ refl refl) nest)
-  component_complete {w} {ts} (grammar.div {a = a} {cs = cs} {s = s} p e g) (suc n) nest rest f =
+  bare_component_complete {w} {ts} (grammar.div {a = a} {cs = cs} {s = s} p e g) (suc n) nest rest f =
       let inner = within_braces n ts (keyword keywords.Div s) a e (plain _ refl refl) nest in
       rw (g, e) (div_read (suc n) w s (in_braces a ++ rest) rest cs
       (contents_many n w a rest cs (components_complete p n inner (sign CloseBrace ∷ rest) (closed refl))))
-  component_complete {w} {ts} (grammar.include {a = a} {b = b} {o = o} {v = v} {p = x} {cs = cs} {s = s} w-is p q r e g) n nest rest f =
+  bare_component_complete {w} {ts} (grammar.include {a = a} {b = b} {o = o} {v = v} {p = x} {cs = cs} {s = s} w-is p q r e g) n nest rest f =
       let inner = behind_within n ts (keyword keywords.Include s) (a ++ (b ++ o)) e (plain _ refl refl) nest in
       let last = second_within n (b ++ o) b o refl (may_inherit_even q) (second_within n (a ++ (b ++ o)) a (b ++ o) refl (literal_even p) inner) in
       let h = may_override_follows r rest f.particle.primary in
-      rw (g, e) (include_read n w s a b o rest (record { href = v; inherit = x; token = s.place }) cs (mention_complete s.place p q (o ++ rest) h.0 h.1)
+      rw (w-is, g, e) (include_read n s a b o rest (record { href = v; inherit = x; token = s.place }) cs (mention_complete s.place p q (o ++ rest) h.0 h.1)
       (overrides_complete r n last rest f.particle.primary.brace))
 
   overrides_complete : {ts : List Lexeme} {cs : List Component} → MayOverride ts cs → (n : ℕ) → NestsWithin n ts → (rest : List Lexeme)

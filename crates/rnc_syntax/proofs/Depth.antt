@@ -6,31 +6,40 @@ use Rattle.rnc_text.specs.declared.token.Keyword.{Keyword}
 use Rattle.rnc_text.specs.declared.token.Keyword.TheVariants as keywords
 use Rattle.rnc_text.specs.declared.token.Sign.{Sign}
 use Rattle.rnc_text.specs.declared.token.Sign.TheVariants.{Equal, BarEqual, AndEqual, Comma, Bar, And, Question, Star, Plus, Minus, OpenBrace, CloseBrace}
-use Rattle.rnc_text.specs.declared.token.Sign.TheVariants.{OpenParenthesis, CloseParenthesis, Tilde}
+use Rattle.rnc_text.specs.declared.token.Sign.TheVariants.{OpenParenthesis, CloseParenthesis, OpenBracket, Tilde}
+use Rattle.rnc_syntax.specs.declared.annotations.Role.{Role}
+use Rattle.rnc_syntax.specs.declared.annotations.Role.TheVariants as roles
 use Rattle.rnc_syntax.specs.declared.syntax_tree.Method.{Method}
 use Rattle.rnc_syntax.specs.declared.fault.Stop.{Stop}
 use Rattle.rnc_syntax.specs.declared.fault.Stop.TheVariants.{Unexpected, TooDeep}
 use Rattle.rnc_syntax.specs.Lexeme.{Lexeme, Spelling, keyword, identifier, cname, ns_name, segment, sign}
 use Rattle.rnc_syntax.specs.Syntax as syntax
 use Rattle.rnc_syntax.specs.Syntax.{NameClass, DatatypeName, Pattern, Component, Uri, Declaration, File}
+use Rattle.rnc_syntax.specs.Grammar as grammar
 use Rattle.rnc_syntax.specs.Grammar.{Setting, content, override, IsBasic, IsParticle, IsComponent, IsDeclaration, method_of, MayBeParameters, IsPrimary}
-use Rattle.rnc_syntax.specs.Grammar.{IsClass}
+use Rattle.rnc_syntax.specs.Grammar.{MayBeAnnotation, IsClass}
 use Rattle.rnc_syntax.specs.Combinators.{Outcome, ◌>>=◌, follow, follow_keyword, sign_read, after, after_keyword, word_at, identifier_at, segment_at}
 use Rattle.rnc_syntax.specs.Combinators.{either_way, many_with, many}
-use Rattle.rnc_syntax.specs.Productions.{literal_at, parameter_at, word_front, in_braces_at, parameters_at, word_after_equal, inherit_at, mention_at}
-use Rattle.rnc_syntax.specs.Productions.{class_in_parens, basic_with, choice_with, except_front, class_with, braced_with, contents_with, named_with}
-use Rattle.rnc_syntax.specs.Productions.{begins_segment, typed_at, other_at, atom_at, parens_with, opened_with, primary_with, repeated, particle_with}
-use Rattle.rnc_syntax.specs.Productions.{separator_of, rest_with, pattern_from, data_front, data_with, pattern_with, method_at, overrides_with, component_front}
+use Rattle.rnc_syntax.specs.Productions.{role_of, annotation_end, annotation_at, annotated, literal_at, parameter_at, parameter_front, annotated_parameter_at}
+use Rattle.rnc_syntax.specs.Productions.{in_braces_at, parameters_at, word_after_equal, inherit_at, mention_at}
+use Rattle.rnc_syntax.specs.Productions.{class_in_parens, bare_basic_with, basic_with, choice_with, except_front, bare_class_with, class_with, braced_with}
+use Rattle.rnc_syntax.specs.Productions.{contents_with, named_with}
+use Rattle.rnc_syntax.specs.Productions.{begins_segment, typed_at, other_at, atom_at, parens_with, opened_with, bare_primary_with, primary_with, repeated}
+use Rattle.rnc_syntax.specs.Productions.{particle_with, separator_of, rest_with, pattern_from, data_front, data_with, bare_pattern_with, pattern_with}
+use Rattle.rnc_syntax.specs.Productions.{method_at, overrides_with, component_front, bare_component_with}
 use Rattle.rnc_syntax.specs.Productions.{assigned_at, assigned, component_with, components_with, inside_at, uri_at, prefix_at, default_at, declaration_at}
-use Rattle.rnc_syntax.specs.Productions.{declaration_front, is_grammar_body, body_with, if_ended, declarations_at, file_with}
+use Rattle.rnc_syntax.specs.Productions.{declaration_front, is_grammar_body, pattern_body_with, bare_body_with, annotated_body_with, body_with, if_ended}
+use Rattle.rnc_syntax.specs.Productions.{declarations_at, file_with}
 use Rattle.rnc_syntax.specs.Sentence.{is_opening, is_closing, openings, closings, NestsWithin}
 use Rattle.rnc_syntax.proofs.Balance.{Balanced, Plain, plain, plain_type, join_even, declarations_even, second_within, behind_within, basic_even, class_even}
-use Rattle.rnc_syntax.proofs.Balance.{particle_even, primary_even, component_even, may_parameters_even, literal_even, may_inherit_even}
+use Rattle.rnc_syntax.proofs.Balance.{annotation_even, particle_even, primary_even, component_even, may_parameters_even, literal_even, may_inherit_even}
+use Rattle.rnc_syntax.proofs.AnnotationSteps.{onwards}
+use Rattle.rnc_syntax.proofs.SoundnessAnnotations.{end_sound, whole_annotation, IsSkipped, annotation_sound}
 use Rattle.rnc_syntax.proofs.Soundness.{TakesFront, many_sound, follow_is, after_is}
 use Rattle.rnc_syntax.proofs.SoundnessLiterals.{parameters_sound, IsMention, mention_sound}
-use Rattle.rnc_syntax.proofs.SoundnessClasses.{basic_sound, except_tokens, except_is, class_sound}
+use Rattle.rnc_syntax.proofs.SoundnessClasses.{bare_basic_behind, basic_sound, except_tokens, except_is, class_sound}
 use Rattle.rnc_syntax.proofs.SoundnessPatterns.{IsMethod, method_sound, data_front_is, component_front_is, assignment_with, assignment_is, inside_sound}
-use Rattle.rnc_syntax.proofs.SoundnessPatterns.{primary_sound, particle_sound, component_item}
+use Rattle.rnc_syntax.proofs.SoundnessPatterns.{bare_primary_behind, particle_sound, bare_component_behind, component_item}
 use Rattle.rnc_syntax.proofs.SoundnessFiles.{declaration_item, declarations_are}
 
 abbrev pub NotDeep : {A : Type 0} → Result A Stop → Type 0
@@ -116,6 +125,22 @@ module _ {A : Type 0} (Q : List Lexeme → Type 0) (next : List Lexeme → Optio
 abbrev Any : List Lexeme → Type 0
 Any ts = Unit {0}
 
+end_by : (r : Role) (n : ℕ) (t : Lexeme) (ts : List Lexeme) → ((n : ℕ) → NotDeep (annotation_end n ts)) → NotDeep (onwards r n (t ∷ ts) ts)
+end_by roles.Opens n t ts others e = others (suc n) e
+end_by roles.Closes zero t ts others e = absurd cc
+end_by roles.Closes (suc n) t ts others e = others n e
+end_by roles.Content n t ts others e = others n e
+end_by roles.Foreign n t ts others e = absurd cc
+
+end_calm : (n : ℕ) (ts : List Lexeme) → NotDeep (annotation_end n ts)
+unfolding annotation_end
+end_calm n [] e = absurd cc
+end_calm n (t ∷ ts) e = end_by (role_of t) n t ts (λ m. end_calm m ts) e
+
+annotation_calm : (ts : List Lexeme) → NotDeep (annotation_at ts)
+unfolding annotation_at
+annotation_calm ts = either_calm (follow OpenBracket ts) (Ok (tt, ts)) (annotation_end 0) (λ _. ok_calm (tt, ts)) (λ us _. end_calm 0 us)
+
 literal_calm : (ts : List Lexeme) → NotDeep (literal_at ts)
 unfolding literal_at
 literal_calm ts = bind_calm (segment_at ts) _ (segment_calm ts)
@@ -127,15 +152,19 @@ unfolding parameter_at
 parameter_calm ts = bind_calm (word_at ts) _ (word_calm ts) (λ x _. bind_calm (after Equal x.1) _ (after_calm Equal x.1)
     (λ y _. bind_calm (literal_at y.1) _ (literal_calm y.1) (λ z _. ok_calm _)))
 
+annotated_parameter_calm : (ts : List Lexeme) → NotDeep (annotated_parameter_at ts)
+unfolding annotated_parameter_at
+annotated_parameter_calm ts = bind_calm (annotation_at ts) _ (annotation_calm ts) (λ x _. parameter_calm x.1)
+
 in_braces_calm : {A : Type 0} (read : List Lexeme → Outcome A) (ts : List Lexeme) → NotDeep (read ts) → NotDeep (in_braces_at read ts)
 unfolding in_braces_at
 in_braces_calm read ts calm = bind_calm (read ts) _ calm (λ x _. bind_calm (after CloseBrace x.1) _ (after_calm CloseBrace x.1) (λ y _. ok_calm _))
 
 parameters_calm : (ts : List Lexeme) → NotDeep (parameters_at ts)
 unfolding parameters_at
-parameters_calm ts = either_calm (follow OpenBrace ts) (Ok ([], ts)) (in_braces_at (many word_front parameter_at)) (λ _. ok_calm _)
-    (λ us _. in_braces_calm (many word_front parameter_at) us (many_calm Any word_front parameter_at (λ ts us _ _. parameter_calm us) (λ ts us x _ _ _. tt) us
-    tt))
+parameters_calm ts = either_calm (follow OpenBrace ts) (Ok ([], ts)) (in_braces_at (many parameter_front annotated_parameter_at)) (λ _. ok_calm _)
+    (λ us _. in_braces_calm (many parameter_front annotated_parameter_at) us
+    (many_calm Any parameter_front annotated_parameter_at (λ ts us _ _. annotated_parameter_calm us) (λ ts us x _ _ _. tt) us tt))
 
 inherit_calm : (ts : List Lexeme) → NotDeep (inherit_at ts)
 unfolding inherit_at word_after_equal
@@ -147,6 +176,10 @@ unfolding mention_at
 mention_calm place ts = bind_calm (literal_at ts) _ (literal_calm ts) (λ x _. bind_calm (inherit_at x.1) _ (inherit_calm x.1) (λ y _. ok_calm _))
 
 -- ---- with brackets
+
+-- no annotation
+none : MayBeAnnotation []
+none = grammar.without_annotation refl
 
 -- fewer than so many brackets are open at each token
 abbrev NestsBelow : ℕ → List Lexeme → Type 0
@@ -179,6 +212,12 @@ after_reads : {A : Type 0} (n : ℕ) (P : List Lexeme → A → Type 0) (ts : Li
     → ((front : List Lexeme) (a : A) → P front a → Balanced front) → NestsWithin n ts → NestsWithin n x.1
 after_reads n P ts x r even nest = second_within n ts r.front x.1 r.parts (even r.front x.0 r.is) nest
 
+-- behind an annotation
+annotated_calm : {A : Type 0} (n : ℕ) (read : List Lexeme → Outcome A) → ((ts : List Lexeme) → NestsWithin n ts → NotDeep (read ts)) → (ts : List Lexeme)
+    → NestsWithin n ts → NotDeep (annotated read ts)
+annotated_calm n read calm ts nest = bind_calm (annotation_at ts) _ (annotation_calm ts)
+    (λ x e. calm x.1 (after_reads n IsSkipped ts x (annotation_sound ts x e) (λ front u p. annotation_even p) nest))
+
 -- what is inside brackets is not too deep
 record InsideCalm (n : ℕ) : Type 0 where
   pub class : (ts : List Lexeme) → NestsBelow n ts → NotDeep ((inside_at n).class ts)
@@ -193,23 +232,31 @@ module _ (n : ℕ) (inner : InsideCalm n) where
   basics : List Lexeme → Outcome NameClass
   basics = basic_with (inside_at n).class
 
-  basic_calm : (ts : List Lexeme) → NestsWithin n ts → NotDeep (basic_with (inside_at n).class ts)
-  unfolding basic_with class_in_parens
-  basic_calm [] nest e = absurd cc
-  basic_calm (identifier w ∷ ts) nest e = absurd cc
-  basic_calm (keyword k s ∷ ts) nest e = absurd cc
-  basic_calm (cname p l ∷ ts) nest e = absurd cc
-  basic_calm (ns_name p ∷ ts) nest e = absurd cc
-  basic_calm (segment w ∷ ts) nest e = absurd cc
-  basic_calm (sign Star ∷ ts) nest e = absurd cc
-  basic_calm (sign OpenParenthesis ∷ ts) nest e =
+  bare_basic_calm : (ts : List Lexeme) → NestsWithin n ts → NotDeep (bare_basic_with (inside_at n).class ts)
+  unfolding bare_basic_with class_in_parens
+  bare_basic_calm [] nest e = absurd cc
+  bare_basic_calm (identifier w ∷ ts) nest e = absurd cc
+  bare_basic_calm (keyword k s ∷ ts) nest e = absurd cc
+  bare_basic_calm (cname p l ∷ ts) nest e = absurd cc
+  bare_basic_calm (ns_name p ∷ ts) nest e = absurd cc
+  bare_basic_calm (segment w ∷ ts) nest e = absurd cc
+  bare_basic_calm (sign Star ∷ ts) nest e = absurd cc
+  bare_basic_calm (sign OpenParenthesis ∷ ts) nest e =
       bind_calm ((inside_at n).class ts) (λ body. after CloseParenthesis body.1 >>= λ end. Ok (body.0, end.1))
       (inner.class ts (below_open n (sign OpenParenthesis ∷ ts) (sign OpenParenthesis) ts refl refl refl nest))
       (λ x _. bind_calm (after CloseParenthesis x.1) _ (after_calm CloseParenthesis x.1) (λ y _. ok_calm _)) e
-  basic_calm (sign _ ∷ ts) nest e = absurd cc
+  bare_basic_calm (sign _ ∷ ts) nest e = absurd cc
+
+  basic_calm : (ts : List Lexeme) → NestsWithin n ts → NotDeep (basic_with (inside_at n).class ts)
+  unfolding basic_with
+  basic_calm = annotated_calm n (bare_basic_with (inside_at n).class) bare_basic_calm
 
   behind_basic : (ts : List Lexeme) (x : NameClass × List Lexeme) → NestsWithin n ts → basic_with (inside_at n).class ts ≡ Ok x → NestsWithin n x.1
   behind_basic ts x nest e = after_reads n IsBasic ts x (basic_sound (inside_at n).class (inside_sound n).class ts x e) (λ front a p. basic_even p) nest
+
+  behind_bare_basic : (ts : List Lexeme) (x : NameClass × List Lexeme) → NestsWithin n ts → bare_basic_with (inside_at n).class ts ≡ Ok x → NestsWithin n x.1
+  behind_bare_basic ts x nest e = after_reads n IsBasic ts x (bare_basic_behind (inside_at n).class (inside_sound n).class [] none ts x e)
+      (λ front a p. basic_even p) nest
 
   choice_calm : (c : NameClass) (ts : List Lexeme) → NestsWithin n ts → NotDeep (choice_with (basic_with (inside_at n).class) c ts)
   unfolding choice_with
@@ -229,11 +276,15 @@ module _ (n : ℕ) (inner : InsideCalm n) where
   except_within : (ts : List Lexeme) (y : Option (List ℕ) × List Lexeme) → except_front ts ≡ Some y → NestsWithin n ts → NestsWithin n y.1
   except_within ts y e nest = tokens_within y.0 y.1 (subst (NestsWithin n) (except_is ts y e) nest)
 
-  class_calm : (ts : List Lexeme) → NestsWithin n ts → NotDeep (class_with (basic_with (inside_at n).class) ts)
-  unfolding class_with
-  class_calm ts nest = either_calm (except_front ts) _ _
-      (λ _. bind_calm (basic_with (inside_at n).class ts) _ (basic_calm ts nest) (λ x e. choice_calm x.0 x.1 (behind_basic ts x nest e)))
+  bare_class_calm : (ts : List Lexeme) → NestsWithin n ts → NotDeep (bare_class_with (inside_at n).class ts)
+  unfolding bare_class_with
+  bare_class_calm ts nest = either_calm (except_front ts) _ _
+      (λ _. bind_calm (bare_basic_with (inside_at n).class ts) _ (bare_basic_calm ts nest) (λ x e. choice_calm x.0 x.1 (behind_bare_basic ts x nest e)))
       (λ y is. bind_calm (basic_with (inside_at n).class y.1) _ (basic_calm y.1 (except_within ts y is nest)) (λ x e. ok_calm _))
+
+  class_calm : (ts : List Lexeme) → NestsWithin n ts → NotDeep (class_with (inside_at n).class ts)
+  unfolding class_with
+  class_calm = annotated_calm n (bare_class_with (inside_at n).class) bare_class_calm
 
   braced_calm : (ts : List Lexeme) → NestsWithin n ts → NotDeep (braced_with (inside_at n) ts)
   unfolding braced_with
@@ -248,10 +299,10 @@ module _ (n : ℕ) (inner : InsideCalm n) where
 
   named_calm : (make : NameClass → Pattern → Pattern) (ts : List Lexeme) → NestsWithin n ts → NotDeep (named_with (inside_at n) make ts)
   unfolding named_with
-  named_calm make ts nest = bind_calm (class_with (basic_with (inside_at n).class) ts) _ (class_calm ts nest)
+  named_calm make ts nest = bind_calm (class_with (inside_at n).class ts) _ (class_calm ts nest)
       (λ x e. bind_calm (braced_with (inside_at n) x.1) _
-      (braced_calm x.1 (after_reads n IsClass ts x (class_sound (basic_with (inside_at n).class) (basic_sound (inside_at n).class (inside_sound n).class) ts
-      x e) (λ front a p. class_even p) nest)) (λ y _. ok_calm _))
+      (braced_calm x.1 (after_reads n IsClass ts x (class_sound (inside_at n).class (inside_sound n).class ts x e) (λ front a p. class_even p) nest))
+      (λ y _. ok_calm _))
 
   typed_calm : (d : DatatypeName) (ts : List Lexeme) → NotDeep (typed_at d ts)
   unfolding typed_at
@@ -261,28 +312,32 @@ module _ (n : ℕ) (inner : InsideCalm n) where
   keyword_within : (k : Keyword) (s : Spelling) (ts : List Lexeme) → NestsWithin n (keyword k s ∷ ts) → NestsWithin n ts
   keyword_within k s ts nest = behind_within n (keyword k s ∷ ts) (keyword k s) ts refl (plain (keyword k s) refl refl) nest
 
-  primary_calm : (ts : List Lexeme) → NestsWithin n ts → NotDeep (primary_with (inside_at n) ts)
-  unfolding primary_with atom_at other_at opened_with parens_with
-  primary_calm (keyword keywords.Element s ∷ ts) nest = named_calm syntax.element ts (keyword_within keywords.Element s ts nest)
-  primary_calm (keyword keywords.Attribute s ∷ ts) nest = named_calm syntax.attribute ts (keyword_within keywords.Attribute s ts nest)
-  primary_calm (keyword keywords.List s ∷ ts) nest = bind_calm (braced_with (inside_at n) ts) _ (braced_calm ts (keyword_within keywords.List s ts nest))
+  bare_primary_calm : (ts : List Lexeme) → NestsWithin n ts → NotDeep (bare_primary_with (inside_at n) ts)
+  unfolding bare_primary_with atom_at other_at opened_with parens_with
+  bare_primary_calm (keyword keywords.Element s ∷ ts) nest = named_calm syntax.element ts (keyword_within keywords.Element s ts nest)
+  bare_primary_calm (keyword keywords.Attribute s ∷ ts) nest = named_calm syntax.attribute ts (keyword_within keywords.Attribute s ts nest)
+  bare_primary_calm (keyword keywords.List s ∷ ts) nest = bind_calm (braced_with (inside_at n) ts) _ (braced_calm ts (keyword_within keywords.List s ts nest))
       (λ y _. ok_calm _)
-  primary_calm (keyword keywords.Mixed s ∷ ts) nest = bind_calm (braced_with (inside_at n) ts) _ (braced_calm ts (keyword_within keywords.Mixed s ts nest))
+  bare_primary_calm (keyword keywords.Mixed s ∷ ts) nest = bind_calm (braced_with (inside_at n) ts) _ (braced_calm ts (keyword_within keywords.Mixed s ts nest))
       (λ y _. ok_calm _)
-  primary_calm (keyword keywords.Parent s ∷ ts) nest = bind_calm (identifier_at ts) _ (identifier_calm ts) (λ y _. ok_calm _)
-  primary_calm (keyword keywords.String s ∷ ts) nest = typed_calm syntax.string_type ts
-  primary_calm (keyword keywords.Token s ∷ ts) nest = typed_calm syntax.token_type ts
-  primary_calm (keyword keywords.External s ∷ ts) nest = bind_calm (mention_at s.place ts) _ (mention_calm s.place ts) (λ y _. ok_calm _)
-  primary_calm (keyword keywords.Grammar s ∷ ts) nest = bind_calm (contents_with (inside_at n) content ts) _
+  bare_primary_calm (keyword keywords.Parent s ∷ ts) nest = bind_calm (identifier_at ts) _ (identifier_calm ts) (λ y _. ok_calm _)
+  bare_primary_calm (keyword keywords.String s ∷ ts) nest = typed_calm syntax.string_type ts
+  bare_primary_calm (keyword keywords.Token s ∷ ts) nest = typed_calm syntax.token_type ts
+  bare_primary_calm (keyword keywords.External s ∷ ts) nest = bind_calm (mention_at s.place ts) _ (mention_calm s.place ts) (λ y _. ok_calm _)
+  bare_primary_calm (keyword keywords.Grammar s ∷ ts) nest = bind_calm (contents_with (inside_at n) content ts) _
       (contents_calm content ts (keyword_within keywords.Grammar s ts nest)) (λ y _. ok_calm _)
-  primary_calm (cname p l ∷ ts) nest = typed_calm (syntax.prefixed_type p l) ts
-  primary_calm (segment w ∷ ts) nest = bind_calm (literal_at (segment w ∷ ts)) (λ v. Ok (syntax.value syntax.token_type v.0, v.1))
+  bare_primary_calm (cname p l ∷ ts) nest = typed_calm (syntax.prefixed_type p l) ts
+  bare_primary_calm (segment w ∷ ts) nest = bind_calm (literal_at (segment w ∷ ts)) (λ v. Ok (syntax.value syntax.token_type v.0, v.1))
       (literal_calm (segment w ∷ ts)) (λ y _. ok_calm _)
-  primary_calm (sign OpenParenthesis ∷ ts) nest =
+  bare_primary_calm (sign OpenParenthesis ∷ ts) nest =
       bind_calm ((inside_at n).pattern ts) (λ body. after CloseParenthesis body.1 >>= λ end. Ok (body.0, end.1))
       (inner.pattern ts (below_open n (sign OpenParenthesis ∷ ts) (sign OpenParenthesis) ts refl refl refl nest))
       (λ x _. bind_calm (after CloseParenthesis x.1) _ (after_calm CloseParenthesis x.1) (λ y _. ok_calm _))
-  primary_calm _ nest = λ e. absurd cc
+  bare_primary_calm _ nest = λ e. absurd cc
+
+  primary_calm : (ts : List Lexeme) → NestsWithin n ts → NotDeep (primary_with (inside_at n) ts)
+  unfolding primary_with
+  primary_calm = annotated_calm n (bare_primary_with (inside_at n)) bare_primary_calm
 
   particle_calm : (ts : List Lexeme) → NestsWithin n ts → NotDeep (particle_with (inside_at n) ts)
   unfolding particle_with
@@ -327,15 +382,19 @@ module _ (n : ℕ) (inner : InsideCalm n) where
   front_within : (ts : List Lexeme) (d : DatatypeName × List Lexeme) → data_front ts ≡ Some d → NestsWithin n ts → NestsWithin n d.1
   front_within ts d is nest = let f = data_front_is ts d is in behind_within n ts f.0 d.1 f.2 (plain_type f.0 d.0 f.1) nest
 
-  pattern_calm : (ts : List Lexeme) → NestsWithin n ts → NotDeep (pattern_with (inside_at n) ts)
-  unfolding pattern_with
-  pattern_calm ts nest = either_calm (data_front ts) _ _
-      (λ _. bind_calm (primary_with (inside_at n) ts) _ (primary_calm ts nest)
-      (λ x e. pattern_from_calm x.0 x.1 (after_reads n IsPrimary ts x (primary_sound (inside_at n) (inside_sound n) ts x e) (λ front a p. primary_even p)
-      nest)))
+  bare_pattern_calm : (ts : List Lexeme) → NestsWithin n ts → NotDeep (bare_pattern_with (inside_at n) ts)
+  unfolding bare_pattern_with
+  bare_pattern_calm ts nest = either_calm (data_front ts) _ _
+      (λ _. bind_calm (bare_primary_with (inside_at n) ts) _ (bare_primary_calm ts nest)
+      (λ x e. pattern_from_calm x.0 x.1 (after_reads n IsPrimary ts x (bare_primary_behind (inside_at n) (inside_sound n) [] none ts x e)
+      (λ front a p. primary_even p) nest)))
       (λ d is. bind_calm (parameters_at d.1) _ (parameters_calm d.1)
       (λ x e. data_calm d.0 x.0 x.1 (after_reads n MayBeParameters d.1 x (parameters_sound d.1 x e) (λ front a p. may_parameters_even p)
       (front_within ts d is nest))))
+
+  pattern_calm : (ts : List Lexeme) → NestsWithin n ts → NotDeep (pattern_with (inside_at n) ts)
+  unfolding pattern_with
+  pattern_calm = annotated_calm n (bare_pattern_with (inside_at n)) bare_pattern_calm
 
   method_even : (front : List Lexeme) (m : Method) → IsMethod front m → Balanced front
   method_even front m p = let e = p.parts in subst Balanced (sym e) (method_alone p.token m p.method) where
@@ -357,20 +416,24 @@ module _ (n : ℕ) (inner : InsideCalm n) where
   unfolding overrides_with
   overrides_calm ts nest = either_calm (follow OpenBrace ts) _ _ (λ _. ok_calm _) (λ us _. contents_calm override ts nest)
 
-  component_calm : (w : Setting) (ts : List Lexeme) → NestsWithin n ts → NotDeep (component_with (inside_at n) w ts)
-  unfolding component_with assigned_at
-  component_calm w (identifier x ∷ ts) nest =
+  bare_component_calm : (w : Setting) (ts : List Lexeme) → NestsWithin n ts → NotDeep (bare_component_with (inside_at n) w ts)
+  unfolding bare_component_with assigned_at
+  bare_component_calm w (identifier x ∷ ts) nest =
       assigned_calm (Some x) ts (behind_within n (identifier x ∷ ts) (identifier x) ts refl (plain (identifier x) refl refl) nest)
-  component_calm w (keyword keywords.Start s ∷ ts) nest = assigned_calm None ts (keyword_within keywords.Start s ts nest)
-  component_calm w (keyword keywords.Div s ∷ ts) nest = bind_calm (contents_with (inside_at n) w ts) _
+  bare_component_calm w (keyword keywords.Start s ∷ ts) nest = assigned_calm None ts (keyword_within keywords.Start s ts nest)
+  bare_component_calm w (keyword keywords.Div s ∷ ts) nest = bind_calm (contents_with (inside_at n) w ts) _
       (contents_calm w ts (keyword_within keywords.Div s ts nest)) (λ y _. ok_calm _)
-  component_calm w (keyword keywords.Include s ∷ ts) nest =
+  bare_component_calm content (keyword keywords.Include s ∷ ts) nest =
       let inner = keyword_within keywords.Include s ts nest in
       bind_calm (mention_at s.place ts) _ (mention_calm s.place ts)
       (λ x e. bind_calm (overrides_with (inside_at n) x.1) _
       (overrides_calm x.1 (after_reads n (IsMention s.place) ts x (mention_sound s.place ts x e)
       (λ front m p. join_even p.first p.second front p.parts (literal_even p.literal) (may_inherit_even p.inherits)) inner)) (λ y _. ok_calm _))
-  component_calm w _ nest = λ e. absurd cc
+  bare_component_calm w _ nest = λ e. absurd cc
+
+  component_calm : (w : Setting) (ts : List Lexeme) → NestsWithin n ts → NotDeep (component_with (inside_at n) w ts)
+  unfolding component_with
+  component_calm w = annotated_calm n (bare_component_with (inside_at n) w) (bare_component_calm w)
 
   components_calm : (w : Setting) (ts : List Lexeme) → NestsWithin n ts → NotDeep (components_with (inside_at n) w ts)
   unfolding components_with
@@ -419,11 +482,37 @@ declaration_calm (keyword keywords.Default s ∷ ts) = bind_calm (after_keyword 
 declaration_calm (keyword keywords.Datatypes s ∷ ts) = bind_calm (parameter_at ts) _ (parameter_calm ts) (λ y _. ok_calm _)
 declaration_calm _ = λ e. absurd cc
 
+pattern_body_calm : (n : ℕ) (ts : List Lexeme) → NestsWithin n ts → NotDeep (pattern_body_with (inside_at n) ts)
+pattern_body_calm n ts nest = bind_calm (bare_pattern_with (inside_at n) ts) _ (bare_pattern_calm n (inside_calm n) ts nest) (λ y _. ok_calm _)
+
+bare_body_calm : (n : ℕ) (ts : List Lexeme) → NestsWithin n ts → NotDeep (bare_body_with (inside_at n) ts)
+unfolding bare_body_with
+bare_body_calm n ts nest = if_calm (is_grammar_body true ts) _ _
+    (bind_calm (components_with (inside_at n) content ts) _ (components_calm n (inside_calm n) content ts nest) (λ y _. ok_calm _))
+    (pattern_body_calm n ts nest)
+
+annotated_body_calm : (n : ℕ) (ts : List Lexeme) → NestsWithin n ts → NotDeep (annotated_body_with (inside_at n) ts)
+unfolding annotated_body_with
+annotated_body_calm n ts nest = if_calm (is_grammar_body false ts) _ _
+    (bind_calm (bare_component_with (inside_at n) content ts) _ (bare_component_calm n (inside_calm n) content ts nest)
+    (λ x e. bind_calm (components_with (inside_at n) content x.1) _ (components_calm n (inside_calm n) content x.1
+    (after_reads n (IsComponent content) ts x (bare_component_behind (inside_at n) (inside_sound n) content [] none ts x e)
+    (λ front a p. component_even p) nest))
+    (λ y _. ok_calm _)))
+    (pattern_body_calm n ts nest)
+
+-- behind the sign that opens an annotation
+opened_within : (n : ℕ) (ts us : List Lexeme) (x : Unit {0} × List Lexeme) → follow OpenBracket ts ≡ Some us → annotation_end 0 us ≡ Ok x → NestsWithin n ts
+    → NestsWithin n x.1
+opened_within n ts us x is e nest =
+    let p = end_sound 0 us x e in
+    second_within n ts (sign OpenBracket ∷ p.front) x.1 (follow_is OpenBracket ts us is ∙ ap (λ (r : List Lexeme). sign OpenBracket ∷ r) p.parts)
+    (annotation_even (whole_annotation refl p.is)) nest
+
 body_calm : (n : ℕ) (ts : List Lexeme) → NestsWithin n ts → NotDeep (body_with (inside_at n) ts)
 unfolding body_with
-body_calm n ts nest = if_calm (is_grammar_body ts) _ _
-    (bind_calm (components_with (inside_at n) content ts) _ (components_calm n (inside_calm n) content ts nest) (λ y _. ok_calm _))
-    (bind_calm (pattern_with (inside_at n) ts) _ (pattern_calm n (inside_calm n) ts nest) (λ y _. ok_calm _))
+body_calm n ts nest = either_calm (follow OpenBracket ts) _ _ (λ _. bare_body_calm n ts nest)
+    (λ us is. bind_calm (annotation_end 0 us) _ (end_calm 0 us) (λ x e. annotated_body_calm n x.1 (opened_within n ts us x is e nest)))
 
 ended_calm : {A : Type 0} (a : A) (ts : List Lexeme) → NotDeep (if_ended a ts)
 ended_calm a [] e = absurd cc

@@ -3,14 +3,14 @@ use Rattle.std.proofs.Common.{◌≡◌, ℕ, zero, suc, ◌-◌, ◌<◌, List,
 use Rattle.rnc_syntax.specs.declared.fault.Stop.TheVariants.{TooDeep}
 use Rattle.rnc_syntax.specs.Grammar.{Setting}
 use Rattle.rnc_syntax.specs.Lexeme.{Lexeme}
-use Rattle.rnc_syntax.specs.Productions.{inside_at, class_with, basic_with, pattern_with, components_with}
+use Rattle.rnc_syntax.specs.Productions.{inside_at, class_with, pattern_with, components_with}
 
 pub class_too_deep : (n : ℕ) (ts : List Lexeme) → n ≡ 0 → (inside_at n).class ts ≡ Err TooDeep
 unfolding inside_at
 class_too_deep zero ts e = refl
 class_too_deep (suc n) ts e = absurd (omega (arith, e))
 
-pub class_step : (n : ℕ) (ts : List Lexeme) → 0 < n → (inside_at n).class ts ≡ class_with (basic_with (inside_at (n - 1)).class) ts
+pub class_step : (n : ℕ) (ts : List Lexeme) → 0 < n → (inside_at n).class ts ≡ class_with (inside_at (n - 1)).class ts
 unfolding inside_at
 class_step zero ts some = absurd (omega (arith, some))
 class_step (suc n) ts some = rw sub-one refl

@@ -1,14 +1,17 @@
 pub mod Lexemes
+pub mod AnnotationSteps
 pub mod Items
 pub mod InsideBrackets
 pub mod FirstTokens
 pub mod FileEnds
 pub mod Soundness
+pub mod SoundnessAnnotations
 pub mod SoundnessLiterals
 pub mod SoundnessClasses
 pub mod SoundnessPatterns
 pub mod SoundnessFiles
 pub mod Balance
+pub mod CompletenessAnnotations
 pub mod Completeness
 pub mod CompletenessClasses
 pub mod CompletenessPatterns
@@ -17,6 +20,7 @@ pub mod Depth
 pub mod Locality
 pub mod LocalityFronts
 pub mod LocalityItems
+pub mod LocalityAnnotations
 pub mod LocalityLiterals
 pub mod LocalityClasses
 pub mod LocalityPrimaries
@@ -24,6 +28,7 @@ pub mod LocalityPatterns
 pub mod LocalityComponents
 pub mod LocalityFiles
 pub mod Viability
+pub mod ViabilityAnnotations
 pub mod ViabilityLiterals
 pub mod ViabilityClasses
 pub mod ViabilityPrimaries

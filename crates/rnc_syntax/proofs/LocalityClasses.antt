@@ -5,10 +5,11 @@ use Rattle.rnc_syntax.specs.Lexeme.{Lexeme, keyword, identifier, cname, ns_name,
 use Rattle.rnc_syntax.specs.Syntax as syntax
 use Rattle.rnc_syntax.specs.Syntax.{NameClass}
 use Rattle.rnc_syntax.specs.Combinators.{Outcome, ◌>>=◌, follow, either_way, many}
-use Rattle.rnc_syntax.specs.Productions.{class_in_parens, basic_with, choice_with, excepted, class_with}
+use Rattle.rnc_syntax.specs.Productions.{class_in_parens, bare_basic_with, basic_with, choice_with, excepted, bare_class_with, class_with}
 use Rattle.rnc_syntax.proofs.Locality.{IsLocal, ok_local, stuck_end, stuck_front, cons_local, bind_local}
 use Rattle.rnc_syntax.proofs.LocalityFronts.{token_local, kept_local, FrontAt, closes, opens, either_local, follow_front, follow_heads}
 use Rattle.rnc_syntax.proofs.LocalityItems.{many_local}
+use Rattle.rnc_syntax.proofs.LocalityAnnotations.{annotated_local}
 use Rattle.rnc_syntax.proofs.LocalityLiterals.{made_local, ended_local}
 
 -- `-` in front, and a value beside the tokens after it
@@ -24,25 +25,30 @@ parens_local : (class deeper : List Lexeme → Outcome NameClass) → IsLocal cl
 unfolding class_in_parens
 parens_local class deeper l = ended_local CloseParenthesis class deeper l
 
-pub basic_local : (class deeper : List Lexeme → Outcome NameClass) → IsLocal class deeper → IsLocal (basic_with class) (basic_with deeper)
-unfolding basic_with
-basic_local class deeper l [] = stuck_end (basic_with class) (basic_with deeper) refl refl
-basic_local class deeper l (sign OpenParenthesis ∷ ts) = cons_local (basic_with class) (basic_with deeper) (class_in_parens class) (class_in_parens deeper)
-    (sign OpenParenthesis) ts (λ us. refl) (λ us. refl) (parens_local class deeper l ts)
-basic_local class deeper l (sign Star ∷ ts) = cons_local (basic_with class) (basic_with deeper) (λ us. Ok (syntax.any_name, us))
+bare_basic_local : (class deeper : List Lexeme → Outcome NameClass) → IsLocal class deeper → IsLocal (bare_basic_with class) (bare_basic_with deeper)
+unfolding bare_basic_with
+bare_basic_local class deeper l [] = stuck_end (bare_basic_with class) (bare_basic_with deeper) refl refl
+bare_basic_local class deeper l (sign OpenParenthesis ∷ ts) = cons_local (bare_basic_with class) (bare_basic_with deeper) (class_in_parens class)
+    (class_in_parens deeper) (sign OpenParenthesis) ts (λ us. refl) (λ us. refl) (parens_local class deeper l ts)
+bare_basic_local class deeper l (sign Star ∷ ts) = cons_local (bare_basic_with class) (bare_basic_with deeper) (λ us. Ok (syntax.any_name, us))
     (λ us. Ok (syntax.any_name, us)) (sign Star) ts (λ us. refl) (λ us. refl) (ok_local syntax.any_name ts)
-basic_local class deeper l (identifier w ∷ ts) =
+bare_basic_local class deeper l (identifier w ∷ ts) =
     let c = syntax.name_is (syntax.unprefixed w) in
-    cons_local (basic_with class) (basic_with deeper) (λ us. Ok (c, us)) (λ us. Ok (c, us)) (identifier w) ts (λ us. refl) (λ us. refl) (ok_local c ts)
-basic_local class deeper l (keyword k s ∷ ts) =
+    cons_local (bare_basic_with class) (bare_basic_with deeper) (λ us. Ok (c, us)) (λ us. Ok (c, us)) (identifier w) ts (λ us. refl) (λ us. refl)
+    (ok_local c ts)
+bare_basic_local class deeper l (keyword k s ∷ ts) =
     let c = syntax.name_is (syntax.unprefixed s.text) in
-    cons_local (basic_with class) (basic_with deeper) (λ us. Ok (c, us)) (λ us. Ok (c, us)) (keyword k s) ts (λ us. refl) (λ us. refl) (ok_local c ts)
-basic_local class deeper l (cname p w ∷ ts) =
+    cons_local (bare_basic_with class) (bare_basic_with deeper) (λ us. Ok (c, us)) (λ us. Ok (c, us)) (keyword k s) ts (λ us. refl) (λ us. refl) (ok_local c ts)
+bare_basic_local class deeper l (cname p w ∷ ts) =
     let c = syntax.name_is (syntax.prefixed p w) in
-    cons_local (basic_with class) (basic_with deeper) (λ us. Ok (c, us)) (λ us. Ok (c, us)) (cname p w) ts (λ us. refl) (λ us. refl) (ok_local c ts)
-basic_local class deeper l (ns_name p ∷ ts) = cons_local (basic_with class) (basic_with deeper) (λ us. Ok (syntax.ns_name p, us))
+    cons_local (bare_basic_with class) (bare_basic_with deeper) (λ us. Ok (c, us)) (λ us. Ok (c, us)) (cname p w) ts (λ us. refl) (λ us. refl) (ok_local c ts)
+bare_basic_local class deeper l (ns_name p ∷ ts) = cons_local (bare_basic_with class) (bare_basic_with deeper) (λ us. Ok (syntax.ns_name p, us))
     (λ us. Ok (syntax.ns_name p, us)) (ns_name p) ts (λ us. refl) (λ us. refl) (ok_local (syntax.ns_name p) ts)
-basic_local class deeper l (t ∷ ts) = stuck_front (basic_with class) (basic_with deeper) t ts (λ us. refl) (λ us. refl)
+bare_basic_local class deeper l (t ∷ ts) = stuck_front (bare_basic_with class) (bare_basic_with deeper) t ts (λ us. refl) (λ us. refl)
+
+basic_local : (class deeper : List Lexeme → Outcome NameClass) → IsLocal class deeper → IsLocal (basic_with class) (basic_with deeper)
+unfolding basic_with
+basic_local class deeper l = annotated_local (bare_basic_with class) (bare_basic_with deeper) (bare_basic_local class deeper l)
 
 -- ---- classes with `|` between them
 
@@ -69,19 +75,25 @@ module _ (basic deeper : List Lexeme → Outcome NameClass) (l : IsLocal basic d
       either_local (minus_after p) refl f g (λ t. minus_front p f g t (follow_front (λ us. f (p, us)) (λ us. g (p, us)) (left_out p) Minus t))
       (choice_with basic c) (choice_with deeper c) ts (choice_local c ts)
 
-  many_classes : IsLocal (λ us. basic us >>= λ c. choice_with basic c.0 c.1) (λ us. deeper us >>= λ c. choice_with deeper c.0 c.1)
-  many_classes ts = bind_local basic deeper (choice_with basic) (choice_with deeper) ts (l ts) (λ c rest e. choice_local c rest)
+  many_classes : (first deeper_first : List Lexeme → Outcome NameClass) → IsLocal first deeper_first
+      → IsLocal (λ us. first us >>= λ c. choice_with basic c.0 c.1) (λ us. deeper_first us >>= λ c. choice_with deeper c.0 c.1)
+  many_classes first deeper_first m ts = bind_local first deeper_first (choice_with basic) (choice_with deeper) ts (m ts) (λ c rest e. choice_local c rest)
 
-pub class_local : (class deeper : List Lexeme → Outcome NameClass) → IsLocal class deeper → IsLocal deeper deeper → IsLocal (class_with (basic_with class))
-    (class_with (basic_with deeper))
-unfolding class_with basic_with
-class_local class deeper l self [] = stuck_end (class_with (basic_with class)) (class_with (basic_with deeper)) refl refl
-class_local class deeper l self (sign Star ∷ ts) =
-    cons_local (class_with (basic_with class)) (class_with (basic_with deeper)) _ _ (sign Star) ts (λ us. refl) (λ us. refl)
-    (wide_local (basic_with class) (basic_with deeper) (basic_local class deeper l) (basic_local deeper deeper self) None syntax.any_name ts)
-class_local class deeper l self (ns_name p ∷ ts) =
-    cons_local (class_with (basic_with class)) (class_with (basic_with deeper)) _ _ (ns_name p) ts (λ us. refl) (λ us. refl)
-    (wide_local (basic_with class) (basic_with deeper) (basic_local class deeper l) (basic_local deeper deeper self) (Some p) (syntax.ns_name p) ts)
-class_local class deeper l self (t ∷ ts) =
-    token_local (class_with (basic_with class)) (class_with (basic_with deeper)) _ _ t ts (λ us. refl) (λ us. refl)
-    (many_classes (basic_with class) (basic_with deeper) (basic_local class deeper l) (basic_local deeper deeper self) (t ∷ ts))
+module _ (class deeper : List Lexeme → Outcome NameClass) (l : IsLocal class deeper) (self : IsLocal deeper deeper) where
+  bare_class_local : IsLocal (bare_class_with class) (bare_class_with deeper)
+  unfolding bare_class_with bare_basic_with
+  bare_class_local [] = stuck_end (bare_class_with class) (bare_class_with deeper) refl refl
+  bare_class_local (sign Star ∷ ts) =
+      cons_local (bare_class_with class) (bare_class_with deeper) _ _ (sign Star) ts (λ us. refl) (λ us. refl)
+      (wide_local (basic_with class) (basic_with deeper) (basic_local class deeper l) (basic_local deeper deeper self) None syntax.any_name ts)
+  bare_class_local (ns_name p ∷ ts) =
+      cons_local (bare_class_with class) (bare_class_with deeper) _ _ (ns_name p) ts (λ us. refl) (λ us. refl)
+      (wide_local (basic_with class) (basic_with deeper) (basic_local class deeper l) (basic_local deeper deeper self) (Some p) (syntax.ns_name p) ts)
+  bare_class_local (t ∷ ts) =
+      token_local (bare_class_with class) (bare_class_with deeper) _ _ t ts (λ us. refl) (λ us. refl)
+      (many_classes (basic_with class) (basic_with deeper) (basic_local class deeper l) (basic_local deeper deeper self) (bare_basic_with class)
+      (bare_basic_with deeper) (bare_basic_local class deeper l) (t ∷ ts))
+
+  pub class_local : IsLocal (class_with class) (class_with deeper)
+  unfolding class_with
+  class_local = annotated_local (bare_class_with class) (bare_class_with deeper) bare_class_local

@@ -1,7 +1,7 @@
 -- What a reader answers depends on what it took and on the one token after it: components, and what is inside brackets at any depth.
 use Rattle.std.proofs.Common.{ℕ, zero, suc, ◌≤◌, List, [], ◌∷◌, Option, Some, None, Ok, refl, arith}
 use Rattle.rnc_text.specs.declared.token.Keyword.TheVariants as keywords
-use Rattle.rnc_text.specs.declared.token.Sign.TheVariants.{Equal, BarEqual, AndEqual, OpenBrace}
+use Rattle.rnc_text.specs.declared.token.Sign.TheVariants.{Equal, BarEqual, AndEqual, OpenBrace, OpenBracket}
 use Rattle.rnc_syntax.specs.declared.syntax_tree.Method.{Method}
 use Rattle.rnc_syntax.specs.declared.syntax_tree.Method.TheVariants as methods
 use Rattle.rnc_syntax.specs.Lexeme.{Lexeme, keyword, identifier, sign}
@@ -9,11 +9,12 @@ use Rattle.rnc_syntax.specs.Syntax as syntax
 use Rattle.rnc_syntax.specs.Syntax.{Mention, Component}
 use Rattle.rnc_syntax.specs.Grammar.{Setting, content, override}
 use Rattle.rnc_syntax.specs.Combinators.{Outcome, ◌>>=◌, follow}
-use Rattle.rnc_syntax.specs.Productions.{mention_at, Inside, contents_with, class_with, basic_with, pattern_with, method_at, overrides_with, component_front}
-use Rattle.rnc_syntax.specs.Productions.{assigned_at, assigned, component_with, components_with, inside_at}
+use Rattle.rnc_syntax.specs.Productions.{annotation_at, mention_at, Inside, contents_with, class_with, pattern_with, method_at, overrides_with}
+use Rattle.rnc_syntax.specs.Productions.{component_front, assigned_at, assigned, bare_component_with, component_with, components_with, inside_at}
 use Rattle.rnc_syntax.proofs.Locality.{IsLocal, ok_local, deep_local, stuck_end, stuck_front, cons_local, bind_local}
 use Rattle.rnc_syntax.proofs.LocalityFronts.{kept_local, FrontAt, closes, opens, follow_heads}
 use Rattle.rnc_syntax.proofs.LocalityItems.{many_local, many_behind}
+use Rattle.rnc_syntax.proofs.LocalityAnnotations.{opened_local}
 use Rattle.rnc_syntax.proofs.LocalityLiterals.{made_local, mention_local}
 use Rattle.rnc_syntax.proofs.LocalityClasses.{class_local}
 use Rattle.rnc_syntax.proofs.LocalityPrimaries.{Locals, contents_local}
@@ -63,13 +64,34 @@ module _ (inside deeper : Inside) (l : Locals inside deeper) (self : Locals deep
   div_local w = made_local (contents_with inside w) (contents_with deeper w) (λ cs. syntax.div (syntax.components_of cs))
       (contents_local inside deeper l self w)
 
+  pub bare_component_local : (w : Setting) → IsLocal (bare_component_with inside w) (bare_component_with deeper w)
+  unfolding bare_component_with assigned_at
+  bare_component_local w [] = stuck_end (bare_component_with inside w) (bare_component_with deeper w) refl refl
+  bare_component_local w (identifier n ∷ ts) = cons_local (bare_component_with inside w) (bare_component_with deeper w) _ _ (identifier n) ts (λ us. refl)
+      (λ us. refl) (name_local (Some n) ts)
+  bare_component_local w (keyword keywords.Start s ∷ ts) = cons_local (bare_component_with inside w) (bare_component_with deeper w) _ _
+      (keyword keywords.Start s) ts (λ us. refl) (λ us. refl) (name_local None ts)
+  bare_component_local w (keyword keywords.Div s ∷ ts) = cons_local (bare_component_with inside w) (bare_component_with deeper w) _ _
+      (keyword keywords.Div s) ts (λ us. refl) (λ us. refl) (div_local w ts)
+  bare_component_local content (keyword keywords.Include s ∷ ts) = cons_local (bare_component_with inside content) (bare_component_with deeper content) _ _
+      (keyword keywords.Include s) ts (λ us. refl) (λ us. refl) (include_local s.place ts)
+  bare_component_local w (t ∷ ts) = stuck_front (bare_component_with inside w) (bare_component_with deeper w) t ts (λ us. refl) (λ us. refl)
+
+  -- the same behind an identifier
+  pub bare_component_named : (w : Setting) (n : List ℕ) → IsLocal (λ us. bare_component_with inside w (identifier n ∷ us))
+      (λ us. bare_component_with deeper w (identifier n ∷ us))
+  unfolding bare_component_with assigned_at
+  bare_component_named w n = name_local (Some n)
+
   component_part : (w : Setting) (t : Lexeme) → FrontAt (component_front w) (component_with inside w) (component_with deeper w) t
-  unfolding component_with assigned_at
+  unfolding component_with annotation_at bare_component_with assigned_at
   component_part w (identifier n) = opens (λ us. identifier n ∷ us) (λ us. refl) (name_local (Some n))
   component_part w (keyword keywords.Start s) = opens (λ us. keyword keywords.Start s ∷ us) (λ us. refl) (name_local None)
   component_part w (keyword keywords.Div s) = opens (λ us. keyword keywords.Div s ∷ us) (λ us. refl) (div_local w)
   component_part content (keyword keywords.Include s) = opens (λ us. keyword keywords.Include s ∷ us) (λ us. refl) (include_local s.place)
   component_part override (keyword keywords.Include s) = closes (λ us. refl)
+  component_part w (sign OpenBracket) = opens (λ us. sign OpenBracket ∷ us) (λ us. refl)
+      (opened_local (bare_component_with inside w) (bare_component_with deeper w) (bare_component_local w))
   component_part w t = closes (λ us. refl)
 
 module _ (inside deeper : Inside) (l : Locals inside deeper) (self : Locals deeper deeper) where
@@ -81,7 +103,7 @@ module _ (inside deeper : Inside) (l : Locals inside deeper) (self : Locals deep
   -- the same behind an identifier
   pub components_behind : (w : Setting) (n : List ℕ) → IsLocal (λ us. components_with inside w (identifier n ∷ us))
       (λ us. components_with deeper w (identifier n ∷ us))
-  unfolding components_with component_with assigned_at
+  unfolding components_with component_with annotation_at bare_component_with assigned_at
   components_behind w n =
       many_behind (component_front w) refl (component_with inside w) (component_with deeper w) (component_part inside deeper l self w)
       (component_part deeper deeper self self w) (identifier n) (λ us. identifier n ∷ us) (λ us. refl) (name_local inside deeper l self (Some n))
@@ -89,7 +111,7 @@ module _ (inside deeper : Inside) (l : Locals inside deeper) (self : Locals deep
 -- ---- every depth
 
 abbrev one_level : Inside → Inside
-one_level inside = record { class = class_with (basic_with inside.class); pattern = pattern_with inside; components = components_with inside }
+one_level inside = record { class = class_with inside.class; pattern = pattern_with inside; components = components_with inside }
 
 level_local : (inside deeper : Inside) → Locals inside deeper → Locals deeper deeper → Locals (one_level inside) (one_level deeper)
 level_local inside deeper l self = record {

@@ -1,22 +1,24 @@
 -- What a reader answers depends on what it took and on the one token after it: declarations and files.
 use Rattle.std.proofs.Common.{◌≡◌, ℕ, List, [], ◌∷◌, Some, None, Ok, refl, if◌then◌else◌}
 use Rattle.rnc_text.specs.declared.token.Keyword.TheVariants as keywords
-use Rattle.rnc_text.specs.declared.token.Sign.TheVariants.{Equal, BarEqual, AndEqual}
+use Rattle.rnc_text.specs.declared.token.Sign.TheVariants.{Equal, BarEqual, AndEqual, OpenBracket}
 use Rattle.rnc_syntax.specs.Lexeme.{Lexeme, keyword, identifier, sign}
 use Rattle.rnc_syntax.specs.Syntax as syntax
-use Rattle.rnc_syntax.specs.Syntax.{Uri, Declaration, Body, File}
+use Rattle.rnc_syntax.specs.Syntax.{Component, Uri, Declaration, Body}
 use Rattle.rnc_syntax.specs.Grammar.{content}
 use Rattle.rnc_syntax.specs.Combinators.{Outcome, ◌>>=◌, follow, follow_keyword, after, after_keyword, word_at}
-use Rattle.rnc_syntax.specs.Productions.{literal_at, parameter_at, Inside, pattern_with, components_with, uri_at, prefix_at, default_at, declaration_at}
-use Rattle.rnc_syntax.specs.Productions.{declaration_front, begins_method, body_with, declarations_at}
+use Rattle.rnc_syntax.specs.Productions.{annotation_end, literal_at, parameter_at, Inside, bare_pattern_with, bare_component_with, components_with, uri_at}
+use Rattle.rnc_syntax.specs.Productions.{prefix_at, default_at, declaration_at, declaration_front, begins_method, pattern_body_with, bare_body_with}
+use Rattle.rnc_syntax.specs.Productions.{annotated_body_with, body_with, declarations_at}
 use Rattle.rnc_syntax.proofs.Locality.{IsLocal, ok_local, stuck_end, stuck_front, cons_local, bind_local, after_local, word_local}
 use Rattle.rnc_syntax.proofs.LocalityFronts.{end_local, token_local, test_heads, if_local, FrontAt, closes, opens, either_local, follow_front}
 use Rattle.rnc_syntax.proofs.LocalityFronts.{follow_keyword_front}
 use Rattle.rnc_syntax.proofs.LocalityItems.{many_local}
 use Rattle.rnc_syntax.proofs.LocalityLiterals.{made_local, literal_local, parameter_local}
 use Rattle.rnc_syntax.proofs.LocalityPrimaries.{Locals}
-use Rattle.rnc_syntax.proofs.LocalityPatterns.{pattern_local, pattern_behind}
-use Rattle.rnc_syntax.proofs.LocalityComponents.{components_local, components_behind}
+use Rattle.rnc_syntax.proofs.LocalityAnnotations.{opened_local}
+use Rattle.rnc_syntax.proofs.LocalityPatterns.{bare_pattern_local, pattern_behind}
+use Rattle.rnc_syntax.proofs.LocalityComponents.{bare_component_local, bare_component_named, components_local, components_behind}
 
 -- ---- declarations
 
@@ -90,39 +92,84 @@ module _ (inside deeper : Inside) (l : Locals inside deeper) (self : Locals deep
   abbrev grammar_read : Inside → List Lexeme → Outcome Body
   grammar_read inner us = components_with inner content us >>= λ cs. Ok (syntax.grammar_body (syntax.components_of cs.0), cs.1)
 
-  abbrev pattern_read : Inside → List Lexeme → Outcome Body
-  pattern_read inner us = pattern_with inner us >>= λ t. Ok (syntax.pattern_body t.0, t.1)
+  -- a component that has an annotation, and those after it
+  abbrev first_read : Inside → List Lexeme → Outcome Body
+  first_read inner us = bare_component_with inner content us >>= λ c. components_with inner content c.1
+      >>= λ cs. Ok (syntax.grammar_body (syntax.components_of (c.0 ∷ cs.0)), cs.1)
+
+  abbrev others_read : Inside → Component → List Lexeme → Outcome Body
+  others_read inner c us = components_with inner content us >>= λ cs. Ok (syntax.grammar_body (syntax.components_of (c ∷ cs.0)), cs.1)
 
   grammar_local : IsLocal (grammar_read inside) (grammar_read deeper)
   grammar_local = made_local (components_with inside content) (components_with deeper content) (λ cs. syntax.grammar_body (syntax.components_of cs))
       (components_local inside deeper l self content)
 
-  one_pattern_local : IsLocal (pattern_read inside) (pattern_read deeper)
-  one_pattern_local = made_local (pattern_with inside) (pattern_with deeper) syntax.pattern_body (pattern_local inside deeper l self)
+  others_local : (c : Component) → IsLocal (others_read inside c) (others_read deeper c)
+  others_local c = made_local (components_with inside content) (components_with deeper content) (λ cs. syntax.grammar_body (syntax.components_of (c ∷ cs)))
+      (components_local inside deeper l self content)
+
+  first_local : IsLocal (first_read inside) (first_read deeper)
+  first_local ts = bind_local (bare_component_with inside content) (bare_component_with deeper content) (others_read inside) (others_read deeper) ts
+      (bare_component_local inside deeper l self content ts) (λ c rest e. others_local c rest)
+
+  -- the same behind an identifier
+  first_named : (n : List ℕ) → IsLocal (λ us. first_read inside (identifier n ∷ us)) (λ us. first_read deeper (identifier n ∷ us))
+  first_named n ts =
+      bind_local (λ us. bare_component_with inside content (identifier n ∷ us)) (λ us. bare_component_with deeper content (identifier n ∷ us))
+      (others_read inside) (others_read deeper) ts (bare_component_named inside deeper l self content n ts) (λ c rest e. others_local c rest)
+
+  one_pattern_local : IsLocal (pattern_body_with inside) (pattern_body_with deeper)
+  one_pattern_local = made_local (bare_pattern_with inside) (bare_pattern_with deeper) syntax.pattern_body (bare_pattern_local inside deeper l self)
 
   -- behind an identifier
-  abbrev named_read : Inside → List ℕ → List Lexeme → Outcome Body
-  named_read inner n us = if begins_method us then grammar_read inner (identifier n ∷ us) else pattern_read inner (identifier n ∷ us)
+  abbrev named_read : (Inside → List Lexeme → Outcome Body) → Inside → List ℕ → List Lexeme → Outcome Body
+  named_read read inner n us = if begins_method us then read inner (identifier n ∷ us) else pattern_body_with inner (identifier n ∷ us)
 
-  named_local : (n : List ℕ) → IsLocal (named_read inside n) (named_read deeper n)
-  named_local n ts =
-      if_local begins_method (test_heads begins_method same_method) (λ us. grammar_read inside (identifier n ∷ us))
-      (λ us. pattern_read inside (identifier n ∷ us)) (λ us. grammar_read deeper (identifier n ∷ us)) (λ us. pattern_read deeper (identifier n ∷ us)) ts
-      (made_local (λ us. components_with inside content (identifier n ∷ us)) (λ us. components_with deeper content (identifier n ∷ us))
-      (λ cs. syntax.grammar_body (syntax.components_of cs)) (components_behind inside deeper l self content n) ts)
-      (made_local (λ us. pattern_with inside (identifier n ∷ us)) (λ us. pattern_with deeper (identifier n ∷ us)) syntax.pattern_body
+  named_local : (read : Inside → List Lexeme → Outcome Body) (n : List ℕ) → IsLocal (λ us. read inside (identifier n ∷ us))
+      (λ us. read deeper (identifier n ∷ us))
+      → IsLocal (named_read read inside n) (named_read read deeper n)
+  named_local read n m ts =
+      if_local begins_method (test_heads begins_method same_method) (λ us. read inside (identifier n ∷ us)) (λ us. pattern_body_with inside (identifier n ∷ us))
+      (λ us. read deeper (identifier n ∷ us)) (λ us. pattern_body_with deeper (identifier n ∷ us)) ts (m ts)
+      (made_local (λ us. bare_pattern_with inside (identifier n ∷ us)) (λ us. bare_pattern_with deeper (identifier n ∷ us)) syntax.pattern_body
       (pattern_behind inside deeper l self n) ts)
+
+  bare_body_local : IsLocal (bare_body_with inside) (bare_body_with deeper)
+  unfolding bare_body_with
+  bare_body_local [] = end_local (bare_body_with inside) (bare_body_with deeper) (grammar_read inside) (grammar_read deeper) refl refl (grammar_local [])
+  bare_body_local (identifier n ∷ ts) = cons_local (bare_body_with inside) (bare_body_with deeper) (named_read grammar_read inside n)
+      (named_read grammar_read deeper n) (identifier n) ts (λ us. refl) (λ us. refl) (named_local grammar_read n
+      (made_local (λ us. components_with inside content (identifier n ∷ us)) (λ us. components_with deeper content (identifier n ∷ us))
+      (λ cs. syntax.grammar_body (syntax.components_of cs)) (components_behind inside deeper l self content n)) ts)
+  bare_body_local (keyword keywords.Start s ∷ ts) = token_local (bare_body_with inside) (bare_body_with deeper) (grammar_read inside) (grammar_read deeper)
+      (keyword keywords.Start s) ts (λ us. refl) (λ us. refl) (grammar_local (keyword keywords.Start s ∷ ts))
+  bare_body_local (keyword keywords.Div s ∷ ts) = token_local (bare_body_with inside) (bare_body_with deeper) (grammar_read inside) (grammar_read deeper)
+      (keyword keywords.Div s) ts (λ us. refl) (λ us. refl) (grammar_local (keyword keywords.Div s ∷ ts))
+  bare_body_local (keyword keywords.Include s ∷ ts) = token_local (bare_body_with inside) (bare_body_with deeper) (grammar_read inside) (grammar_read deeper)
+      (keyword keywords.Include s) ts (λ us. refl) (λ us. refl) (grammar_local (keyword keywords.Include s ∷ ts))
+  bare_body_local (t ∷ ts) = token_local (bare_body_with inside) (bare_body_with deeper) (pattern_body_with inside) (pattern_body_with deeper) t ts (λ us. refl)
+      (λ us. refl) (one_pattern_local (t ∷ ts))
+
+  annotated_body_local : IsLocal (annotated_body_with inside) (annotated_body_with deeper)
+  unfolding annotated_body_with
+  annotated_body_local [] = end_local (annotated_body_with inside) (annotated_body_with deeper) (pattern_body_with inside) (pattern_body_with deeper) refl refl
+      (one_pattern_local [])
+  annotated_body_local (identifier n ∷ ts) = cons_local (annotated_body_with inside) (annotated_body_with deeper) (named_read first_read inside n)
+      (named_read first_read deeper n) (identifier n) ts (λ us. refl) (λ us. refl) (named_local first_read n (first_named n) ts)
+  annotated_body_local (keyword keywords.Start s ∷ ts) = token_local (annotated_body_with inside) (annotated_body_with deeper) (first_read inside)
+      (first_read deeper) (keyword keywords.Start s) ts (λ us. refl) (λ us. refl) (first_local (keyword keywords.Start s ∷ ts))
+  annotated_body_local (keyword keywords.Div s ∷ ts) = token_local (annotated_body_with inside) (annotated_body_with deeper) (first_read inside)
+      (first_read deeper) (keyword keywords.Div s) ts (λ us. refl) (λ us. refl) (first_local (keyword keywords.Div s ∷ ts))
+  annotated_body_local (keyword keywords.Include s ∷ ts) = token_local (annotated_body_with inside) (annotated_body_with deeper) (first_read inside)
+      (first_read deeper) (keyword keywords.Include s) ts (λ us. refl) (λ us. refl) (first_local (keyword keywords.Include s ∷ ts))
+  annotated_body_local (t ∷ ts) = token_local (annotated_body_with inside) (annotated_body_with deeper) (pattern_body_with inside) (pattern_body_with deeper) t
+      ts (λ us. refl) (λ us. refl) (one_pattern_local (t ∷ ts))
 
   pub body_local : IsLocal (body_with inside) (body_with deeper)
   unfolding body_with
-  body_local [] = end_local (body_with inside) (body_with deeper) (grammar_read inside) (grammar_read deeper) refl refl (grammar_local [])
-  body_local (identifier n ∷ ts) = cons_local (body_with inside) (body_with deeper) (named_read inside n) (named_read deeper n) (identifier n) ts (λ us. refl)
-      (λ us. refl) (named_local n ts)
-  body_local (keyword keywords.Start s ∷ ts) = token_local (body_with inside) (body_with deeper) (grammar_read inside) (grammar_read deeper)
-      (keyword keywords.Start s) ts (λ us. refl) (λ us. refl) (grammar_local (keyword keywords.Start s ∷ ts))
-  body_local (keyword keywords.Div s ∷ ts) = token_local (body_with inside) (body_with deeper) (grammar_read inside) (grammar_read deeper)
-      (keyword keywords.Div s) ts (λ us. refl) (λ us. refl) (grammar_local (keyword keywords.Div s ∷ ts))
-  body_local (keyword keywords.Include s ∷ ts) = token_local (body_with inside) (body_with deeper) (grammar_read inside) (grammar_read deeper)
-      (keyword keywords.Include s) ts (λ us. refl) (λ us. refl) (grammar_local (keyword keywords.Include s ∷ ts))
-  body_local (t ∷ ts) = token_local (body_with inside) (body_with deeper) (pattern_read inside) (pattern_read deeper) t ts (λ us. refl) (λ us. refl)
-      (one_pattern_local (t ∷ ts))
+  body_local ts =
+      let read = λ (us : List Lexeme). annotation_end 0 us >>= λ x. annotated_body_with inside x.1 in
+      let deeper_read = λ (us : List Lexeme). annotation_end 0 us >>= λ x. annotated_body_with deeper x.1 in
+      either_local (follow OpenBracket) refl read deeper_read
+      (follow_front read deeper_read (opened_local (annotated_body_with inside) (annotated_body_with deeper) annotated_body_local) OpenBracket)
+      (bare_body_with inside) (bare_body_with deeper) ts (bare_body_local ts)

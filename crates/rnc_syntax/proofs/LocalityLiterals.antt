@@ -2,14 +2,16 @@
 use Rattle.std.proofs.Common.{ℕ, List, [], ◌∷◌, Some, None, Ok, refl}
 use Rattle.rnc_text.specs.declared.token.Keyword.TheVariants as keywords
 use Rattle.rnc_text.specs.declared.token.Sign.{Sign}
-use Rattle.rnc_text.specs.declared.token.Sign.TheVariants.{Equal, OpenBrace, CloseBrace, Tilde}
-use Rattle.rnc_syntax.specs.Lexeme.{Lexeme, keyword, identifier}
+use Rattle.rnc_text.specs.declared.token.Sign.TheVariants.{Equal, OpenBrace, CloseBrace, OpenBracket, Tilde}
+use Rattle.rnc_syntax.specs.Lexeme.{Lexeme, keyword, identifier, sign}
 use Rattle.rnc_syntax.specs.Combinators.{Outcome, ◌>>=◌, follow, follow_keyword, after, word_at, segment_at, many}
-use Rattle.rnc_syntax.specs.Productions.{literal_at, parameter_at, word_front, in_braces_at, parameters_at, word_after_equal, inherit_at, mention_at}
+use Rattle.rnc_syntax.specs.Productions.{annotation_at, literal_at, parameter_at, parameter_front, annotated_parameter_at, in_braces_at, parameters_at}
+use Rattle.rnc_syntax.specs.Productions.{word_after_equal, inherit_at, mention_at}
 use Rattle.rnc_syntax.specs.Syntax.{joined_text}
 use Rattle.rnc_syntax.proofs.Locality.{IsLocal, ok_local, bind_local, after_local, word_local, segment_local}
 use Rattle.rnc_syntax.proofs.LocalityFronts.{FrontAt, closes, opens, either_local, follow_front, follow_keyword_front}
 use Rattle.rnc_syntax.proofs.LocalityItems.{many_local}
+use Rattle.rnc_syntax.proofs.LocalityAnnotations.{opened_local}
 
 -- ---- a reader, and then what is made of its value
 
@@ -58,18 +60,19 @@ parameter_local ts =
     let f = λ (name : List ℕ) (us : List Lexeme). after Equal us >>= λ equal. literal_at equal.1 >>= λ value. Ok ((name, value.0), value.1) in
     bind_local word_at word_at f f ts (word_local ts) (λ name rest e. value_local name rest)
 
-parameter_front : (t : Lexeme) → FrontAt word_front parameter_at parameter_at t
-unfolding parameter_at word_at
-parameter_front (identifier w) = opens (λ us. identifier w ∷ us) (λ us. refl) (value_local w)
-parameter_front (keyword k s) = opens (λ us. keyword k s ∷ us) (λ us. refl) (value_local s.text)
-parameter_front t = closes (λ us. refl)
+parameter_part : (t : Lexeme) → FrontAt parameter_front annotated_parameter_at annotated_parameter_at t
+unfolding annotated_parameter_at annotation_at parameter_at word_at
+parameter_part (identifier w) = opens (λ us. identifier w ∷ us) (λ us. refl) (value_local w)
+parameter_part (keyword k s) = opens (λ us. keyword k s ∷ us) (λ us. refl) (value_local s.text)
+parameter_part (sign OpenBracket) = opens (λ us. sign OpenBracket ∷ us) (λ us. refl) (opened_local parameter_at parameter_at parameter_local)
+parameter_part t = closes (λ us. refl)
 
 pub parameters_local : IsLocal parameters_at parameters_at
 unfolding parameters_at
 parameters_local ts =
-    let inner = in_braces_at (many word_front parameter_at) in
-    let l = in_braces_local (many word_front parameter_at) (many word_front parameter_at) (many_local word_front refl parameter_at parameter_at parameter_front
-    parameter_front) in
+    let all = many parameter_front annotated_parameter_at in
+    let inner = in_braces_at all in
+    let l = in_braces_local all all (many_local parameter_front refl annotated_parameter_at annotated_parameter_at parameter_part parameter_part) in
     either_local (follow OpenBrace) refl inner inner (follow_front inner inner l OpenBrace) (λ us. Ok ([], us)) (λ us. Ok ([], us)) ts (ok_local [] ts)
 
 word_after_local : IsLocal word_after_equal word_after_equal

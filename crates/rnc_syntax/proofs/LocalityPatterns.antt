@@ -7,13 +7,14 @@ use Rattle.rnc_syntax.specs.Lexeme.{Lexeme, keyword, identifier, cname, sign}
 use Rattle.rnc_syntax.specs.Syntax as syntax
 use Rattle.rnc_syntax.specs.Syntax.{DatatypeName, Pattern}
 use Rattle.rnc_syntax.specs.Combinators.{Outcome, ◌>>=◌, follow, either_way, many}
-use Rattle.rnc_syntax.specs.Productions.{parameters_at, Inside, begins_segment, typed_at, other_at, atom_at, primary_with, repeated, particle_with}
-use Rattle.rnc_syntax.specs.Productions.{separator_of, joined, rest_with, pattern_from, data_with, pattern_with}
+use Rattle.rnc_syntax.specs.Productions.{parameters_at, Inside, begins_segment, typed_at, other_at, atom_at, bare_primary_with, primary_with, repeated}
+use Rattle.rnc_syntax.specs.Productions.{particle_with, separator_of, joined, rest_with, pattern_from, data_with, bare_pattern_with, pattern_with}
 use Rattle.rnc_syntax.proofs.Locality.{LocalAt, IsLocal, ok_local, stuck_end, cons_local, bind_local}
 use Rattle.rnc_syntax.proofs.LocalityFronts.{same_local, end_local, token_local, test_heads, if_local, either_local, follow_front}
 use Rattle.rnc_syntax.proofs.LocalityItems.{many_local}
 use Rattle.rnc_syntax.proofs.LocalityLiterals.{made_local, parameters_local}
-use Rattle.rnc_syntax.proofs.LocalityPrimaries.{Locals, same_segment, typed_local, primary_local}
+use Rattle.rnc_syntax.proofs.LocalityAnnotations.{annotated_local}
+use Rattle.rnc_syntax.proofs.LocalityPrimaries.{Locals, same_segment, typed_local, bare_primary_local, primary_local}
 
 -- ---- particles
 
@@ -94,9 +95,10 @@ module _ (inside deeper : Inside) (l : Locals inside deeper) (self : Locals deep
       (bind_local (typed_at d) (typed_at d) (pattern_from inside) (pattern_from deeper) ts (typed_local d ts) (λ t rest e. from_local t rest))
       (bind_local parameters_at parameters_at (data_with inside d) (data_with deeper d) ts (parameters_local ts) (λ ps rest e. data_local d ps rest))
 
-  any_local : IsLocal (λ us. primary_with inside us >>= λ t. pattern_from inside t.0 t.1) (λ us. primary_with deeper us >>= λ t. pattern_from deeper t.0 t.1)
-  any_local ts = bind_local (primary_with inside) (primary_with deeper) (pattern_from inside) (pattern_from deeper) ts (primary_local inside deeper l self ts)
-      (λ t rest e. from_local t rest)
+  any_local : IsLocal (λ us. bare_primary_with inside us >>= λ t. pattern_from inside t.0 t.1)
+      (λ us. bare_primary_with deeper us >>= λ t. pattern_from deeper t.0 t.1)
+  any_local ts = bind_local (bare_primary_with inside) (bare_primary_with deeper) (pattern_from inside) (pattern_from deeper) ts
+      (bare_primary_local inside deeper l self ts) (λ t rest e. from_local t rest)
 
   data_way : (inner : Inside) (d : DatatypeName) (us : List Lexeme) → either_way {A = DatatypeName × List Lexeme}
       (if begins_segment us then None else Some (d, us)) (typed_at d us >>= λ t. pattern_from inner t.0 t.1) (λ d. parameters_at d.1
@@ -104,18 +106,22 @@ module _ (inside deeper : Inside) (l : Locals inside deeper) (self : Locals deep
   data_way inner d us = way_of (begins_segment us) (d, us) (typed_at d us >>= λ t. pattern_from inner t.0 t.1) (λ d. parameters_at d.1
       >>= λ ps. data_with inner d.0 ps.0 ps.1)
 
-  pub pattern_local : IsLocal (pattern_with inside) (pattern_with deeper)
-  unfolding pattern_with primary_with atom_at other_at
-  pattern_local [] = stuck_end (pattern_with inside) (pattern_with deeper) refl refl
-  pattern_local (cname p w ∷ ts) = let d = syntax.prefixed_type p w in cons_local (pattern_with inside) (pattern_with deeper) _ _ (cname p w) ts
+  pub bare_pattern_local : IsLocal (bare_pattern_with inside) (bare_pattern_with deeper)
+  unfolding bare_pattern_with bare_primary_with atom_at other_at
+  bare_pattern_local [] = stuck_end (bare_pattern_with inside) (bare_pattern_with deeper) refl refl
+  bare_pattern_local (cname p w ∷ ts) = let d = syntax.prefixed_type p w in cons_local (bare_pattern_with inside) (bare_pattern_with deeper) _ _ (cname p w) ts
       (data_way inside d) (data_way deeper d) (after_type_local d ts)
-  pattern_local (keyword keywords.String s ∷ ts) = let d = syntax.string_type in cons_local (pattern_with inside) (pattern_with deeper) _ _
+  bare_pattern_local (keyword keywords.String s ∷ ts) = let d = syntax.string_type in cons_local (bare_pattern_with inside) (bare_pattern_with deeper) _ _
       (keyword keywords.String s) ts (data_way inside d) (data_way deeper d) (after_type_local d ts)
-  pattern_local (keyword keywords.Token s ∷ ts) = let d = syntax.token_type in cons_local (pattern_with inside) (pattern_with deeper) _ _
+  bare_pattern_local (keyword keywords.Token s ∷ ts) = let d = syntax.token_type in cons_local (bare_pattern_with inside) (bare_pattern_with deeper) _ _
       (keyword keywords.Token s) ts (data_way inside d) (data_way deeper d) (after_type_local d ts)
-  pattern_local (t ∷ ts) = token_local (pattern_with inside) (pattern_with deeper) _ _ t ts (λ us. refl) (λ us. refl) (any_local (t ∷ ts))
+  bare_pattern_local (t ∷ ts) = token_local (bare_pattern_with inside) (bare_pattern_with deeper) _ _ t ts (λ us. refl) (λ us. refl) (any_local (t ∷ ts))
 
   -- the same behind an identifier
-  pub pattern_behind : (n : List ℕ) → IsLocal (λ us. pattern_with inside (identifier n ∷ us)) (λ us. pattern_with deeper (identifier n ∷ us))
-  unfolding pattern_with primary_with atom_at
+  pub pattern_behind : (n : List ℕ) → IsLocal (λ us. bare_pattern_with inside (identifier n ∷ us)) (λ us. bare_pattern_with deeper (identifier n ∷ us))
+  unfolding bare_pattern_with bare_primary_with atom_at
   pattern_behind n = from_local (syntax.ref n)
+
+  pub pattern_local : IsLocal (pattern_with inside) (pattern_with deeper)
+  unfolding pattern_with
+  pattern_local = annotated_local (bare_pattern_with inside) (bare_pattern_with deeper) bare_pattern_local

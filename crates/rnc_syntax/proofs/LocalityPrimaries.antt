@@ -9,11 +9,12 @@ use Rattle.rnc_syntax.specs.Syntax as syntax
 use Rattle.rnc_syntax.specs.Syntax.{NameClass, DatatypeName, Pattern}
 use Rattle.rnc_syntax.specs.Grammar.{Setting, content}
 use Rattle.rnc_syntax.specs.Combinators.{Outcome, ◌>>=◌, after, identifier_at, either_way}
-use Rattle.rnc_syntax.specs.Productions.{literal_at, parameters_at, in_braces_at, mention_at, basic_with, class_with, Inside, braced_with, contents_with}
+use Rattle.rnc_syntax.specs.Productions.{literal_at, parameters_at, in_braces_at, mention_at, class_with, Inside, braced_with, contents_with}
 use Rattle.rnc_syntax.specs.Productions.{named_with, begins_segment, typed_at, type_front, lone_front, other_at, atom_at, parens_with, opening_front}
-use Rattle.rnc_syntax.specs.Productions.{opened_with, primary_with}
+use Rattle.rnc_syntax.specs.Productions.{opened_with, bare_primary_with, primary_with}
 use Rattle.rnc_syntax.proofs.Locality.{IsLocal, ok_local, stuck_end, stuck_front, cons_local, bind_local, after_local, identifier_local}
 use Rattle.rnc_syntax.proofs.LocalityFronts.{token_local, test_heads, if_local, FrontAt, closes, opens, either_local}
+use Rattle.rnc_syntax.proofs.LocalityAnnotations.{annotated_local}
 use Rattle.rnc_syntax.proofs.LocalityLiterals.{made_local, ended_local, in_braces_local, literal_local, parameters_local, mention_local}
 use Rattle.rnc_syntax.proofs.LocalityClasses.{class_local}
 
@@ -90,7 +91,7 @@ module _ (inside deeper : Inside) (l : Locals inside deeper) (self : Locals deep
   named_local : (make : NameClass → Pattern → Pattern) → IsLocal (named_with inside make) (named_with deeper make)
   unfolding named_with
   named_local make ts =
-      bind_local (class_with (basic_with inside.class)) (class_with (basic_with deeper.class)) (λ c us. braced_with inside us
+      bind_local (class_with inside.class) (class_with deeper.class) (λ c us. braced_with inside us
       >>= λ body. Ok (make c body.0, body.1)) (λ c us. braced_with deeper us >>= λ body. Ok (make c body.0, body.1)) ts
       (class_local inside.class deeper.class l.class self.class ts) (λ c rest e. made_local (braced_with inside) (braced_with deeper) (make c) braced_local
       rest)
@@ -114,7 +115,11 @@ module _ (inside deeper : Inside) (l : Locals inside deeper) (self : Locals deep
   opening_part (sign OpenParenthesis) = opens (λ us. (openings.Parenthesis, us)) (λ us. refl) (opened_local openings.Parenthesis)
   opening_part t = closes (λ us. refl)
 
+  pub bare_primary_local : IsLocal (bare_primary_with inside) (bare_primary_with deeper)
+  unfolding bare_primary_with
+  bare_primary_local ts = either_local opening_front refl (λ x. opened_with inside x.0 x.1) (λ x. opened_with deeper x.0 x.1) opening_part atom_at atom_at ts
+      (atom_local ts)
+
   pub primary_local : IsLocal (primary_with inside) (primary_with deeper)
   unfolding primary_with
-  primary_local ts = either_local opening_front refl (λ x. opened_with inside x.0 x.1) (λ x. opened_with deeper x.0 x.1) opening_part atom_at atom_at ts
-      (atom_local ts)
+  primary_local = annotated_local (bare_primary_with inside) (bare_primary_with deeper) bare_primary_local

@@ -5,7 +5,7 @@ use Rattle.rnc_text.specs.declared.token.Keyword.{Keyword}
 use Rattle.rnc_text.specs.declared.token.Keyword.TheVariants as keywords
 use Rattle.rnc_text.specs.declared.token.Sign.{Sign}
 use Rattle.rnc_text.specs.declared.token.Sign.TheVariants.{Equal, BarEqual, AndEqual, Comma, Bar, And, Question, Star, Plus, Minus, OpenBrace, CloseBrace}
-use Rattle.rnc_text.specs.declared.token.Sign.TheVariants.{OpenParenthesis, CloseParenthesis, Tilde}
+use Rattle.rnc_text.specs.declared.token.Sign.TheVariants.{OpenParenthesis, CloseParenthesis, OpenBracket, CloseBracket, Tilde}
 use Rattle.rnc_syntax.specs.declared.fault.Stop.{Stop}
 use Rattle.rnc_syntax.specs.Lexeme.{Lexeme, Spelling, keyword, identifier, cname, ns_name, segment, sign}
 use Rattle.rnc_syntax.specs.Grammar.{word_of}
@@ -48,6 +48,8 @@ same_sign_true OpenBrace OpenBrace e = refl
 same_sign_true CloseBrace CloseBrace e = refl
 same_sign_true OpenParenthesis OpenParenthesis e = refl
 same_sign_true CloseParenthesis CloseParenthesis e = refl
+same_sign_true OpenBracket OpenBracket e = refl
+same_sign_true CloseBracket CloseBracket e = refl
 same_sign_true Tilde Tilde e = refl
 same_sign_true _ _ e = absurd cc
 
@@ -262,7 +264,7 @@ mapped_sound P Q f read sound maps ts x e =
     let p = sound ts a.0 a.1 in
     subst (TakesFront Q ts) (ok_is (f a.0.0, a.0.1) x a.2) (record { front = p.front; is = maps p.front a.0.0 p.is; parts = p.parts })
 
-both_reads : {A B C : Type 0} (P : List Lexeme → A → Type 0) (Q : List Lexeme → B → Type 0) (R : List Lexeme → C → Type 0) (f : A → B → C)
+pub both_reads : {A B C : Type 0} (P : List Lexeme → A → Type 0) (Q : List Lexeme → B → Type 0) (R : List Lexeme → C → Type 0) (f : A → B → C)
     → ((first second : List Lexeme) (a : A) (b : B) → P first a → Q second b → R (first ++ second) (f a b))
     → (ts : List Lexeme) (x : A × List Lexeme) (y : B × List Lexeme) → TakesFront P ts x → TakesFront Q x.1 y → TakesFront R ts (f x.0 y.0, y.1)
 both_reads P Q R f joins ts x y p q = record {

@@ -6,34 +6,46 @@ use Rattle.rnc_syntax.specs.Lexeme.{Lexeme, keyword, identifier, cname, ns_name,
 use Rattle.rnc_syntax.specs.Syntax as syntax
 use Rattle.rnc_syntax.specs.Syntax.{NameClass}
 use Rattle.rnc_syntax.specs.Grammar as grammar
-use Rattle.rnc_syntax.specs.Grammar.{IsClass, AreMoreClasses, IsBasic}
+use Rattle.rnc_syntax.specs.Grammar.{MayBeAnnotation, IsClass, AreMoreClasses, IsBasic, IsBareBasic}
 use Rattle.rnc_syntax.specs.Combinators.{Outcome, ◌>>=◌, follow, either_way, many}
-use Rattle.rnc_syntax.specs.Productions.{class_in_parens, basic_with, choice_with, wide_front, except_front, excepted, class_with}
+use Rattle.rnc_syntax.specs.Productions.{class_in_parens, bare_basic_with, basic_with, choice_with, wide_front, except_front, excepted, bare_class_with}
+use Rattle.rnc_syntax.specs.Productions.{class_with}
 use Rattle.rnc_syntax.proofs.Soundness.{bind_ok, front_some, ok_is, some_is, follow_is, TakesFront, Sound, Preceded, closes_sound, Each, no_items, and_item}
 use Rattle.rnc_syntax.proofs.Soundness.{many_sound, some_is_read, preceded_sound, nothing_left}
+use Rattle.rnc_syntax.proofs.SoundnessAnnotations.{SoundBehind, annotated_sound, bare_sound}
 
-pub basic_sound : (class : List Lexeme → Outcome NameClass) → Sound class IsClass → Sound (basic_with class) IsBasic
-unfolding basic_with class_in_parens
-basic_sound class sound [] x e = absurd cc
-basic_sound class sound (identifier w ∷ ts) x e = subst (TakesFront IsBasic (identifier w ∷ ts)) (ok_is (syntax.name_is (syntax.unprefixed w), ts) x e)
+bare_basic_sound : (class : List Lexeme → Outcome NameClass) → Sound class IsClass → Sound (bare_basic_with class) IsBareBasic
+unfolding bare_basic_with class_in_parens
+bare_basic_sound class sound [] x e = absurd cc
+bare_basic_sound class sound (identifier w ∷ ts) x e = subst (TakesFront IsBareBasic (identifier w ∷ ts)) (ok_is (syntax.name_is (syntax.unprefixed w), ts) x e)
     (record { front = identifier w ∷ []; is = grammar.word_class {x = identifier w} refl refl; parts = refl })
-basic_sound class sound (keyword k s ∷ ts) x e = subst (TakesFront IsBasic (keyword k s ∷ ts)) (ok_is (syntax.name_is (syntax.unprefixed s.text), ts) x e)
-    (record { front = keyword k s ∷ []; is = grammar.word_class {x = keyword k s} refl refl; parts = refl })
-basic_sound class sound (cname p l ∷ ts) x e = subst (TakesFront IsBasic (cname p l ∷ ts)) (ok_is (syntax.name_is (syntax.prefixed p l), ts) x e)
+bare_basic_sound class sound (keyword k s ∷ ts) x e = subst (TakesFront IsBareBasic (keyword k s ∷ ts)) (ok_is (syntax.name_is (syntax.unprefixed s.text), ts) x
+    e) (record { front = keyword k s ∷ []; is = grammar.word_class {x = keyword k s} refl refl; parts = refl })
+bare_basic_sound class sound (cname p l ∷ ts) x e = subst (TakesFront IsBareBasic (cname p l ∷ ts)) (ok_is (syntax.name_is (syntax.prefixed p l), ts) x e)
     (record { front = cname p l ∷ []; is = grammar.cname_class refl; parts = refl })
-basic_sound class sound (ns_name p ∷ ts) x e = subst (TakesFront IsBasic (ns_name p ∷ ts)) (ok_is (syntax.ns_name p, ts) x e)
+bare_basic_sound class sound (ns_name p ∷ ts) x e = subst (TakesFront IsBareBasic (ns_name p ∷ ts)) (ok_is (syntax.ns_name p, ts) x e)
     (record { front = ns_name p ∷ []; is = grammar.ns_class refl; parts = refl })
-basic_sound class sound (segment w ∷ ts) x e = absurd cc
-basic_sound class sound (sign Star ∷ ts) x e = subst (TakesFront IsBasic (sign Star ∷ ts)) (ok_is (syntax.any_name, ts) x e)
+bare_basic_sound class sound (segment w ∷ ts) x e = absurd cc
+bare_basic_sound class sound (sign Star ∷ ts) x e = subst (TakesFront IsBareBasic (sign Star ∷ ts)) (ok_is (syntax.any_name, ts) x e)
     (record { front = sign Star ∷ []; is = grammar.any_class refl; parts = refl })
-basic_sound class sound (sign OpenParenthesis ∷ ts) x e =
+bare_basic_sound class sound (sign OpenParenthesis ∷ ts) x e =
     let p = closes_sound IsClass CloseParenthesis class sound ts x e in
     record {
       front = sign OpenParenthesis ∷ p.front;
       is = grammar.class_in_parens p.is.is (ap (λ (r : List Lexeme). sign OpenParenthesis ∷ r) p.is.parts);
       parts = ap (λ (r : List Lexeme). sign OpenParenthesis ∷ r) p.parts;
     }
-basic_sound class sound (sign _ ∷ ts) x e = absurd cc
+bare_basic_sound class sound (sign _ ∷ ts) x e = absurd cc
+
+pub basic_is : (n ts : List Lexeme) (c : NameClass) → MayBeAnnotation n → IsBareBasic ts c → IsBasic (n ++ ts) c
+basic_is n ts c may is = grammar.annotated_basic may is refl
+
+pub bare_basic_behind : (class : List Lexeme → Outcome NameClass) → Sound class IsClass → SoundBehind (bare_basic_with class) IsBasic
+bare_basic_behind class sound = bare_sound IsBasic (bare_basic_with class) IsBareBasic (bare_basic_sound class sound) basic_is
+
+pub basic_sound : (class : List Lexeme → Outcome NameClass) → Sound class IsClass → Sound (basic_with class) IsBasic
+unfolding basic_with
+basic_sound class sound = annotated_sound IsBasic (bare_basic_with class) (bare_basic_behind class sound)
 
 last_parts : (ts a b r : List Lexeme) → ts ≡ a ++ b → a ≡ sign Bar ∷ r → b ≡ [] → ts ≡ sign Bar ∷ r
 last_parts ts a b r e f g = e ∙ ap (λ (b : List Lexeme). a ++ b) g ∙ append-nil a ∙ f
@@ -80,19 +92,20 @@ except_is ts y e =
     subst (λ (y : Option (List ℕ) × List Lexeme). ts ≡ except_tokens y.0 y.1) (some_is (w.0.0, m.0) y m.2)
     (wide_is ts w.0 w.1 ∙ wide_minus w.0.0 w.0.1 m.0 (follow_is Minus w.0.1 m.0 m.1))
 
-excepted_reads : (o : Option (List ℕ)) (ts rest : List Lexeme) (c : NameClass × List Lexeme) → ts ≡ except_tokens o rest → TakesFront IsBasic rest c
-    → TakesFront IsClass ts (excepted o c.0, c.1)
-excepted_reads None ts rest c f p = record {
-  front = sign Star ∷ sign Minus ∷ p.front;
-  is = grammar.any_except p.is refl;
-  parts = f
-      ∙ ap (λ (r : List Lexeme). sign Star ∷ sign Minus ∷ r) p.parts;
+-- behind an annotation
+excepted_reads : (n : List Lexeme) (o : Option (List ℕ)) (ts rest : List Lexeme) (c : NameClass × List Lexeme) → MayBeAnnotation n → ts ≡ except_tokens o rest
+    → TakesFront IsBasic rest c → TakesFront IsClass (n ++ ts) (excepted o c.0, c.1)
+excepted_reads n None ts rest c may f p = record {
+  front = n ++ sign Star ∷ sign Minus ∷ p.front;
+  is = grammar.any_except may p.is refl;
+  parts = ap (λ (r : List Lexeme). n ++ r) (f ∙ ap (λ (r : List Lexeme). sign Star ∷ sign Minus ∷ r) p.parts)
+      ∙ sym (append_assoc n (sign Star ∷ sign Minus ∷ p.front) c.1);
 }
-excepted_reads (Some q) ts rest c f p = record {
-  front = ns_name q ∷ sign Minus ∷ p.front;
-  is = grammar.ns_except p.is refl;
-  parts = f
-      ∙ ap (λ (r : List Lexeme). ns_name q ∷ sign Minus ∷ r) p.parts;
+excepted_reads n (Some q) ts rest c may f p = record {
+  front = n ++ ns_name q ∷ sign Minus ∷ p.front;
+  is = grammar.ns_except may p.is refl;
+  parts = ap (λ (r : List Lexeme). n ++ r) (f ∙ ap (λ (r : List Lexeme). ns_name q ∷ sign Minus ∷ r) p.parts)
+      ∙ sym (append_assoc n (ns_name q ∷ sign Minus ∷ p.front) c.1);
 }
 
 module _ (basic : List Lexeme → Outcome NameClass) (sound : Sound basic IsBasic) where
@@ -114,15 +127,24 @@ module _ (basic : List Lexeme → Outcome NameClass) (sound : Sound basic IsBasi
   unfolding choice_with
   choice_sound ts c x p e = choice_step ts c.1 p.front c.0 x (follow Bar c.1) p.is p.parts refl e
 
-  class_step : (ts : List Lexeme) (x : NameClass × List Lexeme) (o : Option (Option (List ℕ) × List Lexeme)) → except_front ts ≡ o
-      → either_way o (basic ts >>= λ c. choice_with basic c.0 c.1) (λ x. basic x.1 >>= λ c. Ok (excepted x.0 c.0, c.1)) ≡ Ok x → TakesFront IsClass ts x
-  class_step ts x None is e =
-      let a = bind_ok (basic ts) _ x e in
-      choice_sound ts a.0 x (sound ts a.0 a.1) a.2
-  class_step ts x (Some y) is e =
-      let a = bind_ok (basic y.1) _ x e in
-      subst (TakesFront IsClass ts) (ok_is (excepted y.0 a.0.0, a.0.1) x a.2) (excepted_reads y.0 ts y.1 a.0 (except_is ts y is) (sound y.1 a.0 a.1))
+module _ (class : List Lexeme → Outcome NameClass) (sound : Sound class IsClass) where
+  class_step : (n ts : List Lexeme) (x : NameClass × List Lexeme) (o : Option (Option (List ℕ) × List Lexeme)) → MayBeAnnotation n → except_front ts ≡ o
+      → either_way o (bare_basic_with class ts >>= λ c. choice_with (basic_with class) c.0 c.1) (λ x. basic_with class x.1 >>= λ c. Ok (
+        excepted x.0 c.0,
+        c.1,
+      )) ≡ Ok x → TakesFront IsClass (n ++ ts) x
+  class_step n ts x None may is e =
+      let a = bind_ok (bare_basic_with class ts) _ x e in
+      choice_sound (basic_with class) (basic_sound class sound) (n ++ ts) a.0 x (bare_basic_behind class sound n may ts a.0 a.1) a.2
+  class_step n ts x (Some y) may is e =
+      let a = bind_ok (basic_with class y.1) _ x e in
+      subst (TakesFront IsClass (n ++ ts)) (ok_is (excepted y.0 a.0.0, a.0.1) x a.2)
+      (excepted_reads n y.0 ts y.1 a.0 may (except_is ts y is) (basic_sound class sound y.1 a.0 a.1))
 
-  pub class_sound : Sound (class_with basic) IsClass
+  bare_class_behind : SoundBehind (bare_class_with class) IsClass
+  unfolding bare_class_with
+  bare_class_behind n may ts x e = class_step n ts x (except_front ts) may refl e
+
+  pub class_sound : Sound (class_with class) IsClass
   unfolding class_with
-  class_sound ts x e = class_step ts x (except_front ts) refl e
+  class_sound = annotated_sound IsClass (bare_class_with class) bare_class_behind

@@ -1,21 +1,24 @@
 -- What is read is in the grammar: files.
-use Rattle.std.proofs.Common.{◌≡◌, ℕ, List, [], ◌∷◌, ◌++◌, Some, None, Ok, refl, ap, subst, ◌∙◌, inl, inr}
+use Rattle.std.proofs.Common.{◌≡◌, ℕ, true, false, List, [], ◌∷◌, ◌++◌, Option, Some, None, Ok, refl, ap, subst, ◌∙◌, inl, inr}
 use Rattle.std.proofs.lemmas.List.{append-nil}
 use Rattle.rnc_text.specs.declared.token.Keyword.TheVariants as keywords
-use Rattle.rnc_text.specs.declared.token.Sign.TheVariants.{Equal}
+use Rattle.rnc_text.specs.declared.token.Sign.TheVariants.{Equal, OpenBracket}
 use Rattle.rnc_syntax.specs.Lexeme.{Lexeme, Spelling, keyword, sign}
 use Rattle.rnc_syntax.specs.Syntax as syntax
 use Rattle.rnc_syntax.specs.Syntax.{Pattern, Component, Uri, Declaration, Body, File}
 use Rattle.rnc_syntax.specs.Grammar as grammar
-use Rattle.rnc_syntax.specs.Grammar.{content, IsLiteral, IsPattern, AreComponents, IsUri, IsDeclaration, AreDeclarations, IsBody, IsFile}
-use Rattle.rnc_syntax.specs.Combinators.{◌>>=◌, after_keyword, many}
-use Rattle.rnc_syntax.specs.Productions.{literal_at, parameter_at, Inside, pattern_with, components_with, inside_at, uri_at, prefix_at, default_at}
-use Rattle.rnc_syntax.specs.Productions.{declaration_at, begins_declaration, declaration_front, is_grammar_body, body_with, if_ended, declarations_at}
+use Rattle.rnc_syntax.specs.Grammar.{content, IsLiteral, AreComponents, IsComponent, IsUri, IsDeclaration, AreDeclarations, IsBody, IsFile}
+use Rattle.rnc_syntax.specs.Combinators.{Outcome, ◌>>=◌, follow, after_keyword, either_way, many}
+use Rattle.rnc_syntax.specs.Productions.{annotation_end, literal_at, parameter_at, Inside, bare_pattern_with, bare_component_with, components_with, inside_at}
+use Rattle.rnc_syntax.specs.Productions.{uri_at, prefix_at, default_at}
+use Rattle.rnc_syntax.specs.Productions.{declaration_at, begins_declaration, declaration_front, is_grammar_body, pattern_body_with, bare_body_with}
+use Rattle.rnc_syntax.specs.Productions.{annotated_body_with, body_with, if_ended, declarations_at}
 use Rattle.rnc_syntax.specs.Productions.{file_with}
 use Rattle.rnc_syntax.proofs.Soundness.{bind_ok, chosen, ok_is, some_is, same_namespace, after_keyword_is, TakesFront, Sound, Each, no_items, and_item}
-use Rattle.rnc_syntax.proofs.Soundness.{many_sound, Behind, behind, mapped_sound, IsSetting, setting_sound}
+use Rattle.rnc_syntax.proofs.Soundness.{many_sound, Behind, behind, mapped_sound, both_reads, IsSetting, setting_sound}
+use Rattle.rnc_syntax.proofs.SoundnessAnnotations.{SoundBehind, opened_sound}
 use Rattle.rnc_syntax.proofs.SoundnessLiterals.{literal_sound, parameter_sound}
-use Rattle.rnc_syntax.proofs.SoundnessPatterns.{InsideSound, pattern_sound, components_sound, inside_sound}
+use Rattle.rnc_syntax.proofs.SoundnessPatterns.{InsideSound, bare_pattern_behind, bare_component_behind, components_sound, inside_sound}
 
 literal_uri : (ts : List Lexeme) (x : Uri × List Lexeme) → (literal_at ts >>= λ v. Ok (syntax.literal v.0, v.1)) ≡ Ok x → TakesFront IsUri ts x
 literal_uri ts x e = mapped_sound IsLiteral IsUri syntax.literal literal_at literal_sound (λ ts v p. grammar.literal p) ts x e
@@ -86,16 +89,53 @@ declarations_are (no_items e) = grammar.no_declarations e
 declarations_are (and_item p q parts) = grammar.and_declaration p (declarations_are q) parts
 
 module _ (inside : Inside) (sound : InsideSound inside) where
-  pub body_sound : Sound (body_with inside) IsBody
-  unfolding body_with
-  body_sound ts x e =
-      elim (chosen (is_grammar_body ts) (components_with inside content ts >>= λ cs. Ok (syntax.grammar_body (syntax.components_of cs.0), cs.1))
-      (pattern_with inside ts >>= λ t. Ok (syntax.pattern_body t.0, t.1)) (Ok x) e) [
+  pattern_body_behind : SoundBehind (pattern_body_with inside) IsBody
+  pattern_body_behind n may ts x e =
+      let a = bind_ok (bare_pattern_with inside ts) _ x e in
+      let p = bare_pattern_behind inside sound n may ts a.0 a.1 in
+      subst (TakesFront IsBody (n ++ ts)) (ok_is (syntax.pattern_body a.0.0, a.0.1) x a.2)
+      (record { front = p.front; is = grammar.pattern_body p.is; parts = p.parts })
+
+  bare_body_sound : Sound (bare_body_with inside) IsBody
+  unfolding bare_body_with
+  bare_body_sound ts x e =
+      elim (chosen (is_grammar_body true ts) (components_with inside content ts >>= λ cs. Ok (syntax.grammar_body (syntax.components_of cs.0), cs.1))
+      (pattern_body_with inside ts) (Ok x) e) [
         | inl h ↦ mapped_sound (AreComponents content) IsBody (λ (cs : List Component). syntax.grammar_body (syntax.components_of cs))
             (components_with inside content) (components_sound inside sound content) (λ ts a p. grammar.grammar_body p refl) ts x h.1
-        | inr h ↦ mapped_sound IsPattern IsBody syntax.pattern_body (pattern_with inside) (pattern_sound inside sound) (λ ts a p. grammar.pattern_body p) ts x
-            h.1
+        | inr h ↦ pattern_body_behind [] (grammar.without_annotation refl) ts x h.1
       ]
+
+  -- a component, and those after it
+  abbrev grammar_read : List Lexeme → Outcome Body
+  grammar_read ts = bare_component_with inside content ts >>= λ c. components_with inside content c.1
+      >>= λ cs. Ok (syntax.grammar_body (syntax.components_of (c.0 ∷ cs.0)), cs.1)
+
+  grammar_behind : SoundBehind grammar_read IsBody
+  grammar_behind n may ts x e =
+      let a = bind_ok (bare_component_with inside content ts) _ x e in
+      let b = bind_ok (components_with inside content a.0.1) _ x a.2 in
+      subst (TakesFront IsBody (n ++ ts)) (ok_is (syntax.grammar_body (syntax.components_of (a.0.0 ∷ b.0.0)), b.0.1) x b.2)
+      (both_reads (IsComponent content) (AreComponents content) IsBody (λ c cs. syntax.grammar_body (syntax.components_of (c ∷ cs)))
+      (λ first second c cs p q. grammar.grammar_body (grammar.and_component p q refl) refl) (n ++ ts) a.0 b.0
+      (bare_component_behind inside sound content n may ts a.0 a.1) (components_sound inside sound content a.0.1 b.0 b.1))
+
+  annotated_body_behind : SoundBehind (annotated_body_with inside) IsBody
+  unfolding annotated_body_with
+  annotated_body_behind n may ts x e =
+      elim (chosen (is_grammar_body false ts) (grammar_read ts) (pattern_body_with inside ts) (Ok x) e) [
+        | inl h ↦ grammar_behind n may ts x h.1
+        | inr h ↦ pattern_body_behind n may ts x h.1
+      ]
+
+  body_step : (ts : List Lexeme) (x : Body × List Lexeme) (o : Option (List Lexeme)) → follow OpenBracket ts ≡ o
+      → either_way o (bare_body_with inside ts) (λ us. annotation_end 0 us >>= λ x. annotated_body_with inside x.1) ≡ Ok x → TakesFront IsBody ts x
+  body_step ts x None is e = bare_body_sound ts x e
+  body_step ts x (Some us) is e = opened_sound IsBody (annotated_body_with inside) annotated_body_behind ts us x is e
+
+  pub body_sound : Sound (body_with inside) IsBody
+  unfolding body_with
+  body_sound ts x e = body_step ts x (follow OpenBracket ts) refl e
 
   ended_is : (f g : File) (ts : List Lexeme) → if_ended f ts ≡ Ok g → (ts ≡ []) × (f ≡ g)
   ended_is f g [] e = (refl, cc)

@@ -1,18 +1,20 @@
 -- What is read is in the grammar: literals, parameters, and what mentions hand on.
-use Rattle.std.proofs.Common.{◌≡◌, ℕ, List, [], ◌∷◌, ◌++◌, Option, Some, None, Ok, refl, sym, ap, subst, ◌∙◌}
+use Rattle.std.proofs.Common.{◌≡◌, ℕ, List, [], ◌∷◌, ◌++◌, Option, Some, None, Ok, refl, sym, ap, subst, ◌∙◌, append_assoc}
 use Rattle.std.proofs.lemmas.List.{append-nil}
 use Rattle.rnc_text.specs.declared.token.Keyword.TheVariants as keywords
-use Rattle.rnc_text.specs.declared.token.Sign.TheVariants.{Equal, OpenBrace, CloseBrace, Tilde}
+use Rattle.rnc_text.specs.declared.token.Sign.TheVariants.{Equal, OpenBrace, CloseBrace, OpenBracket, Tilde}
 use Rattle.rnc_syntax.specs.Lexeme.{Lexeme, Spelling, keyword, identifier, segment, sign}
 use Rattle.rnc_syntax.specs.Syntax.{Mention}
 use Rattle.rnc_syntax.specs.Grammar as grammar
-use Rattle.rnc_syntax.specs.Grammar.{word_of, IsLiteral, AreParameters, MayBeParameters, MayInherit}
+use Rattle.rnc_syntax.specs.Grammar.{word_of, MayBeAnnotation, IsLiteral, AreParameters, MayBeParameters, MayInherit}
 use Rattle.rnc_syntax.specs.Combinators.{follow, follow_keyword, after, word_at, segment_at, either_way, many}
-use Rattle.rnc_syntax.specs.Productions.{literal_at, parameter_at, word_front, in_braces_at, parameters_at, word_after_equal, inherit_at, mention_at}
+use Rattle.rnc_syntax.specs.Productions.{literal_at, parameter_at, parameter_front, annotated_parameter_at, in_braces_at, parameters_at, word_after_equal}
+use Rattle.rnc_syntax.specs.Productions.{inherit_at, mention_at}
 use Rattle.rnc_syntax.specs.Syntax.{joined_text}
 use Rattle.rnc_syntax.proofs.Soundness.{bind_ok, ok_is, some_is, same_inherit, keyword_follows, after_is, TakesFront, Sound, IsWord, word_sound, IsSegment}
 use Rattle.rnc_syntax.proofs.Soundness.{segment_sound, Closed, Preceded, in_braces_sound, Each, no_items, and_item, many_sound, preceded_sound, both_sound}
 use Rattle.rnc_syntax.proofs.Soundness.{bracketed, IsSetting, setting_sound}
+use Rattle.rnc_syntax.proofs.SoundnessAnnotations.{annotated_sound, bare_sound}
 
 segments : (w x : List ℕ) (ts a b r : List Lexeme) → ts ≡ a ++ b → a ≡ sign Tilde ∷ r → r ≡ segment x ∷ []
     → segment w ∷ ts ≡ segment w ∷ sign Tilde ∷ (segment x ∷ b)
@@ -45,32 +47,49 @@ pub parameter_sound : Sound parameter_at (IsSetting IsLiteral)
 unfolding parameter_at
 parameter_sound ts x e = setting_sound IsLiteral literal_at literal_sound ts x e
 
-parameter_parts : (t : Lexeme) (ts a b v : List Lexeme) → ts ≡ a ++ b → a ≡ t ∷ sign Equal ∷ v → ts ≡ t ∷ sign Equal ∷ (v ++ b)
-parameter_parts t ts a b v e f = e ∙ ap (λ (a : List Lexeme). a ++ b) f
+-- a parameter with its annotation
+pub record IsParameter (ts : List Lexeme) (x : List ℕ × List ℕ) : Type 0 where
+  pub annotation : List Lexeme
+  pub may : MayBeAnnotation annotation
+  pub setting : List Lexeme
+  pub is : IsSetting IsLiteral setting x
+  pub parts : ts ≡ annotation ++ setting
 
-pub parameters_are : {ts : List Lexeme} {xs : List (List ℕ × List ℕ)} → Each (IsSetting IsLiteral) ts xs → AreParameters ts xs
+pub parameter_is : (n ts : List Lexeme) (x : List ℕ × List ℕ) → MayBeAnnotation n → IsSetting IsLiteral ts x → IsParameter (n ++ ts) x
+parameter_is n ts x may is = record { annotation = n; may = may; setting = ts; is = is; parts = refl }
+
+annotated_parameter_sound : Sound annotated_parameter_at IsParameter
+unfolding annotated_parameter_at
+annotated_parameter_sound = annotated_sound IsParameter parameter_at (bare_sound IsParameter parameter_at (IsSetting IsLiteral) parameter_sound parameter_is)
+
+parameter_parts : (t : Lexeme) (ts a b n r v : List Lexeme) → ts ≡ a ++ b → a ≡ n ++ r → r ≡ t ∷ sign Equal ∷ v → ts ≡ n ++ t ∷ sign Equal ∷ (v ++ b)
+parameter_parts t ts a b n r v e f g = e ∙ ap (λ (a : List Lexeme). a ++ b) f ∙ append_assoc n r b ∙ ap (λ (r : List Lexeme). n ++ (r ++ b)) g
+
+pub parameters_are : {ts : List Lexeme} {xs : List (List ℕ × List ℕ)} → Each IsParameter ts xs → AreParameters ts xs
 parameters_are (no_items e) = grammar.no_parameters e
-parameters_are {ts} (and_item {a = a} {b = b} {x = x} p q parts) = grammar.and_parameter p.word p.is (parameters_are q)
-    (parameter_parts p.token ts a b p.value parts p.parts)
+parameters_are {ts} (and_item {a = a} {b = b} {x = x} p q parts) = grammar.and_parameter p.is.token p.may p.is.word p.is.is (parameters_are q)
+    (parameter_parts p.is.token ts a b p.annotation p.setting p.is.value parts p.parts p.is.parts)
 
-pub word_front_is : (ts us : List Lexeme) → word_front ts ≡ Some us → ts ≡ us
-word_front_is [] us e = absurd cc
-word_front_is (identifier w ∷ ts) us e = some_is _ us e
-word_front_is (keyword k s ∷ ts) us e = some_is _ us e
-word_front_is (_ ∷ ts) us e = absurd cc
+pub parameter_front_is : (ts us : List Lexeme) → parameter_front ts ≡ Some us → ts ≡ us
+parameter_front_is [] us e = absurd cc
+parameter_front_is (identifier w ∷ ts) us e = some_is _ us e
+parameter_front_is (keyword k s ∷ ts) us e = some_is _ us e
+parameter_front_is (sign OpenBracket ∷ ts) us e = some_is _ us e
+parameter_front_is (_ ∷ ts) us e = absurd cc
 
-pub parameter_item : (ts us : List Lexeme) (x : (List ℕ × List ℕ) × List Lexeme) → word_front ts ≡ Some us → parameter_at us ≡ Ok x
-    → TakesFront (IsSetting IsLiteral) ts x
-parameter_item ts us x is e = parameter_sound ts x (ap parameter_at (word_front_is ts us is) ∙ e)
+pub parameter_item : (ts us : List Lexeme) (x : (List ℕ × List ℕ) × List Lexeme) → parameter_front ts ≡ Some us → annotated_parameter_at us ≡ Ok x
+    → TakesFront IsParameter ts x
+parameter_item ts us x is e = annotated_parameter_sound ts x (ap annotated_parameter_at (parameter_front_is ts us is) ∙ e)
 
 parameters_step : (ts : List Lexeme) (x : List (List ℕ × List ℕ) × List Lexeme) (o : Option (List Lexeme)) → follow OpenBrace ts ≡ o
-    → either_way o (Ok ([], ts)) (in_braces_at (many word_front parameter_at)) ≡ Ok x → TakesFront MayBeParameters ts x
+    → either_way o (Ok ([], ts)) (in_braces_at (many parameter_front annotated_parameter_at)) ≡ Ok x → TakesFront MayBeParameters ts x
 parameters_step ts x None is e = subst (TakesFront MayBeParameters ts) (ok_is ([], ts) x e)
     (record { front = []; is = grammar.without_parameters refl; parts = refl })
 parameters_step ts x (Some us) is e =
-    let Q = Each (IsSetting IsLiteral) in
-    let p = preceded_sound (Closed Q CloseBrace) OpenBrace (in_braces_at (many word_front parameter_at))
-    (in_braces_sound Q (many word_front parameter_at) (many_sound (IsSetting IsLiteral) word_front parameter_at parameter_item)) ts us x is e in
+    let Q = Each IsParameter in
+    let all = many parameter_front annotated_parameter_at in
+    let each = many_sound IsParameter parameter_front annotated_parameter_at parameter_item in
+    let p = preceded_sound (Closed Q CloseBrace) OpenBrace (in_braces_at all) (in_braces_sound Q all each) ts us x is e in
     let q = bracketed Q OpenBrace CloseBrace p.front x.0 p.is in
     record { front = p.front; is = grammar.with_parameters (parameters_are q.is) q.parts; parts = p.parts }
 

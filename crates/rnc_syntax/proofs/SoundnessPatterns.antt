@@ -13,18 +13,22 @@ use Rattle.rnc_syntax.specs.Syntax as syntax
 use Rattle.rnc_syntax.specs.Syntax.{NameClass, DatatypeName, Mention, Pattern, Component}
 use Rattle.rnc_syntax.specs.Grammar as grammar
 use Rattle.rnc_syntax.specs.Grammar.{Setting, content, override, type_of, method_of, connector_of, IsLiteral, MayBeParameters, IsClass, IsBasic, IsPattern}
-use Rattle.rnc_syntax.specs.Grammar.{AreMore, IsParticle, IsPrimary, IsBraced, AreComponents, IsComponent, MayOverride}
+use Rattle.rnc_syntax.specs.Grammar.{AreMore, IsParticle, IsPrimary, IsBarePrimary, IsBraced, AreComponents, IsComponent, IsBareComponent, MayOverride}
+use Rattle.rnc_syntax.specs.Grammar.{MayBeAnnotation}
 use Rattle.rnc_syntax.specs.Combinators.{Outcome, ◌>>=◌, follow, identifier_at, either_way, many}
-use Rattle.rnc_syntax.specs.Productions.{in_braces_at, literal_at, parameters_at, mention_at, basic_with, class_with, Inside, braced_with, contents_with}
-use Rattle.rnc_syntax.specs.Productions.{named_with, begins_segment, typed_at, type_front, other_at, atom_at, parens_with, opened_with, primary_with, repeated}
-use Rattle.rnc_syntax.specs.Productions.{particle_with, separator_of, joined, rest_with, pattern_from, data_front, data_with, pattern_with, method_at}
-use Rattle.rnc_syntax.specs.Productions.{overrides_with, begins_component, component_front, assigned_at, assigned, component_with, components_with, inside_at}
+use Rattle.rnc_syntax.specs.Productions.{in_braces_at, literal_at, parameters_at, mention_at, class_with, Inside, braced_with, contents_with}
+use Rattle.rnc_syntax.specs.Productions.{named_with, begins_segment, typed_at, type_front, other_at, atom_at, parens_with, opened_with, bare_primary_with}
+use Rattle.rnc_syntax.specs.Productions.{repeated, primary_with, particle_with, separator_of, joined, rest_with, pattern_from, data_front, data_with}
+use Rattle.rnc_syntax.specs.Productions.{bare_pattern_with, pattern_with, method_at}
+use Rattle.rnc_syntax.specs.Productions.{overrides_with, begins_component, component_front, assigned_at, assigned, bare_component_with, component_with}
+use Rattle.rnc_syntax.specs.Productions.{components_with, inside_at}
 use Rattle.rnc_syntax.proofs.Items.{bind_bind}
 use Rattle.rnc_syntax.proofs.Soundness.{bind_ok, chosen, front_some, ok_is, some_is, follow_is, identifier_is, TakesFront, Sound, Closed, Preceded}
 use Rattle.rnc_syntax.proofs.Soundness.{closes_sound, in_braces_sound, Each, no_items, and_item, many_sound, some_is_read, preceded_sound, nothing_left, Behind}
 use Rattle.rnc_syntax.proofs.Soundness.{behind, mapped_sound, both_sound, open_sound, Bracketed, bracketed}
+use Rattle.rnc_syntax.proofs.SoundnessAnnotations.{SoundBehind, annotated_sound, bare_sound, taken_behind}
 use Rattle.rnc_syntax.proofs.SoundnessLiterals.{literal_sound, parameters_sound, IsMention, mention_sound}
-use Rattle.rnc_syntax.proofs.SoundnessClasses.{basic_sound, class_sound}
+use Rattle.rnc_syntax.proofs.SoundnessClasses.{class_sound}
 
 -- what is read inside brackets is in the grammar
 pub record InsideSound (inside : Inside) : Type 0 where
@@ -73,14 +77,14 @@ data_front_is ts d e =
     type_front_is ts d (f.1 ∙ ap (λ (d : DatatypeName × List Lexeme). Some d) (no_segment_front f.0 d f.2))
 
 typed_sound : (d : DatatypeName) (t : Lexeme) (ts : List Lexeme) (x : Pattern × List Lexeme) → type_of t ≡ Some d → typed_at d ts ≡ Ok x
-    → TakesFront IsPrimary (t ∷ ts) x
+    → TakesFront IsBarePrimary (t ∷ ts) x
 unfolding typed_at
 typed_sound d t ts x is e =
     elim (chosen (begins_segment ts) (literal_at ts >>= λ v. Ok (syntax.value d v.0, v.1)) (parameters_at ts >>= λ ps. Ok (syntax.data_of d ps.0, ps.1)) (Ok x)
     e) [
-      | inl h ↦ behind IsPrimary t ts x (mapped_sound IsLiteral (Behind t IsPrimary) (syntax.value d) literal_at literal_sound
+      | inl h ↦ behind IsBarePrimary t ts x (mapped_sound IsLiteral (Behind t IsBarePrimary) (syntax.value d) literal_at literal_sound
           (λ ts v p. grammar.value is p refl) ts x h.1)
-      | inr h ↦ behind IsPrimary t ts x (mapped_sound MayBeParameters (Behind t IsPrimary) (syntax.data_of d) parameters_at parameters_sound
+      | inr h ↦ behind IsBarePrimary t ts x (mapped_sound MayBeParameters (Behind t IsBarePrimary) (syntax.data_of d) parameters_at parameters_sound
           (λ ts ps p. grammar.data_of is p refl) ts x h.1)
     ]
 
@@ -143,10 +147,6 @@ component_front_is w ts us e =
       | inr h ↦ absurd (let q = h.1 in cc)
     ]
 
-pub include_stands : (w : Setting) (s : Spelling) (ts us : List Lexeme) → component_front w (keyword keywords.Include s ∷ ts) ≡ Some us → w ≡ content
-include_stands content s ts us e = refl
-include_stands override s ts us e = absurd cc
-
 -- a method and a pattern, behind what is assigned to
 abbrev pub assignment_with : Inside → Option (List ℕ) → List Lexeme → Outcome Component
 assignment_with inside o ts = ◌>>=◌ {A = (Option (List ℕ) × Method) × List Lexeme} (method_at ts >>= λ m. Ok ((o, m.0), m.1)) (λ x. pattern_with inside x.1
@@ -159,23 +159,29 @@ assignment_is inside o ts = sym (bind_bind {B = (Option (List ℕ) × Method) ×
     >>= λ t. Ok (assigned x.0.0 x.0.1 t.0, t.1)))
 
 -- a mention, and the components that override what it mentions
-pub include_is : (w : Setting) (s : Spelling) → w ≡ content → (first second : List Lexeme) (m : Mention) (cs : List Component) → IsMention s.place first m
-    → MayOverride second cs
-    → IsComponent w (keyword keywords.Include s ∷ (first ++ second)) (syntax.include m (syntax.components_of cs))
-include_is w s stands first second m cs p q =
-    grammar.include stands p.literal p.inherits q (ap (λ (r : List Lexeme). keyword keywords.Include s ∷ r) (ap (λ (r : List Lexeme). r ++ second) p.parts
+pub include_is : (s : Spelling) (first second : List Lexeme) (m : Mention) (cs : List Component) → IsMention s.place first m → MayOverride second cs
+    → IsBareComponent content (keyword keywords.Include s ∷ (first ++ second)) (syntax.include m (syntax.components_of cs))
+include_is s first second m cs p q =
+    grammar.include refl p.literal p.inherits q (ap (λ (r : List Lexeme). keyword keywords.Include s ∷ r) (ap (λ (r : List Lexeme). r ++ second) p.parts
     ∙ append_assoc p.first p.second second))
     (ap (λ (m : Mention). syntax.include m (syntax.components_of cs)) p.standing)
 
 -- a method and a pattern, behind `start`
 pub start_is : (w : Setting) (s : Spelling) (first second : List Lexeme) (m : Method) (t : Pattern) → IsMethod first m → IsPattern second t
-    → IsComponent w (keyword keywords.Start s ∷ (first ++ second)) (syntax.start m t)
+    → IsBareComponent w (keyword keywords.Start s ∷ (first ++ second)) (syntax.start m t)
 start_is w s first second m t p q = grammar.start p.method q (ap (λ (r : List Lexeme). keyword keywords.Start s ∷ (r ++ second)) p.parts)
 
 -- a method and a pattern, behind a name
 pub define_is : (w : Setting) (n : List ℕ) (first second : List Lexeme) (m : Method) (t : Pattern) → IsMethod first m → IsPattern second t
-    → IsComponent w (identifier n ∷ (first ++ second)) (syntax.define n m t)
+    → IsBareComponent w (identifier n ∷ (first ++ second)) (syntax.define n m t)
 define_is w n first second m t p q = grammar.define p.method q (ap (λ (r : List Lexeme). identifier n ∷ (r ++ second)) p.parts)
+
+-- what stands behind an annotation makes the whole with it
+pub primary_is : (n ts : List Lexeme) (t : Pattern) → MayBeAnnotation n → IsBarePrimary ts t → IsPrimary (n ++ ts) t
+primary_is n ts t may is = grammar.annotated_primary may is refl
+
+pub component_is : (w : Setting) (n ts : List Lexeme) (c : Component) → MayBeAnnotation n → IsBareComponent w ts c → IsComponent w (n ++ ts) c
+component_is w n ts c may is = grammar.annotated_component may is refl
 
 module _ (inside : Inside) (sound : InsideSound inside) where
   braced_sound : Sound (braced_with inside) IsBraced
@@ -195,66 +201,73 @@ module _ (inside : Inside) (sound : InsideSound inside) where
 
   -- a name class and a pattern in braces, behind a token
   named_sound : (make : NameClass → Pattern → Pattern) (t : Lexeme) → ((first second : List Lexeme) (c : NameClass) (u : Pattern) → IsClass first c
-      → IsBraced second u → IsPrimary (t ∷ (first ++ second)) (make c u))
-      → (ts : List Lexeme) (x : Pattern × List Lexeme) → named_with inside make ts ≡ Ok x → TakesFront IsPrimary (t ∷ ts) x
+      → IsBraced second u → IsBarePrimary (t ∷ (first ++ second)) (make c u))
+      → (ts : List Lexeme) (x : Pattern × List Lexeme) → named_with inside make ts ≡ Ok x → TakesFront IsBarePrimary (t ∷ ts) x
   unfolding named_with
   named_sound make t makes ts x e =
-      behind IsPrimary t ts x
-      (both_sound IsClass IsBraced (Behind t IsPrimary) make (class_with (basic_with inside.class)) (braced_with inside)
-      (class_sound (basic_with inside.class) (basic_sound inside.class sound.class)) braced_sound makes ts x e)
+      behind IsBarePrimary t ts x
+      (both_sound IsClass IsBraced (Behind t IsBarePrimary) make (class_with inside.class) (braced_with inside) (class_sound inside.class sound.class)
+      braced_sound makes ts x e)
 
-  pub primary_sound : Sound (primary_with inside) IsPrimary
-  unfolding primary_with atom_at other_at opened_with parens_with
-  primary_sound (keyword keywords.Element s ∷ ts) x e = named_sound syntax.element (keyword keywords.Element s)
+  bare_primary_sound : Sound (bare_primary_with inside) IsBarePrimary
+  unfolding bare_primary_with atom_at other_at opened_with parens_with
+  bare_primary_sound (keyword keywords.Element s ∷ ts) x e = named_sound syntax.element (keyword keywords.Element s)
       (λ first second c u p q. grammar.element p q refl) ts x e
-  primary_sound (keyword keywords.Attribute s ∷ ts) x e = named_sound syntax.attribute (keyword keywords.Attribute s)
+  bare_primary_sound (keyword keywords.Attribute s ∷ ts) x e = named_sound syntax.attribute (keyword keywords.Attribute s)
       (λ first second c u p q. grammar.attribute p q refl) ts x e
-  primary_sound (keyword keywords.List s ∷ ts) x e =
-      behind IsPrimary (keyword keywords.List s) ts x (mapped_sound IsBraced (Behind (keyword keywords.List s) IsPrimary) syntax.list (braced_with inside)
-      braced_sound (λ ts a p. grammar.list p refl) ts x e)
-  primary_sound (keyword keywords.Mixed s ∷ ts) x e =
-      behind IsPrimary (keyword keywords.Mixed s) ts x (mapped_sound IsBraced (Behind (keyword keywords.Mixed s) IsPrimary) syntax.mixed (braced_with inside)
-      braced_sound (λ ts a p. grammar.mixed p refl) ts x e)
-  primary_sound (keyword keywords.Parent s ∷ ts) x e =
+  bare_primary_sound (keyword keywords.List s ∷ ts) x e =
+      behind IsBarePrimary (keyword keywords.List s) ts x (mapped_sound IsBraced (Behind (keyword keywords.List s) IsBarePrimary) syntax.list
+      (braced_with inside) braced_sound (λ ts a p. grammar.list p refl) ts x e)
+  bare_primary_sound (keyword keywords.Mixed s ∷ ts) x e =
+      behind IsBarePrimary (keyword keywords.Mixed s) ts x (mapped_sound IsBraced (Behind (keyword keywords.Mixed s) IsBarePrimary) syntax.mixed
+      (braced_with inside) braced_sound (λ ts a p. grammar.mixed p refl) ts x e)
+  bare_primary_sound (keyword keywords.Parent s ∷ ts) x e =
       let a = bind_ok (identifier_at ts) _ x e in
-      subst (TakesFront IsPrimary (keyword keywords.Parent s ∷ ts)) (ok_is (syntax.parent_ref a.0.0, a.0.1) x a.2)
+      subst (TakesFront IsBarePrimary (keyword keywords.Parent s ∷ ts)) (ok_is (syntax.parent_ref a.0.0, a.0.1) x a.2)
       (record {
         front = keyword keywords.Parent s ∷ identifier a.0.0 ∷ [];
         is = grammar.parent_ref refl;
         parts = ap (λ (ts : List Lexeme). keyword keywords.Parent s ∷ ts) (identifier_is ts a.0 a.1);
       })
-  primary_sound (keyword keywords.Empty s ∷ ts) x e = subst (TakesFront IsPrimary (keyword keywords.Empty s ∷ ts)) (ok_is (syntax.empty, ts) x e)
+  bare_primary_sound (keyword keywords.Empty s ∷ ts) x e = subst (TakesFront IsBarePrimary (keyword keywords.Empty s ∷ ts)) (ok_is (syntax.empty, ts) x e)
       (record { front = keyword keywords.Empty s ∷ []; is = grammar.empty refl; parts = refl })
-  primary_sound (keyword keywords.Text s ∷ ts) x e = subst (TakesFront IsPrimary (keyword keywords.Text s ∷ ts)) (ok_is (syntax.text, ts) x e)
+  bare_primary_sound (keyword keywords.Text s ∷ ts) x e = subst (TakesFront IsBarePrimary (keyword keywords.Text s ∷ ts)) (ok_is (syntax.text, ts) x e)
       (record { front = keyword keywords.Text s ∷ []; is = grammar.text refl; parts = refl })
-  primary_sound (keyword keywords.NotAllowed s ∷ ts) x e =
-      subst (TakesFront IsPrimary (keyword keywords.NotAllowed s ∷ ts)) (ok_is (syntax.not_allowed, ts) x e)
+  bare_primary_sound (keyword keywords.NotAllowed s ∷ ts) x e =
+      subst (TakesFront IsBarePrimary (keyword keywords.NotAllowed s ∷ ts)) (ok_is (syntax.not_allowed, ts) x e)
       (record { front = keyword keywords.NotAllowed s ∷ []; is = grammar.not_allowed refl; parts = refl })
-  primary_sound (keyword keywords.String s ∷ ts) x e = typed_sound syntax.string_type (keyword keywords.String s) ts x refl e
-  primary_sound (keyword keywords.Token s ∷ ts) x e = typed_sound syntax.token_type (keyword keywords.Token s) ts x refl e
-  primary_sound (keyword keywords.External s ∷ ts) x e =
-      behind IsPrimary (keyword keywords.External s) ts x (mapped_sound (IsMention s.place) (Behind (keyword keywords.External s) IsPrimary) syntax.external
-      (mention_at s.place) (mention_sound s.place)
+  bare_primary_sound (keyword keywords.String s ∷ ts) x e = typed_sound syntax.string_type (keyword keywords.String s) ts x refl e
+  bare_primary_sound (keyword keywords.Token s ∷ ts) x e = typed_sound syntax.token_type (keyword keywords.Token s) ts x refl e
+  bare_primary_sound (keyword keywords.External s ∷ ts) x e =
+      behind IsBarePrimary (keyword keywords.External s) ts x (mapped_sound (IsMention s.place) (Behind (keyword keywords.External s) IsBarePrimary)
+      syntax.external (mention_at s.place) (mention_sound s.place)
       (λ ts a p. grammar.external p.literal p.inherits (ap (λ (ts : List Lexeme). keyword keywords.External s ∷ ts) p.parts) (ap syntax.external p.standing)) ts
       x e)
-  primary_sound (keyword keywords.Grammar s ∷ ts) x e =
-      behind IsPrimary (keyword keywords.Grammar s) ts x (mapped_sound (Bracketed (AreComponents content) OpenBrace CloseBrace)
-      (Behind (keyword keywords.Grammar s) IsPrimary) (λ (cs : List Component). syntax.grammar (syntax.components_of cs)) (contents_with inside content)
+  bare_primary_sound (keyword keywords.Grammar s ∷ ts) x e =
+      behind IsBarePrimary (keyword keywords.Grammar s) ts x (mapped_sound (Bracketed (AreComponents content) OpenBrace CloseBrace)
+      (Behind (keyword keywords.Grammar s) IsBarePrimary) (λ (cs : List Component). syntax.grammar (syntax.components_of cs)) (contents_with inside content)
       (contents_sound content)
       (λ ts a p. grammar.grammar p.is (ap (λ (ts : List Lexeme). keyword keywords.Grammar s ∷ ts) p.parts) refl) ts x e)
-  primary_sound (identifier n ∷ ts) x e = subst (TakesFront IsPrimary (identifier n ∷ ts)) (ok_is (syntax.ref n, ts) x e)
+  bare_primary_sound (identifier n ∷ ts) x e = subst (TakesFront IsBarePrimary (identifier n ∷ ts)) (ok_is (syntax.ref n, ts) x e)
       (record { front = identifier n ∷ []; is = grammar.ref refl; parts = refl })
-  primary_sound (cname p l ∷ ts) x e = typed_sound (syntax.prefixed_type p l) (cname p l) ts x refl e
-  primary_sound (segment w ∷ ts) x e = mapped_sound IsLiteral IsPrimary (syntax.value syntax.token_type) literal_at literal_sound
+  bare_primary_sound (cname p l ∷ ts) x e = typed_sound (syntax.prefixed_type p l) (cname p l) ts x refl e
+  bare_primary_sound (segment w ∷ ts) x e = mapped_sound IsLiteral IsBarePrimary (syntax.value syntax.token_type) literal_at literal_sound
       (λ ts v p. grammar.untyped_value p) (segment w ∷ ts) x e
-  primary_sound (sign OpenParenthesis ∷ ts) x e =
+  bare_primary_sound (sign OpenParenthesis ∷ ts) x e =
       let p = closes_sound IsPattern CloseParenthesis inside.pattern sound.pattern ts x e in
       record {
         front = sign OpenParenthesis ∷ p.front;
         is = grammar.in_parens p.is.is (ap (λ (r : List Lexeme). sign OpenParenthesis ∷ r) p.is.parts);
         parts = ap (λ (r : List Lexeme). sign OpenParenthesis ∷ r) p.parts;
       }
-  primary_sound _ x e = absurd cc
+  bare_primary_sound _ x e = absurd cc
+
+  pub bare_primary_behind : SoundBehind (bare_primary_with inside) IsPrimary
+  bare_primary_behind = bare_sound IsPrimary (bare_primary_with inside) IsBarePrimary bare_primary_sound primary_is
+
+  pub primary_sound : Sound (primary_with inside) IsPrimary
+  unfolding primary_with
+  primary_sound = annotated_sound IsPrimary (bare_primary_with inside) bare_primary_behind
 
   pub particle_sound : Sound (particle_with inside) IsParticle
   unfolding particle_with
@@ -279,54 +292,72 @@ module _ (inside : Inside) (sound : InsideSound inside) where
       → TakesFront IsPattern ts x
   pattern_from_sound ts t x p e = rest_sound ts (repeated t.0 t.1) x (separator_of (repeated t.0 t.1).1) (repeated_reads ts t.1 p.front t.0 p.is p.parts) refl e
 
-  data_reads : (t : Lexeme) (d : DatatypeName) (ts us vs front : List Lexeme) (ps : List (List ℕ × List ℕ)) (x : Pattern × List Lexeme) → type_of t ≡ Some d
-      → MayBeParameters front ps → ts ≡ front ++ us → us ≡ sign Minus ∷ vs → TakesFront IsPrimary vs x
-      → TakesFront IsPattern (t ∷ ts) (syntax.data_except d ps x.0, x.1)
-  data_reads t d ts us vs front ps x is params parts minus p = record {
-    front = t ∷ (front ++ sign Minus ∷ p.front);
-    is = grammar.data_except is params p.is refl;
-    parts = ap (λ (r : List Lexeme). t ∷ r) (parts ∙ ap (λ (r : List Lexeme). front ++ r) (minus ∙ ap (λ (r : List Lexeme). sign Minus ∷ r) p.parts)
-        ∙ sym (append_assoc front (sign Minus ∷ p.front) x.1));
-  }
+  -- behind an annotation
+  data_reads : (n : List Lexeme) (t : Lexeme) (d : DatatypeName) (ts us vs front : List Lexeme) (ps : List (List ℕ × List ℕ)) (x : Pattern × List Lexeme)
+      → MayBeAnnotation n → type_of t ≡ Some d → MayBeParameters front ps → ts ≡ front ++ us → us ≡ sign Minus ∷ vs → TakesFront IsPrimary vs x
+      → TakesFront IsPattern (n ++ t ∷ ts) (syntax.data_except d ps x.0, x.1)
+  data_reads n t d ts us vs front ps x may is params parts minus p =
+      taken_behind IsPattern (primary_with inside) n (t ∷ ts) (syntax.data_except d ps x.0, x.1)
+      (record {
+        front = t ∷ (front ++ sign Minus ∷ p.front);
+        is = grammar.data_except t may is params p.is refl;
+        parts = ap (λ (r : List Lexeme). t ∷ r) (parts ∙ ap (λ (r : List Lexeme). front ++ r) (minus ∙ ap (λ (r : List Lexeme). sign Minus ∷ r) p.parts)
+            ∙ sym (append_assoc front (sign Minus ∷ p.front) x.1));
+      })
 
-  data_step : (t : Lexeme) (d : DatatypeName) (ts : List Lexeme) (ps : List (List ℕ × List ℕ) × List Lexeme) (x : Pattern × List Lexeme)
-      (o : Option (List Lexeme)) → type_of t ≡ Some d → TakesFront MayBeParameters ts ps → follow Minus ps.1 ≡ o
+  pub data_primary : (n : List Lexeme) (t : Lexeme) (d : DatatypeName) (ts : List Lexeme) (ps : List (List ℕ × List ℕ) × List Lexeme) → MayBeAnnotation n
+      → type_of t ≡ Some d → TakesFront MayBeParameters ts ps → TakesFront IsPrimary (n ++ t ∷ ts) (syntax.data_of d ps.0, ps.1)
+  data_primary n t d ts ps may is p =
+      taken_behind IsPrimary (primary_with inside) n (t ∷ ts) (syntax.data_of d ps.0, ps.1)
+      (record {
+        front = t ∷ p.front;
+        is = grammar.annotated_primary may (grammar.data_of is p.is refl) refl;
+        parts = ap (λ (r : List Lexeme). t ∷ r) p.parts;
+      })
+
+  data_step : (n : List Lexeme) (t : Lexeme) (d : DatatypeName) (ts : List Lexeme) (ps : List (List ℕ × List ℕ) × List Lexeme) (x : Pattern × List Lexeme)
+      (o : Option (List Lexeme)) → MayBeAnnotation n → type_of t ≡ Some d → TakesFront MayBeParameters ts ps → follow Minus ps.1 ≡ o
       → either_way o (pattern_from inside (syntax.data_of d ps.0) ps.1) (λ us. primary_with inside us >>= λ t. Ok (syntax.data_except d ps.0 t.0, t.1)) ≡ Ok x
-      → TakesFront IsPattern (t ∷ ts) x
-  data_step t d ts ps x None is p f e = pattern_from_sound (t ∷ ts) (syntax.data_of d ps.0, ps.1) x
-      (record { front = t ∷ p.front; is = grammar.data_of is p.is refl; parts = ap (λ (r : List Lexeme). t ∷ r) p.parts }) e
-  data_step t d ts ps x (Some us) is p f e =
+      → TakesFront IsPattern (n ++ t ∷ ts) x
+  data_step n t d ts ps x None may is p f e = pattern_from_sound (n ++ t ∷ ts) (syntax.data_of d ps.0, ps.1) x (data_primary n t d ts ps may is p) e
+  data_step n t d ts ps x (Some us) may is p f e =
       let a = bind_ok (primary_with inside us) _ x e in
-      subst (TakesFront IsPattern (t ∷ ts)) (ok_is (syntax.data_except d ps.0 a.0.0, a.0.1) x a.2)
-      (data_reads t d ts ps.1 us p.front ps.0 a.0 is p.is p.parts (follow_is Minus ps.1 us f) (primary_sound us a.0 a.1))
+      subst (TakesFront IsPattern (n ++ t ∷ ts)) (ok_is (syntax.data_except d ps.0 a.0.0, a.0.1) x a.2)
+      (data_reads n t d ts ps.1 us p.front ps.0 a.0 may is p.is p.parts (follow_is Minus ps.1 us f) (primary_sound us a.0 a.1))
 
-  data_sound : (t : Lexeme) (d : DatatypeName) (ts : List Lexeme) (ps : List (List ℕ × List ℕ) × List Lexeme) (x : Pattern × List Lexeme) → type_of t ≡ Some d
-      → TakesFront MayBeParameters ts ps → data_with inside d ps.0 ps.1 ≡ Ok x → TakesFront IsPattern (t ∷ ts) x
+  data_sound : (n : List Lexeme) (t : Lexeme) (d : DatatypeName) (ts : List Lexeme) (ps : List (List ℕ × List ℕ) × List Lexeme) (x : Pattern × List Lexeme)
+      → MayBeAnnotation n → type_of t ≡ Some d → TakesFront MayBeParameters ts ps → data_with inside d ps.0 ps.1 ≡ Ok x
+      → TakesFront IsPattern (n ++ t ∷ ts) x
   unfolding data_with
-  data_sound t d ts ps x is p e = data_step t d ts ps x (follow Minus ps.1) is p refl e
+  data_sound n t d ts ps x may is p e = data_step n t d ts ps x (follow Minus ps.1) may is p refl e
 
-  pattern_step : (ts : List Lexeme) (x : Pattern × List Lexeme) (o : Option (DatatypeName × List Lexeme)) → data_front ts ≡ o
-      → either_way o (primary_with inside ts >>= λ t. pattern_from inside t.0 t.1) (λ d. parameters_at d.1 >>= λ ps. data_with inside d.0 ps.0 ps.1) ≡ Ok x
-      → TakesFront IsPattern ts x
-  pattern_step ts x None is e =
-      let a = bind_ok (primary_with inside ts) _ x e in
-      pattern_from_sound ts a.0 x (primary_sound ts a.0 a.1) a.2
-  pattern_step ts x (Some d) is e =
+  pattern_step : (n ts : List Lexeme) (x : Pattern × List Lexeme) (o : Option (DatatypeName × List Lexeme)) → MayBeAnnotation n → data_front ts ≡ o
+      → either_way o (bare_primary_with inside ts >>= λ t. pattern_from inside t.0 t.1) (λ d. parameters_at d.1 >>= λ ps. data_with inside d.0 ps.0 ps.1) ≡ Ok x
+      → TakesFront IsPattern (n ++ ts) x
+  pattern_step n ts x None may is e =
+      let a = bind_ok (bare_primary_with inside ts) _ x e in
+      pattern_from_sound (n ++ ts) a.0 x (bare_primary_behind n may ts a.0 a.1) a.2
+  pattern_step n ts x (Some d) may is e =
       let f = data_front_is ts d is in
       let a = bind_ok (parameters_at d.1) _ x e in
-      subst (λ (ts : List Lexeme). TakesFront IsPattern ts x) (sym f.2) (data_sound f.0 d.0 d.1 a.0 x f.1 (parameters_sound d.1 a.0 a.1) a.2)
+      subst (λ (ts : List Lexeme). TakesFront IsPattern (n ++ ts) x) (sym f.2)
+      (data_sound n f.0 d.0 d.1 a.0 x may f.1 (parameters_sound d.1 a.0 a.1) a.2)
+
+  pub bare_pattern_behind : SoundBehind (bare_pattern_with inside) IsPattern
+  unfolding bare_pattern_with
+  bare_pattern_behind n may ts x e = pattern_step n ts x (data_front ts) may refl e
 
   pub pattern_sound : Sound (pattern_with inside) IsPattern
   unfolding pattern_with
-  pattern_sound ts x e = pattern_step ts x (data_front ts) refl e
+  pattern_sound = annotated_sound IsPattern (bare_pattern_with inside) bare_pattern_behind
 
   -- a method and a pattern, behind what is assigned to
   assigned_sound : (w : Setting) (o : Option (List ℕ)) (t : Lexeme) → ((first second : List Lexeme) (m : Method) (u : Pattern) → IsMethod first m
-      → IsPattern second u → IsComponent w (t ∷ (first ++ second)) (assigned o m u))
-      → (ts : List Lexeme) (x : Component × List Lexeme) → assignment_with inside o ts ≡ Ok x → TakesFront (IsComponent w) (t ∷ ts) x
+      → IsPattern second u → IsBareComponent w (t ∷ (first ++ second)) (assigned o m u))
+      → (ts : List Lexeme) (x : Component × List Lexeme) → assignment_with inside o ts ≡ Ok x → TakesFront (IsBareComponent w) (t ∷ ts) x
   assigned_sound w o t makes ts x e =
-      behind (IsComponent w) t ts x
-      (both_sound IsMethod IsPattern (Behind t (IsComponent w)) (assigned o) method_at (pattern_with inside) method_sound pattern_sound makes ts x
+      behind (IsBareComponent w) t ts x
+      (both_sound IsMethod IsPattern (Behind t (IsBareComponent w)) (assigned o) method_at (pattern_with inside) method_sound pattern_sound makes ts x
       (assignment_is inside o ts ∙ e))
 
   overrides_step : (ts : List Lexeme) (x : List Component × List Lexeme) (o : Option (List Lexeme))
@@ -340,26 +371,32 @@ module _ (inside : Inside) (sound : InsideSound inside) where
   unfolding overrides_with
   overrides_sound ts x e = overrides_step ts x (follow OpenBrace ts) e
 
-  component_reads : (w : Setting) (ts us : List Lexeme) (x : Component × List Lexeme) → component_front w ts ≡ Some us → component_with inside w ts ≡ Ok x
-      → TakesFront (IsComponent w) ts x
-  unfolding component_with assigned_at
-  component_reads w (identifier n ∷ ts) us x is e = assigned_sound w (Some n) (identifier n) (define_is w n) ts x e
-  component_reads w (keyword keywords.Start s ∷ ts) us x is e = assigned_sound w None (keyword keywords.Start s) (start_is w s) ts x e
-  component_reads w (keyword keywords.Div s ∷ ts) us x is e =
-      behind (IsComponent w) (keyword keywords.Div s) ts x
-      (mapped_sound (Bracketed (AreComponents w) OpenBrace CloseBrace) (Behind (keyword keywords.Div s) (IsComponent w))
+  pub bare_component_sound : (w : Setting) → Sound (bare_component_with inside w) (IsBareComponent w)
+  unfolding bare_component_with assigned_at
+  bare_component_sound w (identifier n ∷ ts) x e = assigned_sound w (Some n) (identifier n) (define_is w n) ts x e
+  bare_component_sound w (keyword keywords.Start s ∷ ts) x e = assigned_sound w None (keyword keywords.Start s) (start_is w s) ts x e
+  bare_component_sound w (keyword keywords.Div s ∷ ts) x e =
+      behind (IsBareComponent w) (keyword keywords.Div s) ts x
+      (mapped_sound (Bracketed (AreComponents w) OpenBrace CloseBrace) (Behind (keyword keywords.Div s) (IsBareComponent w))
       (λ (cs : List Component). syntax.div (syntax.components_of cs)) (contents_with inside w) (contents_sound w)
       (λ ts a p. grammar.div p.is (ap (λ (r : List Lexeme). keyword keywords.Div s ∷ r) p.parts) refl) ts x e)
-  component_reads w (keyword keywords.Include s ∷ ts) us x is e =
-      behind (IsComponent w) (keyword keywords.Include s) ts x
-      (both_sound (IsMention s.place) MayOverride (Behind (keyword keywords.Include s) (IsComponent w)) (λ m cs. syntax.include m (syntax.components_of cs))
-      (mention_at s.place) (overrides_with inside) (mention_sound s.place) overrides_sound
-      (include_is w s (include_stands w s ts us is)) ts x e)
-  component_reads w _ us x is e = absurd cc
+  bare_component_sound content (keyword keywords.Include s ∷ ts) x e =
+      behind (IsBareComponent content) (keyword keywords.Include s) ts x
+      (both_sound (IsMention s.place) MayOverride (Behind (keyword keywords.Include s) (IsBareComponent content))
+      (λ m cs. syntax.include m (syntax.components_of cs)) (mention_at s.place) (overrides_with inside) (mention_sound s.place) overrides_sound (include_is s)
+      ts x e)
+  bare_component_sound w _ x e = absurd cc
+
+  pub bare_component_behind : (w : Setting) → SoundBehind (bare_component_with inside w) (IsComponent w)
+  bare_component_behind w = bare_sound (IsComponent w) (bare_component_with inside w) (IsBareComponent w) (bare_component_sound w) (component_is w)
+
+  component_sound : (w : Setting) → Sound (component_with inside w) (IsComponent w)
+  unfolding component_with
+  component_sound w = annotated_sound (IsComponent w) (bare_component_with inside w) (bare_component_behind w)
 
   pub component_item : (w : Setting) (ts us : List Lexeme) (x : Component × List Lexeme) → component_front w ts ≡ Some us → component_with inside w us ≡ Ok x
       → TakesFront (IsComponent w) ts x
-  component_item w ts us x is e = component_reads w ts us x is (ap (component_with inside w) (component_front_is w ts us is) ∙ e)
+  component_item w ts us x is e = component_sound w ts x (ap (component_with inside w) (component_front_is w ts us is) ∙ e)
 
   pub components_sound : (w : Setting) → Sound (components_with inside w) (AreComponents w)
   unfolding components_with
@@ -373,7 +410,7 @@ inside_sound zero = record { class = λ ts x e. absurd cc; pattern = λ ts x e. 
 inside_sound (suc n) =
     let s = inside_sound n in
     record {
-      class = class_sound (basic_with (inside_at n).class) (basic_sound (inside_at n).class s.class);
+      class = class_sound (inside_at n).class s.class;
       pattern = pattern_sound (inside_at n) s;
       components = components_sound (inside_at n) s;
     }

@@ -1,27 +1,30 @@
 -- What was taken where the reading stops can be completed: declarations and files.
-use Rattle.std.proofs.Common.{◌≡◌, ℕ, ◌-◌, List, [], ◌∷◌, ◌++◌, length, take, Some, None, Ok, Err, refl, sym, ap, ◌∙◌, append_assoc, inl, inr, arith}
+use Rattle.std.proofs.Common.{◌≡◌, ℕ, ◌-◌, true, false, List, [], ◌∷◌, ◌++◌, length, take, Option, Some, None, Ok, Err, refl, sym, ap, ◌∙◌, append_assoc}
+use Rattle.std.proofs.Common.{inl, inr, arith}
 use Rattle.std.proofs.lemmas.List.{append-nil, length-append}
 use Rattle.rnc_text.specs.declared.token.Keyword.TheVariants as keywords
-use Rattle.rnc_text.specs.declared.token.Sign.TheVariants.{Equal}
+use Rattle.rnc_text.specs.declared.token.Sign.TheVariants.{Equal, OpenBracket}
 use Rattle.rnc_syntax.specs.declared.fault.Stop.TheVariants.{Unexpected}
 use Rattle.rnc_syntax.specs.Lexeme.{Lexeme, Spelling, keyword, sign}
 use Rattle.rnc_syntax.specs.Syntax as syntax
 use Rattle.rnc_syntax.specs.Syntax.{Component, Uri, Declaration, Body, File}
 use Rattle.rnc_syntax.specs.Grammar as grammar
-use Rattle.rnc_syntax.specs.Grammar.{content, IsLiteral, IsPattern, AreComponents, IsUri, IsDeclaration, IsBody, IsFile}
+use Rattle.rnc_syntax.specs.Grammar.{content, IsLiteral, IsPattern, AreComponents, IsComponent, IsUri, IsDeclaration, IsBody, IsFile}
 use Rattle.rnc_syntax.specs.Sentence.{IsSentence}
-use Rattle.rnc_syntax.specs.Combinators.{Outcome, ◌>>=◌, follow_keyword, after_keyword, many}
-use Rattle.rnc_syntax.specs.Productions.{literal_at, parameter_at, Inside, pattern_with, components_with, inside_at, uri_at, prefix_at, default_at}
-use Rattle.rnc_syntax.specs.Productions.{declaration_at, declaration_front, is_grammar_body, body_with, if_ended, declarations_at, file_with}
+use Rattle.rnc_syntax.specs.Combinators.{Outcome, ◌>>=◌, follow, follow_keyword, after_keyword, either_way, many}
+use Rattle.rnc_syntax.specs.Productions.{annotation_end, literal_at, parameter_at, Inside, bare_pattern_with, bare_component_with, components_with, inside_at}
+use Rattle.rnc_syntax.specs.Productions.{uri_at, prefix_at, default_at, declaration_at, declaration_front, is_grammar_body, pattern_body_with}
+use Rattle.rnc_syntax.specs.Productions.{bare_body_with, annotated_body_with, body_with, if_ended, declarations_at, file_with}
 use Rattle.rnc_syntax.proofs.Soundness.{chosen, same_namespace, after_keyword_is, TakesFront, Each, many_sound, Behind, IsSetting}
-use Rattle.rnc_syntax.proofs.SoundnessPatterns.{InsideSound, inside_sound}
+use Rattle.rnc_syntax.proofs.SoundnessPatterns.{InsideSound, bare_component_behind, inside_sound}
 use Rattle.rnc_syntax.proofs.SoundnessFiles.{IsDefault, declaration_front_is, declaration_item, declarations_are, body_sound}
 use Rattle.rnc_syntax.proofs.Viability.{bind_err, Begins, Viable, IsViable, Completes, Behinds, exactly, nothing_taken, moved, behind_token, behind_tokens}
-use Rattle.rnc_syntax.proofs.Viability.{completed, made_viable, left_is, sign_left, many_viable}
+use Rattle.rnc_syntax.proofs.Viability.{completed, first_stopped, made_viable, left_is, sign_left, many_viable}
+use Rattle.rnc_syntax.proofs.ViabilityAnnotations.{ViableBehind, BeginsBehind, opened_viable}
 use Rattle.rnc_syntax.proofs.ViabilityLiterals.{literal_some, literal_viable, setting_viable, parameter_viable}
-use Rattle.rnc_syntax.proofs.ViabilityPrimaries.{InsideViable}
-use Rattle.rnc_syntax.proofs.ViabilityPatterns.{pattern_viable}
-use Rattle.rnc_syntax.proofs.ViabilityComponents.{components_viable, inside_viable}
+use Rattle.rnc_syntax.proofs.ViabilityPrimaries.{InsideViable, primary_some, pattern_is}
+use Rattle.rnc_syntax.proofs.ViabilityPatterns.{bare_pattern_stuck}
+use Rattle.rnc_syntax.proofs.ViabilityComponents.{bare_component_stuck, components_viable, inside_viable}
 
 -- ---- declarations
 
@@ -152,19 +155,76 @@ surplus ts rest ds b over left p q count = record {
 }
 
 module _ (inside : Inside) (sound : InsideSound inside) (viable : InsideViable inside) where
-  body_viable : IsViable (body_with inside) IsBody
-  unfolding body_with
-  body_viable ts left e =
-      elim (chosen {A = Outcome Body} (is_grammar_body ts) (components_with inside content ts >>= λ cs. Ok (
+  pattern_body_stuck : ViableBehind (pattern_body_with inside) IsBody
+  pattern_body_stuck n may ts left e =
+      completed IsPattern IsBody (n ++ ts) left (λ us t p. exactly IsBody us (syntax.pattern_body t) (grammar.pattern_body p))
+      (bare_pattern_stuck inside sound viable n may ts left
+      (first_stopped {B = Body × List Lexeme} (bare_pattern_with inside ts) (λ t. (syntax.pattern_body t.0, t.1)) (Unexpected left) e))
+
+  bare_body_viable : IsViable (bare_body_with inside) IsBody
+  unfolding bare_body_with
+  bare_body_viable ts left e =
+      elim (chosen {A = Outcome Body} (is_grammar_body true ts) (components_with inside content ts >>= λ cs. Ok (
         syntax.grammar_body (syntax.components_of cs.0),
         cs.1,
-      )) (pattern_with inside ts >>= λ t. Ok (syntax.pattern_body t.0, t.1)) (Err (Unexpected left)) e) [
+      )) (pattern_body_with inside ts) (Err (Unexpected left)) e) [
         | inl h ↦ made_viable (AreComponents content) IsBody (components_with inside content)
             (λ (cs : List Component). syntax.grammar_body (syntax.components_of cs)) (components_viable inside sound viable content)
             (λ us cs p. exactly IsBody us (syntax.grammar_body (syntax.components_of cs)) (grammar.grammar_body p refl)) ts left h.1
-        | inr h ↦ made_viable IsPattern IsBody (pattern_with inside) syntax.pattern_body (pattern_viable inside sound viable)
-            (λ us t p. exactly IsBody us (syntax.pattern_body t) (grammar.pattern_body p)) ts left h.1
+        | inr h ↦ pattern_body_stuck [] (grammar.without_annotation refl) ts left h.1
       ]
+
+  one_component : Completes (IsComponent content) IsBody
+  one_component ts c p = exactly IsBody ts (syntax.grammar_body (syntax.components_of (c ∷ [])))
+      (grammar.grammar_body (grammar.and_component p (grammar.no_components refl) (sym (append-nil ts))) refl)
+
+  -- a component, and those after it
+  abbrev grammar_read : List Lexeme → Outcome Body
+  grammar_read ts = bare_component_with inside content ts >>= λ c. components_with inside content c.1
+      >>= λ cs. Ok (syntax.grammar_body (syntax.components_of (c.0 ∷ cs.0)), cs.1)
+
+  others_viable : (front : List Lexeme) (c : Component) → IsComponent content front c → (ts : List Lexeme) (left : ℕ)
+      → ◌≡◌ {A = Outcome Body} (components_with inside content ts >>= λ cs. Ok (syntax.grammar_body (syntax.components_of (c ∷ cs.0)), cs.1))
+      (Err (Unexpected left)) → Viable (Behinds front IsBody) ts left
+  others_viable front c p ts left e =
+      made_viable (AreComponents content) (Behinds front IsBody) (components_with inside content)
+      (λ (cs : List Component). syntax.grammar_body (syntax.components_of (c ∷ cs))) (components_viable inside sound viable content)
+      (λ us cs q. exactly (Behinds front IsBody) us (syntax.grammar_body (syntax.components_of (c ∷ cs)))
+      (grammar.grammar_body (grammar.and_component p q refl) refl)) ts left e
+
+  grammar_stuck : ViableBehind grammar_read IsBody
+  grammar_stuck n may ts left e =
+      elim (bind_err (bare_component_with inside content ts) _ (Unexpected left) e) [
+        | inl h ↦ completed (IsComponent content) IsBody (n ++ ts) left one_component (bare_component_stuck inside sound viable content n may ts left h)
+        | inr h ↦
+            let p = bare_component_behind inside sound content n may ts h.0 h.1 in
+            behind_tokens IsBody p.front (n ++ ts) h.0.1 left p.parts (others_viable p.front h.0.0 p.is h.0.1 left h.2)
+      ]
+
+  annotated_body_stuck : ViableBehind (annotated_body_with inside) IsBody
+  unfolding annotated_body_with
+  annotated_body_stuck n may ts left e =
+      elim (chosen {A = Outcome Body} (is_grammar_body false ts) (grammar_read ts) (pattern_body_with inside ts) (Err (Unexpected left)) e) [
+        | inl h ↦ grammar_stuck n may ts left h.1
+        | inr h ↦ pattern_body_stuck n may ts left h.1
+      ]
+
+  annotation_begins : BeginsBehind IsBody
+  annotation_begins n may = record {
+    behind = primary_some.behind;
+    value = syntax.pattern_body primary_some.value;
+    is = grammar.pattern_body (pattern_is n primary_some.behind primary_some.value may primary_some.is);
+  }
+
+  body_step : (ts : List Lexeme) (left : ℕ) (o : Option (List Lexeme)) → follow OpenBracket ts ≡ o
+      → either_way o (bare_body_with inside ts) (λ us. annotation_end 0 us >>= λ x. annotated_body_with inside x.1) ≡ Err (Unexpected left) → Viable IsBody ts
+      left
+  body_step ts left None is e = bare_body_viable ts left e
+  body_step ts left (Some us) is e = opened_viable IsBody (annotated_body_with inside) annotation_begins annotated_body_stuck ts us left is e
+
+  body_viable : IsViable (body_with inside) IsBody
+  unfolding body_with
+  body_viable ts left e = body_step ts left (follow OpenBracket ts) refl e
 
   -- behind declarations
   file_behind : (ts rest : List Lexeme) (ds : List Declaration) (left : ℕ) → TakesFront (Each IsDeclaration) ts (ds, rest)

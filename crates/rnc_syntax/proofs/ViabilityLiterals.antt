@@ -7,13 +7,16 @@ use Rattle.rnc_syntax.specs.Lexeme.{Lexeme, Spelling, keyword, identifier, segme
 use Rattle.rnc_syntax.specs.Grammar as grammar
 use Rattle.rnc_syntax.specs.Grammar.{IsLiteral, MayBeParameters, MayInherit}
 use Rattle.rnc_syntax.specs.Combinators.{Outcome, ◌>>=◌, follow, follow_keyword, after, word_at, identifier_at, segment_at, either_way, many}
-use Rattle.rnc_syntax.specs.Productions.{literal_at, parameter_at, word_front, in_braces_at, parameters_at, word_after_equal, inherit_at, mention_at}
+use Rattle.rnc_syntax.specs.Productions.{literal_at, parameter_at, parameter_front, annotated_parameter_at, in_braces_at, parameters_at, word_after_equal}
+use Rattle.rnc_syntax.specs.Productions.{inherit_at, mention_at}
 use Rattle.rnc_syntax.specs.Syntax.{joined_text}
 use Rattle.rnc_syntax.proofs.Soundness.{same_inherit, keyword_follows, IsWord, word_sound, IsSegment, segment_sound, Closed, Preceded, Each, many_sound}
 use Rattle.rnc_syntax.proofs.Soundness.{preceded_sound, Behind, bracketed, IsSetting}
-use Rattle.rnc_syntax.proofs.SoundnessLiterals.{literal_is, literal_sound, parameters_are, word_front_is, parameter_item, IsMention}
+use Rattle.rnc_syntax.proofs.SoundnessLiterals.{literal_is, literal_sound, IsParameter, parameter_is, parameters_are, parameter_front_is, parameter_item}
+use Rattle.rnc_syntax.proofs.SoundnessLiterals.{IsMention}
 use Rattle.rnc_syntax.proofs.Viability.{Begins, Viable, IsViable, Completes, Behinds, exactly, nothing_taken, moved, behind_token, completed, made_viable}
 use Rattle.rnc_syntax.proofs.Viability.{then_viable, both_viable, left_is, in_braces_viable, open_viable, preceded_item, many_viable}
+use Rattle.rnc_syntax.proofs.ViabilityAnnotations.{annotated_viable, bare_begins, bare_viable}
 
 -- ---- single tokens
 
@@ -110,17 +113,31 @@ pub parameter_viable : IsViable parameter_at (IsSetting IsLiteral)
 unfolding parameter_at
 parameter_viable = setting_viable IsLiteral literal_at literal_viable literal_some
 
-parameter_stuck : (ts us : List Lexeme) (left : ℕ) → word_front ts ≡ Some us → parameter_at us ≡ Err (Unexpected left) → Viable (IsSetting IsLiteral) ts left
-parameter_stuck ts us left is e = parameter_viable ts left (ap parameter_at (word_front_is ts us is) ∙ e)
+setting_some : Begins (IsSetting IsLiteral) []
+setting_some = record {
+  behind = identifier [] ∷ sign Equal ∷ literal_some.behind;
+  value = ([], literal_some.value);
+  is = record { token = identifier []; word = refl; value = literal_some.behind; is = literal_some.is; parts = refl };
+}
+
+annotated_parameter_viable : IsViable annotated_parameter_at IsParameter
+unfolding annotated_parameter_at
+annotated_parameter_viable =
+    annotated_viable IsParameter parameter_at (bare_begins IsParameter (IsSetting IsLiteral) parameter_is setting_some)
+    (bare_viable IsParameter (IsSetting IsLiteral) parameter_is parameter_at parameter_viable)
+
+parameter_stuck : (ts us : List Lexeme) (left : ℕ) → parameter_front ts ≡ Some us → annotated_parameter_at us ≡ Err (Unexpected left)
+    → Viable IsParameter ts left
+parameter_stuck ts us left is e = annotated_parameter_viable ts left (ap annotated_parameter_at (parameter_front_is ts us is) ∙ e)
 
 abbrev AreSettings : List Lexeme → List (List ℕ × List ℕ) → Type 0
-AreSettings = Each (IsSetting IsLiteral)
+AreSettings = Each IsParameter
 
 -- parameters in braces
-braces_viable : IsViable (in_braces_at (many word_front parameter_at)) (Closed AreSettings CloseBrace)
+braces_viable : IsViable (in_braces_at (many parameter_front annotated_parameter_at)) (Closed AreSettings CloseBrace)
 braces_viable =
-    in_braces_viable AreSettings (many word_front parameter_at) (many_sound (IsSetting IsLiteral) word_front parameter_at parameter_item)
-    (many_viable (IsSetting IsLiteral) word_front parameter_at parameter_item parameter_stuck)
+    in_braces_viable AreSettings (many parameter_front annotated_parameter_at) (many_sound IsParameter parameter_front annotated_parameter_at parameter_item)
+    (many_viable IsParameter parameter_front annotated_parameter_at parameter_item parameter_stuck)
 
 braces_begin : Completes (Preceded (Closed AreSettings CloseBrace) OpenBrace) MayBeParameters
 braces_begin ts ps p =
@@ -128,11 +145,11 @@ braces_begin ts ps p =
     exactly MayBeParameters ts ps (grammar.with_parameters (parameters_are q.is) q.parts)
 
 parameters_step : (ts : List Lexeme) (left : ℕ) (o : Option (List Lexeme)) → follow OpenBrace ts ≡ o → either_way {B = Outcome (List (List ℕ × List ℕ))} o
-    (Ok ([], ts)) (in_braces_at (many word_front parameter_at)) ≡ Err (Unexpected left) → Viable MayBeParameters ts left
+    (Ok ([], ts)) (in_braces_at (many parameter_front annotated_parameter_at)) ≡ Err (Unexpected left) → Viable MayBeParameters ts left
 parameters_step ts left None is e = absurd cc
 parameters_step ts left (Some us) is e =
     completed (Preceded (Closed AreSettings CloseBrace) OpenBrace) MayBeParameters ts left braces_begin
-    (preceded_item (Closed AreSettings CloseBrace) OpenBrace (in_braces_at (many word_front parameter_at)) braces_viable ts us left is e)
+    (preceded_item (Closed AreSettings CloseBrace) OpenBrace (in_braces_at (many parameter_front annotated_parameter_at)) braces_viable ts us left is e)
 
 pub parameters_viable : IsViable parameters_at MayBeParameters
 unfolding parameters_at

@@ -7,19 +7,21 @@ use Rattle.rnc_syntax.specs.Lexeme.{Lexeme, keyword, identifier, cname, segment,
 use Rattle.rnc_syntax.specs.Syntax as syntax
 use Rattle.rnc_syntax.specs.Syntax.{NameClass, DatatypeName, Pattern, Component}
 use Rattle.rnc_syntax.specs.Grammar as grammar
-use Rattle.rnc_syntax.specs.Grammar.{Setting, content, type_of, IsLiteral, MayBeParameters, IsClass, IsPattern, IsParticle, IsPrimary, IsBraced, AreComponents}
+use Rattle.rnc_syntax.specs.Grammar.{Setting, content, type_of, MayBeAnnotation, IsLiteral, MayBeParameters, IsClass, IsPattern, IsParticle, IsPrimary}
+use Rattle.rnc_syntax.specs.Grammar.{IsBarePrimary, IsBraced, AreComponents}
 use Rattle.rnc_syntax.specs.Combinators.{Outcome, ◌>>=◌, identifier_at}
-use Rattle.rnc_syntax.specs.Productions.{in_braces_at, literal_at, parameters_at, mention_at, basic_with, class_with, Inside, braced_with, contents_with}
-use Rattle.rnc_syntax.specs.Productions.{named_with, begins_segment, typed_at, other_at, atom_at, parens_with, opened_with, primary_with, repeated}
-use Rattle.rnc_syntax.specs.Productions.{particle_with}
+use Rattle.rnc_syntax.specs.Productions.{in_braces_at, literal_at, parameters_at, mention_at, class_with, Inside, braced_with, contents_with}
+use Rattle.rnc_syntax.specs.Productions.{named_with, begins_segment, typed_at, other_at, atom_at, parens_with, opened_with, bare_primary_with, primary_with}
+use Rattle.rnc_syntax.specs.Productions.{repeated, particle_with}
 use Rattle.rnc_syntax.proofs.Soundness.{chosen, Closed, Preceded, Behind, Bracketed, bracketed}
 use Rattle.rnc_syntax.proofs.SoundnessLiterals.{IsMention}
-use Rattle.rnc_syntax.proofs.SoundnessClasses.{basic_sound, class_sound}
-use Rattle.rnc_syntax.proofs.SoundnessPatterns.{InsideSound}
+use Rattle.rnc_syntax.proofs.SoundnessClasses.{class_sound}
+use Rattle.rnc_syntax.proofs.SoundnessPatterns.{InsideSound, primary_is}
 use Rattle.rnc_syntax.proofs.Viability.{Begins, Viable, IsViable, Completes, exactly, first_stopped, nothing_taken, behind_token, completed, made_viable}
 use Rattle.rnc_syntax.proofs.Viability.{both_viable, left_is, closes_viable, in_braces_viable, open_viable}
+use Rattle.rnc_syntax.proofs.ViabilityAnnotations.{ViableBehind, annotated_viable, bare_begins, bare_viable}
 use Rattle.rnc_syntax.proofs.ViabilityLiterals.{IsIdentifier, identifier_viable, literal_viable, parameters_viable, mention_viable}
-use Rattle.rnc_syntax.proofs.ViabilityClasses.{basic_viable, class_viable}
+use Rattle.rnc_syntax.proofs.ViabilityClasses.{class_viable}
 
 -- what was taken inside brackets where the reading stops can be completed
 pub record InsideViable (inside : Inside) : Type 0 where
@@ -27,22 +29,29 @@ pub record InsideViable (inside : Inside) : Type 0 where
   pub pattern : IsViable inside.pattern IsPattern
   pub components : (w : Setting) → IsViable (inside.components w) (AreComponents w)
 
-pub primary_some : Begins IsPrimary []
+pub primary_some : Begins IsBarePrimary []
 primary_some = record { behind = identifier [] ∷ []; value = syntax.ref []; is = grammar.ref refl }
 
+pub pattern_is : (n ts : List Lexeme) (t : Pattern) → MayBeAnnotation n → IsBarePrimary ts t → IsPattern (n ++ ts) t
+pattern_is n ts t may is = grammar.one_particle (grammar.once (grammar.annotated_primary may is refl))
+
 pub pattern_some : Begins IsPattern []
-pattern_some = record { behind = primary_some.behind; value = primary_some.value; is = grammar.one_particle (grammar.once primary_some.is) }
+pattern_some = record {
+  behind = primary_some.behind;
+  value = primary_some.value;
+  is = pattern_is [] primary_some.behind primary_some.value (grammar.without_annotation refl) primary_some.is;
+}
 
 -- behind a token, what is made of a value
 module _ {A : Type 0} (P : List Lexeme → A → Type 0) (t : Lexeme) (f : A → Pattern) (read : List Lexeme → Outcome A) (viable : IsViable read P)
-    (maps : (ts : List Lexeme) (a : A) → P ts a → IsPrimary (t ∷ ts) (f a)) where
+    (maps : (ts : List Lexeme) (a : A) → P ts a → IsBarePrimary (t ∷ ts) (f a)) where
   primary_behind : (ts : List Lexeme) (left : ℕ) → ◌≡◌ {A = Outcome Pattern} (read ts >>= λ x. Ok (f x.0, x.1)) (Err (Unexpected left))
-      → Viable IsPrimary (t ∷ ts) left
-  primary_behind ts left e = behind_token IsPrimary t ts left
-      (made_viable P (Behind t IsPrimary) read f viable (λ us a p. exactly (Behind t IsPrimary) us (f a) (maps us a p)) ts left e)
+      → Viable IsBarePrimary (t ∷ ts) left
+  primary_behind ts left e = behind_token IsBarePrimary t ts left
+      (made_viable P (Behind t IsBarePrimary) read f viable (λ us a p. exactly (Behind t IsBarePrimary) us (f a) (maps us a p)) ts left e)
 
 typed_viable : (d : DatatypeName) (t : Lexeme) (ts : List Lexeme) (left : ℕ) → type_of t ≡ Some d → typed_at d ts ≡ Err (Unexpected left)
-    → Viable IsPrimary (t ∷ ts) left
+    → Viable IsBarePrimary (t ∷ ts) left
 unfolding typed_at
 typed_viable d t ts left is e =
     elim (chosen {A = Outcome Pattern} (begins_segment ts) (literal_at ts >>= λ v. Ok (syntax.value d v.0, v.1))
@@ -93,56 +102,61 @@ module _ (inside : Inside) (sound : InsideSound inside) (viable : InsideViable i
 
   -- a name class and a pattern in braces, behind a token
   named_viable : (make : NameClass → Pattern → Pattern) (t : Lexeme) → ((first second : List Lexeme) (c : NameClass) (u : Pattern) → IsClass first c
-      → IsBraced second u → IsPrimary (t ∷ (first ++ second)) (make c u))
-      → (ts : List Lexeme) (left : ℕ) → named_with inside make ts ≡ Err (Unexpected left) → Viable IsPrimary (t ∷ ts) left
+      → IsBraced second u → IsBarePrimary (t ∷ (first ++ second)) (make c u))
+      → (ts : List Lexeme) (left : ℕ) → named_with inside make ts ≡ Err (Unexpected left) → Viable IsBarePrimary (t ∷ ts) left
   unfolding named_with
   named_viable make t makes ts left e =
-      let basic = basic_with inside.class in
-      let basics = basic_sound inside.class sound.class in
-      behind_token IsPrimary t ts left
-      (both_viable IsClass IsBraced (Behind t IsPrimary) make (class_with basic) (braced_with inside) (class_sound basic basics)
-      (class_viable basic basics (basic_viable inside.class sound.class viable.class)) braced_viable braced_some makes ts left e)
+      behind_token IsBarePrimary t ts left
+      (both_viable IsClass IsBraced (Behind t IsBarePrimary) make (class_with inside.class) (braced_with inside) (class_sound inside.class sound.class)
+      (class_viable inside.class sound.class viable.class) braced_viable braced_some makes ts left e)
 
-  parens_begin : Completes (Closed IsPattern CloseParenthesis) (Behind (sign OpenParenthesis) IsPrimary)
-  parens_begin ts t p = exactly (Behind (sign OpenParenthesis) IsPrimary) ts t
+  parens_begin : Completes (Closed IsPattern CloseParenthesis) (Behind (sign OpenParenthesis) IsBarePrimary)
+  parens_begin ts t p = exactly (Behind (sign OpenParenthesis) IsBarePrimary) ts t
       (grammar.in_parens p.is (ap (λ (r : List Lexeme). sign OpenParenthesis ∷ r) p.parts))
 
-  pub primary_viable : IsViable (primary_with inside) IsPrimary
-  unfolding primary_with atom_at other_at opened_with parens_with
-  primary_viable (keyword keywords.Element s ∷ ts) left e = named_viable syntax.element (keyword keywords.Element s)
+  bare_primary_viable : IsViable (bare_primary_with inside) IsBarePrimary
+  unfolding bare_primary_with atom_at other_at opened_with parens_with
+  bare_primary_viable (keyword keywords.Element s ∷ ts) left e = named_viable syntax.element (keyword keywords.Element s)
       (λ first second c u p q. grammar.element p q refl) ts left e
-  primary_viable (keyword keywords.Attribute s ∷ ts) left e = named_viable syntax.attribute (keyword keywords.Attribute s)
+  bare_primary_viable (keyword keywords.Attribute s ∷ ts) left e = named_viable syntax.attribute (keyword keywords.Attribute s)
       (λ first second c u p q. grammar.attribute p q refl) ts left e
-  primary_viable (keyword keywords.List s ∷ ts) left e = primary_behind IsBraced (keyword keywords.List s) syntax.list (braced_with inside) braced_viable
+  bare_primary_viable (keyword keywords.List s ∷ ts) left e = primary_behind IsBraced (keyword keywords.List s) syntax.list (braced_with inside) braced_viable
       (λ us a p. grammar.list p refl) ts left e
-  primary_viable (keyword keywords.Mixed s ∷ ts) left e = primary_behind IsBraced (keyword keywords.Mixed s) syntax.mixed (braced_with inside) braced_viable
-      (λ us a p. grammar.mixed p refl) ts left e
-  primary_viable (keyword keywords.Parent s ∷ ts) left e =
+  bare_primary_viable (keyword keywords.Mixed s ∷ ts) left e = primary_behind IsBraced (keyword keywords.Mixed s) syntax.mixed (braced_with inside)
+      braced_viable (λ us a p. grammar.mixed p refl) ts left e
+  bare_primary_viable (keyword keywords.Parent s ∷ ts) left e =
       let t = keyword keywords.Parent s in
       primary_behind IsIdentifier t syntax.parent_ref identifier_at identifier_viable (λ us n p. grammar.parent_ref (ap (λ (r : List Lexeme). t ∷ r) p)) ts left
       e
-  primary_viable (keyword keywords.Empty s ∷ ts) left e = absurd cc
-  primary_viable (keyword keywords.Text s ∷ ts) left e = absurd cc
-  primary_viable (keyword keywords.NotAllowed s ∷ ts) left e = absurd cc
-  primary_viable (keyword keywords.String s ∷ ts) left e = typed_viable syntax.string_type (keyword keywords.String s) ts left refl e
-  primary_viable (keyword keywords.Token s ∷ ts) left e = typed_viable syntax.token_type (keyword keywords.Token s) ts left refl e
-  primary_viable (keyword keywords.External s ∷ ts) left e =
+  bare_primary_viable (keyword keywords.Empty s ∷ ts) left e = absurd cc
+  bare_primary_viable (keyword keywords.Text s ∷ ts) left e = absurd cc
+  bare_primary_viable (keyword keywords.NotAllowed s ∷ ts) left e = absurd cc
+  bare_primary_viable (keyword keywords.String s ∷ ts) left e = typed_viable syntax.string_type (keyword keywords.String s) ts left refl e
+  bare_primary_viable (keyword keywords.Token s ∷ ts) left e = typed_viable syntax.token_type (keyword keywords.Token s) ts left refl e
+  bare_primary_viable (keyword keywords.External s ∷ ts) left e =
       let t = keyword keywords.External s in
       primary_behind (IsMention s.place) t syntax.external (mention_at s.place) (mention_viable s.place)
       (λ us m p. grammar.external p.literal p.inherits (ap (λ (r : List Lexeme). t ∷ r) p.parts) (ap syntax.external p.standing)) ts left e
-  primary_viable (keyword keywords.Grammar s ∷ ts) left e =
+  bare_primary_viable (keyword keywords.Grammar s ∷ ts) left e =
       let t = keyword keywords.Grammar s in
       primary_behind (Bracketed (AreComponents content) OpenBrace CloseBrace) t (λ (cs : List Component). syntax.grammar (syntax.components_of cs))
       (contents_with inside content) (contents_viable content)
       (λ us cs p. grammar.grammar p.is (ap (λ (r : List Lexeme). t ∷ r) p.parts) refl) ts left e
-  primary_viable (identifier n ∷ ts) left e = absurd cc
-  primary_viable (cname p l ∷ ts) left e = typed_viable (syntax.prefixed_type p l) (cname p l) ts left refl e
-  primary_viable (segment w ∷ ts) left e = made_viable IsLiteral IsPrimary literal_at (syntax.value syntax.token_type) literal_viable
-      (λ us v p. exactly IsPrimary us (syntax.value syntax.token_type v) (grammar.untyped_value p)) (segment w ∷ ts) left e
-  primary_viable (sign OpenParenthesis ∷ ts) left e =
-      behind_token IsPrimary (sign OpenParenthesis) ts left (completed (Closed IsPattern CloseParenthesis) (Behind (sign OpenParenthesis) IsPrimary) ts left
-      parens_begin (closes_viable IsPattern CloseParenthesis inside.pattern sound.pattern viable.pattern ts left e))
-  primary_viable ts left e = nothing_taken IsPrimary ts left (left_is ts left e) primary_some
+  bare_primary_viable (identifier n ∷ ts) left e = absurd cc
+  bare_primary_viable (cname p l ∷ ts) left e = typed_viable (syntax.prefixed_type p l) (cname p l) ts left refl e
+  bare_primary_viable (segment w ∷ ts) left e = made_viable IsLiteral IsBarePrimary literal_at (syntax.value syntax.token_type) literal_viable
+      (λ us v p. exactly IsBarePrimary us (syntax.value syntax.token_type v) (grammar.untyped_value p)) (segment w ∷ ts) left e
+  bare_primary_viable (sign OpenParenthesis ∷ ts) left e =
+      behind_token IsBarePrimary (sign OpenParenthesis) ts left (completed (Closed IsPattern CloseParenthesis) (Behind (sign OpenParenthesis) IsBarePrimary)
+      ts left parens_begin (closes_viable IsPattern CloseParenthesis inside.pattern sound.pattern viable.pattern ts left e))
+  bare_primary_viable ts left e = nothing_taken IsBarePrimary ts left (left_is ts left e) primary_some
+
+  pub bare_primary_stuck : ViableBehind (bare_primary_with inside) IsPrimary
+  bare_primary_stuck = bare_viable IsPrimary IsBarePrimary primary_is (bare_primary_with inside) bare_primary_viable
+
+  pub primary_viable : IsViable (primary_with inside) IsPrimary
+  unfolding primary_with
+  primary_viable = annotated_viable IsPrimary (bare_primary_with inside) (bare_begins IsPrimary IsBarePrimary primary_is primary_some) bare_primary_stuck
 
   pub particle_viable : IsViable (particle_with inside) IsParticle
   unfolding particle_with

@@ -4,7 +4,7 @@ use Rattle.rnc_text.specs.declared.token.Keyword.{Keyword}
 use Rattle.rnc_text.specs.declared.token.Keyword.TheVariants as keywords
 use Rattle.rnc_text.specs.declared.token.Sign.{Sign}
 use Rattle.rnc_text.specs.declared.token.Sign.TheVariants.{Equal, BarEqual, AndEqual, Comma, Bar, And, Question, Star, Plus, Minus, OpenBrace, CloseBrace}
-use Rattle.rnc_text.specs.declared.token.Sign.TheVariants.{OpenParenthesis, CloseParenthesis, Tilde}
+use Rattle.rnc_text.specs.declared.token.Sign.TheVariants.{OpenParenthesis, CloseParenthesis, OpenBracket, CloseBracket, Tilde}
 use Rattle.rnc_syntax.specs.declared.fault.Stop.{Stop}
 use Rattle.rnc_syntax.specs.declared.fault.Stop.TheVariants.{Unexpected}
 use Rattle.rnc_syntax.specs.Lexeme.{Lexeme, keyword, identifier, segment, sign}
@@ -39,6 +39,8 @@ same_sign OpenBrace OpenBrace = true
 same_sign CloseBrace CloseBrace = true
 same_sign OpenParenthesis OpenParenthesis = true
 same_sign CloseParenthesis CloseParenthesis = true
+same_sign OpenBracket OpenBracket = true
+same_sign CloseBracket CloseBracket = true
 same_sign Tilde Tilde = true
 same_sign _ _ = false
 

@@ -1,11 +1,11 @@
--- The grammar: which tokens are which syntax tree, a constructor for each production (RELAX NG Compact Syntax, "Syntax").
--- Parentheses leave no node, and what a bracket opens the same bracket closes.
-use Rattle.std.specs.Prelude.{◌≡◌, ℕ, List, [], ◌∷◌, ◌++◌, Option, Some, None}
+-- The grammar: which tokens are which syntax tree, a constructor for each production (RELAX NG Compact Syntax, "Syntax" and
+-- "Annotations"). Parentheses and annotations leave no node, and what a bracket opens the same bracket closes.
+use Rattle.std.specs.Prelude.{◌≡◌, ℕ, Bool, true, false, List, [], ◌∷◌, ◌++◌, Option, Some, None}
 use Rattle.rng_model.specs.Tree.{Connector, choice, group, interleave}
 use Rattle.rnc_text.specs.declared.token.Keyword.TheVariants as keywords
 use Rattle.rnc_text.specs.declared.token.Sign.{Sign}
 use Rattle.rnc_text.specs.declared.token.Sign.TheVariants.{Equal, BarEqual, AndEqual, Comma, Bar, And, Question, Star, Plus, Minus, OpenBrace, CloseBrace}
-use Rattle.rnc_text.specs.declared.token.Sign.TheVariants.{OpenParenthesis, CloseParenthesis, Tilde}
+use Rattle.rnc_text.specs.declared.token.Sign.TheVariants.{OpenParenthesis, CloseParenthesis, OpenBracket, CloseBracket, Tilde}
 use Rattle.rnc_syntax.specs.declared.syntax_tree.Method.{Method}
 use Rattle.rnc_syntax.specs.declared.syntax_tree.Method.TheVariants as methods
 use Rattle.rnc_syntax.specs.Lexeme.{Lexeme, Spelling, keyword, identifier, cname, ns_name, segment, sign}
@@ -41,6 +41,31 @@ connector_of And = Some interleave
 connector_of Bar = Some choice
 connector_of _ = None
 
+-- "[", "]", "{", "}", "(" or ")"
+abbrev pub is_bracket : Lexeme → Bool
+is_bracket (sign OpenBracket) = true
+is_bracket (sign CloseBracket) = true
+is_bracket (sign OpenBrace) = true
+is_bracket (sign CloseBrace) = true
+is_bracket (sign OpenParenthesis) = true
+is_bracket (sign CloseParenthesis) = true
+is_bracket _ = false
+
+-- ---- annotations
+
+-- ( annotation | any token that is no bracket )*
+pub data IsAnnotationContent : List Lexeme → Type 0 where
+  no_content : {ts : List Lexeme} → ts ≡ [] → IsAnnotationContent ts
+  and_token : {ts : List Lexeme} {a : List Lexeme} {x : Lexeme} → is_bracket x ≡ false → IsAnnotationContent a → ts ≡ x ∷ a → IsAnnotationContent ts
+  and_annotation : {ts : List Lexeme} {a b : List Lexeme} → IsAnnotationContent a → IsAnnotationContent b
+      → ts ≡ sign OpenBracket ∷ (a ++ sign CloseBracket ∷ b) → IsAnnotationContent ts
+
+-- [annotation] where annotation = "[" ( annotation | any token that is no bracket )* "]"
+pub data MayBeAnnotation : List Lexeme → Type 0 where
+  without_annotation : {ts : List Lexeme} → ts ≡ [] → MayBeAnnotation ts
+  with_annotation : {ts : List Lexeme} {a : List Lexeme} → IsAnnotationContent a → ts ≡ sign OpenBracket ∷ (a ++ sign CloseBracket ∷ [])
+      → MayBeAnnotation ts
+
 -- ---- literals, parameters, and what mentions hand on
 
 -- literal = segment ("~" segment)*: the text of its segments, joined
@@ -49,11 +74,11 @@ pub data IsLiteral : List Lexeme → List ℕ → Type 0 where
   more_segments : {ts : List Lexeme} {v : List ℕ} {a : List Lexeme} {w u : List ℕ} → IsLiteral a u → ts ≡ segment w ∷ sign Tilde ∷ a → v ≡ w ++ u
       → IsLiteral ts v
 
--- param* where param = word "=" literal
+-- param* where param = [annotation] word "=" literal
 pub data AreParameters : List Lexeme → List (List ℕ × List ℕ) → Type 0 where
   no_parameters : {ts : List Lexeme} → ts ≡ [] → AreParameters ts []
-  and_parameter : {ts : List Lexeme} {ps : List (List ℕ × List ℕ)} {a b : List Lexeme} {x : Lexeme} {w v : List ℕ} → word_of x ≡ Some w → IsLiteral a v
-      → AreParameters b ps → ts ≡ x ∷ sign Equal ∷ (a ++ b) → AreParameters ts ((w, v) ∷ ps)
+  and_parameter : {ts : List Lexeme} {ps : List (List ℕ × List ℕ)} {n a b : List Lexeme} {w v : List ℕ} (x : Lexeme) → MayBeAnnotation n → word_of x ≡ Some w
+      → IsLiteral a v → AreParameters b ps → ts ≡ n ++ x ∷ sign Equal ∷ (a ++ b) → AreParameters ts ((w, v) ∷ ps)
 
 -- [params] where params = "{" param* "}"
 pub data MayBeParameters : List Lexeme → List (List ℕ × List ℕ) → Type 0 where
@@ -70,13 +95,14 @@ pub data MayInherit : List Lexeme → Option (List ℕ) → Type 0 where
 -- ---- name classes
 
 mutual
-  -- class = basic | basic ("|" basic)+ | (nsName | "*") "-" basic
+  -- class = basic | basic ("|" basic)+ | [annotation] (nsName | "*") "-" basic
   pub data IsClass : List Lexeme → NameClass → Type 0 where
     basic_class : {ts : List Lexeme} {c : NameClass} → IsBasic ts c → IsClass ts c
     choice_class : {ts : List Lexeme} {d : NameClass} {a b : List Lexeme} {c : NameClass} {cs : List NameClass} → IsBasic a c → AreMoreClasses b cs
         → ts ≡ a ++ b → d ≡ syntax.choice_of (c ∷ cs) → IsClass ts d
-    any_except : {ts : List Lexeme} {a : List Lexeme} {c : NameClass} → IsBasic a c → ts ≡ sign Star ∷ sign Minus ∷ a → IsClass ts (syntax.any_except c)
-    ns_except : {ts : List Lexeme} {a : List Lexeme} {p : List ℕ} {c : NameClass} → IsBasic a c → ts ≡ ns_name p ∷ sign Minus ∷ a
+    any_except : {ts : List Lexeme} {n a : List Lexeme} {c : NameClass} → MayBeAnnotation n → IsBasic a c → ts ≡ n ++ sign Star ∷ sign Minus ∷ a
+        → IsClass ts (syntax.any_except c)
+    ns_except : {ts : List Lexeme} {n a : List Lexeme} {p : List ℕ} {c : NameClass} → MayBeAnnotation n → IsBasic a c → ts ≡ n ++ ns_name p ∷ sign Minus ∷ a
         → IsClass ts (syntax.ns_except p c)
 
   -- ("|" basic)+
@@ -85,14 +111,18 @@ mutual
     more_classes : {ts : List Lexeme} {cs : List NameClass} {a b : List Lexeme} {c : NameClass} → IsBasic a c → AreMoreClasses b cs → ts ≡ sign Bar ∷ (a ++ b)
         → AreMoreClasses ts (c ∷ cs)
 
-  -- basic = word | CName | nsName | "*" | "(" class ")"
+  -- basic = [annotation] bare-basic
   pub data IsBasic : List Lexeme → NameClass → Type 0 where
-    word_class : {ts : List Lexeme} {x : Lexeme} {w : List ℕ} → word_of x ≡ Some w → ts ≡ x ∷ [] → IsBasic ts (syntax.name_is (syntax.unprefixed w))
-    cname_class : {ts : List Lexeme} {p l : List ℕ} → ts ≡ cname p l ∷ [] → IsBasic ts (syntax.name_is (syntax.prefixed p l))
-    ns_class : {ts : List Lexeme} {p : List ℕ} → ts ≡ ns_name p ∷ [] → IsBasic ts (syntax.ns_name p)
-    any_class : {ts : List Lexeme} → ts ≡ sign Star ∷ [] → IsBasic ts syntax.any_name
+    annotated_basic : {ts : List Lexeme} {n a : List Lexeme} {c : NameClass} → MayBeAnnotation n → IsBareBasic a c → ts ≡ n ++ a → IsBasic ts c
+
+  -- bare-basic = word | CName | nsName | "*" | "(" class ")"
+  pub data IsBareBasic : List Lexeme → NameClass → Type 0 where
+    word_class : {ts : List Lexeme} {x : Lexeme} {w : List ℕ} → word_of x ≡ Some w → ts ≡ x ∷ [] → IsBareBasic ts (syntax.name_is (syntax.unprefixed w))
+    cname_class : {ts : List Lexeme} {p l : List ℕ} → ts ≡ cname p l ∷ [] → IsBareBasic ts (syntax.name_is (syntax.prefixed p l))
+    ns_class : {ts : List Lexeme} {p : List ℕ} → ts ≡ ns_name p ∷ [] → IsBareBasic ts (syntax.ns_name p)
+    any_class : {ts : List Lexeme} → ts ≡ sign Star ∷ [] → IsBareBasic ts syntax.any_name
     class_in_parens : {ts : List Lexeme} {a : List Lexeme} {c : NameClass} → IsClass a c → ts ≡ sign OpenParenthesis ∷ (a ++ sign CloseParenthesis ∷ [])
-        → IsBasic ts c
+        → IsBareBasic ts c
 
 -- ---- patterns and components
 
@@ -103,13 +133,13 @@ pub data Setting : Type 0 where
 
 mutual
   -- pattern = particle | particle ("," particle)+ | particle ("&" particle)+ | particle ("|" particle)+
-  --         | typename [params] "-" primary
+  --         | [annotation] typename [params] "-" primary
   pub data IsPattern : List Lexeme → Pattern → Type 0 where
     one_particle : {ts : List Lexeme} {t : Pattern} → IsParticle ts t → IsPattern ts t
     particles : {ts : List Lexeme} {u : Pattern} {a b : List Lexeme} {s : Sign} {k : Connector} {t : Pattern} {us : List Pattern} → connector_of s ≡ Some k
         → IsParticle a t → AreMore s b us → ts ≡ a ++ b → u ≡ syntax.members k (t ∷ us) → IsPattern ts u
-    data_except : {ts : List Lexeme} {a b : List Lexeme} {x : Lexeme} {d : DatatypeName} {ps : List (List ℕ × List ℕ)} {t : Pattern} → type_of x ≡ Some d
-        → MayBeParameters a ps → IsPrimary b t → ts ≡ x ∷ (a ++ sign Minus ∷ b) → IsPattern ts (syntax.data_except d ps t)
+    data_except : {ts : List Lexeme} {n a b : List Lexeme} {d : DatatypeName} {ps : List (List ℕ × List ℕ)} {t : Pattern} (x : Lexeme) → MayBeAnnotation n
+        → type_of x ≡ Some d → MayBeParameters a ps → IsPrimary b t → ts ≡ n ++ x ∷ (a ++ sign Minus ∷ b) → IsPattern ts (syntax.data_except d ps t)
 
   -- one or more particles, the connector before each
   pub data AreMore : Sign → List Lexeme → List Pattern → Type 0 where
@@ -124,33 +154,39 @@ mutual
     zero_or_more : {ts : List Lexeme} {a : List Lexeme} {t : Pattern} → IsPrimary a t → ts ≡ a ++ sign Star ∷ [] → IsParticle ts (syntax.zero_or_more t)
     one_or_more : {ts : List Lexeme} {a : List Lexeme} {t : Pattern} → IsPrimary a t → ts ≡ a ++ sign Plus ∷ [] → IsParticle ts (syntax.one_or_more t)
 
-  -- primary = "element" class "{" pattern "}" | "attribute" class "{" pattern "}" | "list" "{" pattern "}"
+  -- primary = [annotation] bare-primary
+  pub data IsPrimary : List Lexeme → Pattern → Type 0 where
+    annotated_primary : {ts : List Lexeme} {n a : List Lexeme} {t : Pattern} → MayBeAnnotation n → IsBarePrimary a t → ts ≡ n ++ a → IsPrimary ts t
+
+  -- bare-primary = "element" class "{" pattern "}" | "attribute" class "{" pattern "}" | "list" "{" pattern "}"
   --         | "mixed" "{" pattern "}" | identifier | "parent" identifier | "empty" | "text" | "notAllowed"
   --         | [typename] literal | typename [params] | "external" literal [inherit] | "grammar" "{" content* "}"
   --         | "(" pattern ")"
-  pub data IsPrimary : List Lexeme → Pattern → Type 0 where
+  pub data IsBarePrimary : List Lexeme → Pattern → Type 0 where
     element : {ts : List Lexeme} {a b : List Lexeme} {c : NameClass} {t : Pattern} {s : Spelling} → IsClass a c → IsBraced b t
-        → ts ≡ keyword keywords.Element s ∷ (a ++ b) → IsPrimary ts (syntax.element c t)
+        → ts ≡ keyword keywords.Element s ∷ (a ++ b) → IsBarePrimary ts (syntax.element c t)
     attribute : {ts : List Lexeme} {a b : List Lexeme} {c : NameClass} {t : Pattern} {s : Spelling} → IsClass a c → IsBraced b t
-        → ts ≡ keyword keywords.Attribute s ∷ (a ++ b) → IsPrimary ts (syntax.attribute c t)
-    list : {ts : List Lexeme} {a : List Lexeme} {t : Pattern} {s : Spelling} → IsBraced a t → ts ≡ keyword keywords.List s ∷ a → IsPrimary ts (syntax.list t)
-    mixed : {ts : List Lexeme} {a : List Lexeme} {t : Pattern} {s : Spelling} → IsBraced a t → ts ≡ keyword keywords.Mixed s ∷ a → IsPrimary ts (syntax.mixed t)
-    ref : {ts : List Lexeme} {n : List ℕ} → ts ≡ identifier n ∷ [] → IsPrimary ts (syntax.ref n)
-    parent_ref : {ts : List Lexeme} {n : List ℕ} {s : Spelling} → ts ≡ keyword keywords.Parent s ∷ identifier n ∷ [] → IsPrimary ts (syntax.parent_ref n)
-    empty : {ts : List Lexeme} {s : Spelling} → ts ≡ keyword keywords.Empty s ∷ [] → IsPrimary ts syntax.empty
-    text : {ts : List Lexeme} {s : Spelling} → ts ≡ keyword keywords.Text s ∷ [] → IsPrimary ts syntax.text
-    not_allowed : {ts : List Lexeme} {s : Spelling} → ts ≡ keyword keywords.NotAllowed s ∷ [] → IsPrimary ts syntax.not_allowed
-    untyped_value : {ts : List Lexeme} {v : List ℕ} → IsLiteral ts v → IsPrimary ts (syntax.value syntax.token_type v)
+        → ts ≡ keyword keywords.Attribute s ∷ (a ++ b) → IsBarePrimary ts (syntax.attribute c t)
+    list : {ts : List Lexeme} {a : List Lexeme} {t : Pattern} {s : Spelling} → IsBraced a t → ts ≡ keyword keywords.List s ∷ a
+        → IsBarePrimary ts (syntax.list t)
+    mixed : {ts : List Lexeme} {a : List Lexeme} {t : Pattern} {s : Spelling} → IsBraced a t → ts ≡ keyword keywords.Mixed s ∷ a
+        → IsBarePrimary ts (syntax.mixed t)
+    ref : {ts : List Lexeme} {n : List ℕ} → ts ≡ identifier n ∷ [] → IsBarePrimary ts (syntax.ref n)
+    parent_ref : {ts : List Lexeme} {n : List ℕ} {s : Spelling} → ts ≡ keyword keywords.Parent s ∷ identifier n ∷ [] → IsBarePrimary ts (syntax.parent_ref n)
+    empty : {ts : List Lexeme} {s : Spelling} → ts ≡ keyword keywords.Empty s ∷ [] → IsBarePrimary ts syntax.empty
+    text : {ts : List Lexeme} {s : Spelling} → ts ≡ keyword keywords.Text s ∷ [] → IsBarePrimary ts syntax.text
+    not_allowed : {ts : List Lexeme} {s : Spelling} → ts ≡ keyword keywords.NotAllowed s ∷ [] → IsBarePrimary ts syntax.not_allowed
+    untyped_value : {ts : List Lexeme} {v : List ℕ} → IsLiteral ts v → IsBarePrimary ts (syntax.value syntax.token_type v)
     value : {ts : List Lexeme} {a : List Lexeme} {x : Lexeme} {d : DatatypeName} {v : List ℕ} → type_of x ≡ Some d → IsLiteral a v → ts ≡ x ∷ a
-        → IsPrimary ts (syntax.value d v)
+        → IsBarePrimary ts (syntax.value d v)
     data_of : {ts : List Lexeme} {a : List Lexeme} {x : Lexeme} {d : DatatypeName} {ps : List (List ℕ × List ℕ)} → type_of x ≡ Some d → MayBeParameters a ps
-        → ts ≡ x ∷ a → IsPrimary ts (syntax.data_of d ps)
+        → ts ≡ x ∷ a → IsBarePrimary ts (syntax.data_of d ps)
     external : {ts : List Lexeme} {t : Pattern} {a b : List Lexeme} {v : List ℕ} {p : Option (List ℕ)} {s : Spelling} → IsLiteral a v → MayInherit b p
-        → ts ≡ keyword keywords.External s ∷ (a ++ b) → t ≡ syntax.external (record { href = v; inherit = p; token = s.place }) → IsPrimary ts t
+        → ts ≡ keyword keywords.External s ∷ (a ++ b) → t ≡ syntax.external (record { href = v; inherit = p; token = s.place }) → IsBarePrimary ts t
     grammar : {ts : List Lexeme} {t : Pattern} {a : List Lexeme} {cs : List Component} {s : Spelling} → AreComponents content a cs
-        → ts ≡ keyword keywords.Grammar s ∷ sign OpenBrace ∷ (a ++ sign CloseBrace ∷ []) → t ≡ syntax.grammar (syntax.components_of cs) → IsPrimary ts t
+        → ts ≡ keyword keywords.Grammar s ∷ sign OpenBrace ∷ (a ++ sign CloseBrace ∷ []) → t ≡ syntax.grammar (syntax.components_of cs) → IsBarePrimary ts t
     in_parens : {ts : List Lexeme} {a : List Lexeme} {t : Pattern} → IsPattern a t → ts ≡ sign OpenParenthesis ∷ (a ++ sign CloseParenthesis ∷ [])
-        → IsPrimary ts t
+        → IsBarePrimary ts t
 
   -- "{" pattern "}"
   pub data IsBraced : List Lexeme → Pattern → Type 0 where
@@ -162,19 +198,24 @@ mutual
     and_component : {w : Setting} {ts : List Lexeme} {cs : List Component} {a b : List Lexeme} {c : Component} → IsComponent w a c → AreComponents w b cs
         → ts ≡ a ++ b → AreComponents w ts (c ∷ cs)
 
-  -- content = start | define | "div" "{" content* "}" | "include" literal [inherit] [ "{" over* "}" ]
-  -- over = start | define | "div" "{" over* "}"
-  -- start = "start" method pattern, define = identifier method pattern
+  -- content, over = [annotation] bare-content, [annotation] bare-over
   pub data IsComponent : Setting → List Lexeme → Component → Type 0 where
+    annotated_component : {w : Setting} {ts : List Lexeme} {n a : List Lexeme} {c : Component} → MayBeAnnotation n → IsBareComponent w a c → ts ≡ n ++ a
+        → IsComponent w ts c
+
+  -- bare-content = start | define | "div" "{" content* "}" | "include" literal [inherit] [ "{" over* "}" ]
+  -- bare-over = start | define | "div" "{" over* "}"
+  -- start = "start" method pattern, define = identifier method pattern
+  pub data IsBareComponent : Setting → List Lexeme → Component → Type 0 where
     start : {w : Setting} {ts : List Lexeme} {a : List Lexeme} {x : Lexeme} {m : Method} {t : Pattern} {s : Spelling} → method_of x ≡ Some m → IsPattern a t
-        → ts ≡ keyword keywords.Start s ∷ x ∷ a → IsComponent w ts (syntax.start m t)
+        → ts ≡ keyword keywords.Start s ∷ x ∷ a → IsBareComponent w ts (syntax.start m t)
     define : {w : Setting} {ts : List Lexeme} {a : List Lexeme} {x : Lexeme} {n : List ℕ} {m : Method} {t : Pattern} → method_of x ≡ Some m → IsPattern a t
-        → ts ≡ identifier n ∷ x ∷ a → IsComponent w ts (syntax.define n m t)
+        → ts ≡ identifier n ∷ x ∷ a → IsBareComponent w ts (syntax.define n m t)
     div : {w : Setting} {ts : List Lexeme} {c : Component} {a : List Lexeme} {cs : List Component} {s : Spelling} → AreComponents w a cs
-        → ts ≡ keyword keywords.Div s ∷ sign OpenBrace ∷ (a ++ sign CloseBrace ∷ []) → c ≡ syntax.div (syntax.components_of cs) → IsComponent w ts c
+        → ts ≡ keyword keywords.Div s ∷ sign OpenBrace ∷ (a ++ sign CloseBrace ∷ []) → c ≡ syntax.div (syntax.components_of cs) → IsBareComponent w ts c
     include : {w : Setting} {ts : List Lexeme} {c : Component} {a b o : List Lexeme} {v : List ℕ} {p : Option (List ℕ)} {cs : List Component} {s : Spelling}
         → w ≡ content → IsLiteral a v → MayInherit b p → MayOverride o cs → ts ≡ keyword keywords.Include s ∷ (a ++ (b ++ o))
-        → c ≡ syntax.include (record { href = v; inherit = p; token = s.place }) (syntax.components_of cs) → IsComponent w ts c
+        → c ≡ syntax.include (record { href = v; inherit = p; token = s.place }) (syntax.components_of cs) → IsBareComponent w ts c
 
   -- [ "{" over* "}" ]
   pub data MayOverride : List Lexeme → List Component → Type 0 where

@@ -4,9 +4,11 @@ use Rattle.rng_model.specs.Tree.{group, interleave, choice}
 use Rattle.rnc_text.specs.declared.token.Keyword.TheVariants as keywords
 use Rattle.rnc_text.specs.declared.token.Sign.{Sign}
 use Rattle.rnc_text.specs.declared.token.Sign.TheVariants.{Equal, BarEqual, AndEqual, Comma, Bar, And, Question, Star, Plus, Minus, OpenBrace, CloseBrace}
-use Rattle.rnc_text.specs.declared.token.Sign.TheVariants.{OpenParenthesis, CloseParenthesis, Tilde}
+use Rattle.rnc_text.specs.declared.token.Sign.TheVariants.{OpenParenthesis, CloseParenthesis, OpenBracket, CloseBracket, Tilde}
 use Rattle.rnc_syntax.specs.declared.fault.Stop.{Stop}
 use Rattle.rnc_syntax.specs.declared.fault.Stop.TheVariants.{TooDeep}
+use Rattle.rnc_syntax.specs.declared.annotations.Role.{Role}
+use Rattle.rnc_syntax.specs.declared.annotations.Role.TheVariants as roles
 use Rattle.rnc_syntax.specs.declared.atoms.Opening.{Opening}
 use Rattle.rnc_syntax.specs.declared.atoms.Opening.TheVariants as openings
 use Rattle.rnc_syntax.specs.declared.syntax_tree.Method.{Method}
@@ -17,6 +19,49 @@ use Rattle.rnc_syntax.specs.Syntax.{joined_text, NameClass, DatatypeName, Mentio
 use Rattle.rnc_syntax.specs.Grammar.{Setting, content, override}
 use Rattle.rnc_syntax.specs.Combinators.{Outcome, ◌>>=◌, unexpected, follow, follow_keyword, after, after_keyword, word_at, identifier_at, segment_at}
 use Rattle.rnc_syntax.specs.Combinators.{either_way, many}
+
+-- ---- annotations
+
+-- what a token is in an annotation
+abbrev pub role_of : Lexeme → Role
+role_of (sign OpenBracket) = roles.Opens
+role_of (sign CloseBracket) = roles.Closes
+role_of (sign OpenBrace) = roles.Foreign
+role_of (sign CloseBrace) = roles.Foreign
+role_of (sign OpenParenthesis) = roles.Foreign
+role_of (sign CloseParenthesis) = roles.Foreign
+role_of _ = roles.Content
+
+-- the token in front with its role, and the tokens after it
+abbrev pub role_front : List Lexeme → Option (Role × List Lexeme)
+role_front [] = None
+role_front (x ∷ ts) = Some (role_of x, ts)
+
+-- one of four, by the role
+abbrev pub by_role : {A : Type 0} → Role → A → A → A → A → A
+by_role roles.Opens a b c d = a
+by_role roles.Closes a b c d = b
+by_role roles.Content a b c d = c
+by_role roles.Foreign a b c d = d
+
+-- with none there is a value, and with more the function of one less
+abbrev pub one_less : {A : Type 0} → ℕ → A → (ℕ → A) → A
+one_less zero a f = a
+one_less (suc n) a f = f n
+
+-- the rest of an annotation inside which so many others are open
+unfoldable pub annotation_end : ℕ → List Lexeme → Outcome (Unit {0})
+annotation_end n [] = unexpected []
+annotation_end n (x ∷ ts) = by_role (role_of x) (annotation_end (suc n) ts) (one_less n (Ok (tt, ts)) (λ m. annotation_end m ts)) (annotation_end n ts)
+    (unexpected (x ∷ ts))
+
+-- an annotation, if one stands in front
+unfoldable pub annotation_at : List Lexeme → Outcome (Unit {0})
+annotation_at ts = either_way (follow OpenBracket ts) (Ok (tt, ts)) (annotation_end 0)
+
+-- an annotation, if one stands in front, and what is read behind it
+abbrev pub annotated : {A : Type 0} → (List Lexeme → Outcome A) → List Lexeme → Outcome A
+annotated read ts = annotation_at ts >>= λ x. read x.1
 
 -- ---- literals, parameters, and what mentions hand on
 
@@ -33,11 +78,15 @@ parameter_at ts = do
   value ← literal_at equal.1
   Ok ((name.0, value.0), value.1)
 
--- the same tokens, where a word stands in front
-abbrev pub word_front : List Lexeme → Option (List Lexeme)
-word_front (identifier w ∷ ts) = Some (identifier w ∷ ts)
-word_front (keyword k s ∷ ts) = Some (keyword k s ∷ ts)
-word_front _ = None
+-- the same tokens, where a word or an annotation stands in front
+abbrev pub parameter_front : List Lexeme → Option (List Lexeme)
+parameter_front (identifier w ∷ ts) = Some (identifier w ∷ ts)
+parameter_front (keyword k s ∷ ts) = Some (keyword k s ∷ ts)
+parameter_front (sign OpenBracket ∷ ts) = Some (sign OpenBracket ∷ ts)
+parameter_front _ = None
+
+unfoldable pub annotated_parameter_at : List Lexeme → Outcome (List ℕ × List ℕ)
+annotated_parameter_at ts = annotated parameter_at ts
 
 unfoldable pub in_braces_at : {A : Type 0} → (List Lexeme → Outcome A) → List Lexeme → Outcome A
 in_braces_at inner ts = do
@@ -46,7 +95,7 @@ in_braces_at inner ts = do
   Ok (body.0, end.1)
 
 unfoldable pub parameters_at : List Lexeme → Outcome (List (List ℕ × List ℕ))
-parameters_at ts = either_way (follow OpenBrace ts) (Ok ([], ts)) (in_braces_at (many word_front parameter_at))
+parameters_at ts = either_way (follow OpenBrace ts) (Ok ([], ts)) (in_braces_at (many parameter_front annotated_parameter_at))
 
 -- a word after `=`
 unfoldable pub word_after_equal : List Lexeme → Outcome (Option (List ℕ))
@@ -74,14 +123,17 @@ class_in_parens class ts = do
   end ← after CloseParenthesis body.1
   Ok (body.0, end.1)
 
+unfoldable pub bare_basic_with : (List Lexeme → Outcome NameClass) → List Lexeme → Outcome NameClass
+bare_basic_with class (identifier w ∷ ts) = Ok (syntax.name_is (syntax.unprefixed w), ts)
+bare_basic_with class (keyword k s ∷ ts) = Ok (syntax.name_is (syntax.unprefixed s.text), ts)
+bare_basic_with class (cname p l ∷ ts) = Ok (syntax.name_is (syntax.prefixed p l), ts)
+bare_basic_with class (ns_name p ∷ ts) = Ok (syntax.ns_name p, ts)
+bare_basic_with class (sign Star ∷ ts) = Ok (syntax.any_name, ts)
+bare_basic_with class (sign OpenParenthesis ∷ ts) = class_in_parens class ts
+bare_basic_with class ts = unexpected ts
+
 unfoldable pub basic_with : (List Lexeme → Outcome NameClass) → List Lexeme → Outcome NameClass
-basic_with class (identifier w ∷ ts) = Ok (syntax.name_is (syntax.unprefixed w), ts)
-basic_with class (keyword k s ∷ ts) = Ok (syntax.name_is (syntax.unprefixed s.text), ts)
-basic_with class (cname p l ∷ ts) = Ok (syntax.name_is (syntax.prefixed p l), ts)
-basic_with class (ns_name p ∷ ts) = Ok (syntax.ns_name p, ts)
-basic_with class (sign Star ∷ ts) = Ok (syntax.any_name, ts)
-basic_with class (sign OpenParenthesis ∷ ts) = class_in_parens class ts
-basic_with class ts = unexpected ts
+basic_with class ts = annotated (bare_basic_with class) ts
 
 -- classes after the first one, each with `|` before it
 unfoldable pub choice_with : (List Lexeme → Outcome NameClass) → NameClass → List Lexeme → Outcome NameClass
@@ -102,8 +154,13 @@ abbrev pub excepted : Option (List ℕ) → NameClass → NameClass
 excepted None c = syntax.any_except c
 excepted (Some p) c = syntax.ns_except p c
 
+-- behind an annotation
+unfoldable pub bare_class_with : (List Lexeme → Outcome NameClass) → List Lexeme → Outcome NameClass
+bare_class_with class ts = either_way (except_front ts) (bare_basic_with class ts >>= λ c. choice_with (basic_with class) c.0 c.1) (λ x. basic_with class x.1
+    >>= λ c. Ok (excepted x.0 c.0, c.1))
+
 unfoldable pub class_with : (List Lexeme → Outcome NameClass) → List Lexeme → Outcome NameClass
-class_with basic ts = either_way (except_front ts) (basic ts >>= λ c. choice_with basic c.0 c.1) (λ x. basic x.1 >>= λ c. Ok (excepted x.0 c.0, c.1))
+class_with class ts = annotated (bare_class_with class) ts
 
 -- ---- patterns and components
 
@@ -124,7 +181,7 @@ contents_with inside w ts = after OpenBrace ts >>= λ x. in_braces_at (inside.co
 -- a name class and a pattern in braces
 unfoldable pub named_with : Inside → (NameClass → Pattern → Pattern) → List Lexeme → Outcome Pattern
 named_with inside make ts = do
-  class ← class_with (basic_with inside.class) ts
+  class ← class_with inside.class ts
   body ← braced_with inside class.1
   Ok (make class.0 body.0, body.1)
 
@@ -189,8 +246,11 @@ opened_with inside openings.Mixed ts = braced_with inside ts >>= λ x. Ok (synta
 opened_with inside openings.Grammar ts = contents_with inside content ts >>= λ cs. Ok (syntax.grammar (syntax.components_of cs.0), cs.1)
 opened_with inside openings.Parenthesis ts = parens_with inside ts
 
+unfoldable pub bare_primary_with : Inside → List Lexeme → Outcome Pattern
+bare_primary_with inside ts = either_way (opening_front ts) (atom_at ts) (λ x. opened_with inside x.0 x.1)
+
 unfoldable pub primary_with : Inside → List Lexeme → Outcome Pattern
-primary_with inside ts = either_way (opening_front ts) (atom_at ts) (λ x. opened_with inside x.0 x.1)
+primary_with inside ts = annotated (bare_primary_with inside) ts
 
 -- what a sign after a primary makes of it
 abbrev pub repeated : Pattern → List Lexeme → Pattern × List Lexeme
@@ -233,9 +293,13 @@ unfoldable pub data_with : Inside → DatatypeName → List (List ℕ × List �
 data_with inside d ps ts = either_way (follow Minus ts) (pattern_from inside (syntax.data_of d ps) ts) (λ us. primary_with inside us
     >>= λ t. Ok (syntax.data_except d ps t.0, t.1))
 
-unfoldable pub pattern_with : Inside → List Lexeme → Outcome Pattern
-pattern_with inside ts = either_way (data_front ts) (primary_with inside ts >>= λ t. pattern_from inside t.0 t.1) (λ d. parameters_at d.1
+-- behind an annotation
+unfoldable pub bare_pattern_with : Inside → List Lexeme → Outcome Pattern
+bare_pattern_with inside ts = either_way (data_front ts) (bare_primary_with inside ts >>= λ t. pattern_from inside t.0 t.1) (λ d. parameters_at d.1
     >>= λ ps. data_with inside d.0 ps.0 ps.1)
+
+unfoldable pub pattern_with : Inside → List Lexeme → Outcome Pattern
+pattern_with inside ts = annotated (bare_pattern_with inside) ts
 
 unfoldable pub method_at : List Lexeme → Outcome Method
 method_at (sign Equal ∷ ts) = Ok (methods.Plain, ts)
@@ -243,20 +307,26 @@ method_at (sign BarEqual ∷ ts) = Ok (methods.Choice, ts)
 method_at (sign AndEqual ∷ ts) = Ok (methods.Interleave, ts)
 method_at ts = unexpected ts
 
--- the place of `include`, if it stands in front, and the tokens after it
-abbrev pub include_front : List Lexeme → Option (ℕ × List Lexeme)
-include_front (keyword keywords.Include s ∷ ts) = Some (s.place, ts)
-include_front _ = None
+-- what there is in a grammar, and not in the braces of an include
+abbrev pub in_content : {A : Type 0} → Setting → Option A → Option A
+in_content content o = o
+in_content override o = None
+
+-- the place of `include`, if it stands in front and may, and the tokens after it
+abbrev pub include_front : Setting → List Lexeme → Option (ℕ × List Lexeme)
+include_front w (keyword keywords.Include s ∷ ts) = in_content w (Some (s.place, ts))
+include_front w _ = None
 
 unfoldable pub overrides_with : Inside → List Lexeme → Outcome (List Component)
 overrides_with inside ts = either_way (follow OpenBrace ts) (Ok ([], ts)) (λ us. contents_with inside override ts)
 
--- a component begins here
+-- a component begins here, or its annotation
 abbrev pub begins_component : Setting → List Lexeme → Bool
 begins_component w (identifier n ∷ ts) = true
 begins_component w (keyword keywords.Start s ∷ ts) = true
 begins_component w (keyword keywords.Div s ∷ ts) = true
 begins_component content (keyword keywords.Include s ∷ ts) = true
+begins_component w (sign OpenBracket ∷ ts) = true
 begins_component w _ = false
 
 -- the same tokens, where a component begins
@@ -274,12 +344,15 @@ abbrev pub assigned : Option (List ℕ) → Method → Pattern → Component
 assigned None m t = syntax.start m t
 assigned (Some n) m t = syntax.define n m t
 
-unfoldable pub component_with : Inside → Setting → List Lexeme → Outcome Component
-component_with inside w ts = either_way (follow_keyword keywords.Div ts)
-    (either_way (include_front ts)
+unfoldable pub bare_component_with : Inside → Setting → List Lexeme → Outcome Component
+bare_component_with inside w ts = either_way (follow_keyword keywords.Div ts)
+    (either_way (include_front w ts)
     (assigned_at ts >>= λ x. pattern_with inside x.1 >>= λ t. Ok (assigned x.0.0 x.0.1 t.0, t.1))
     (λ x. mention_at x.0 x.1 >>= λ m. overrides_with inside m.1 >>= λ cs. Ok (syntax.include m.0 (syntax.components_of cs.0), cs.1)))
     (λ us. contents_with inside w us >>= λ cs. Ok (syntax.div (syntax.components_of cs.0), cs.1))
+
+unfoldable pub component_with : Inside → Setting → List Lexeme → Outcome Component
+component_with inside w ts = annotated (bare_component_with inside w) ts
 
 unfoldable pub components_with : Inside → Setting → List Lexeme → Outcome (List Component)
 components_with inside w ts = many (component_front w) (component_with inside w) ts
@@ -288,7 +361,7 @@ components_with inside w ts = many (component_front w) (component_with inside w)
 unfoldable pub inside_at : ℕ → Inside
 inside_at zero = record { class = λ ts. Err TooDeep; pattern = λ ts. Err TooDeep; components = λ w ts. Err TooDeep }
 inside_at (suc n) = record {
-  class = class_with (basic_with (inside_at n).class);
+  class = class_with (inside_at n).class;
   pattern = pattern_with (inside_at n);
   components = components_with (inside_at n);
 }
@@ -335,18 +408,32 @@ begins_method (sign BarEqual ∷ ts) = true
 begins_method (sign AndEqual ∷ ts) = true
 begins_method _ = false
 
--- the body is a grammar: it has no tokens, or begins with a component's keyword, or with an identifier and a method
-abbrev pub is_grammar_body : List Lexeme → Bool
-is_grammar_body [] = true
-is_grammar_body (keyword keywords.Start s ∷ ts) = true
-is_grammar_body (keyword keywords.Div s ∷ ts) = true
-is_grammar_body (keyword keywords.Include s ∷ ts) = true
-is_grammar_body (identifier n ∷ ts) = begins_method ts
-is_grammar_body _ = false
+-- The body is a grammar: it begins with a component's keyword, or with an identifier and a method; or it has no tokens,
+-- where it may have none.
+abbrev pub is_grammar_body : Bool → List Lexeme → Bool
+is_grammar_body may_be_empty [] = may_be_empty
+is_grammar_body may_be_empty (keyword keywords.Start s ∷ ts) = true
+is_grammar_body may_be_empty (keyword keywords.Div s ∷ ts) = true
+is_grammar_body may_be_empty (keyword keywords.Include s ∷ ts) = true
+is_grammar_body may_be_empty (identifier n ∷ ts) = begins_method ts
+is_grammar_body may_be_empty _ = false
+
+-- a body that is a pattern, behind an annotation
+abbrev pub pattern_body_with : Inside → List Lexeme → Outcome Body
+pattern_body_with inside ts = bare_pattern_with inside ts >>= λ t. Ok (syntax.pattern_body t.0, t.1)
+
+-- a body without an annotation in front
+unfoldable pub bare_body_with : Inside → List Lexeme → Outcome Body
+bare_body_with inside ts = if is_grammar_body true ts then (components_with inside content ts
+    >>= λ cs. Ok (syntax.grammar_body (syntax.components_of cs.0), cs.1)) else pattern_body_with inside ts
+
+-- a body behind the annotation of its pattern or its first component
+unfoldable pub annotated_body_with : Inside → List Lexeme → Outcome Body
+annotated_body_with inside ts = if is_grammar_body false ts then (bare_component_with inside content ts >>= λ c. components_with inside content c.1
+    >>= λ cs. Ok (syntax.grammar_body (syntax.components_of (c.0 ∷ cs.0)), cs.1)) else pattern_body_with inside ts
 
 unfoldable pub body_with : Inside → List Lexeme → Outcome Body
-body_with inside ts = if is_grammar_body ts then (components_with inside content ts >>= λ cs. Ok (syntax.grammar_body (syntax.components_of cs.0), cs.1)) else
-    (pattern_with inside ts >>= λ t. Ok (syntax.pattern_body t.0, t.1))
+body_with inside ts = either_way (follow OpenBracket ts) (bare_body_with inside ts) (λ us. annotation_end 0 us >>= λ x. annotated_body_with inside x.1)
 
 -- the value, where no tokens are left
 abbrev pub if_ended : {A : Type 0} → A → List Lexeme → Result A Stop

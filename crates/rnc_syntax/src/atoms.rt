@@ -100,7 +100,7 @@ impl Reader {
         }
     }
 
-    /// Whether a component begins here.
+    /// Whether a component begins here, or its annotation.
     pub fn begins_component(self, setting: Setting, tokens: &[Token<'_>]) -> bool
         ensures { result ≡ is_component_front (setting_of setting) (lexemes_in self.count tokens.now) }
     {
@@ -113,6 +113,7 @@ impl Reader {
                     Setting::Content => true,
                     Setting::Override => false,
                 },
+                TokenKind::Sign(Sign::OpenBracket) => true,
                 _ => false,
             },
             [] => false,
@@ -163,16 +164,21 @@ impl Reader {
         }
     }
 
-    /// The place of `include`, if it stands in front, and the tokens after it.
-    pub fn find_include<'t, 'a>(self, tokens: &'t [Token<'a>]) -> Option<(usize, &'t [Token<'a>])>
-        ensures reads { option_map (λ x. (x.0, lexemes_in self.count x.1.now)) result ≡ include_front (lexemes_in self.count tokens.now) }
+    /// The place of `include`, if it stands in front and may, and the tokens after it.
+    pub fn find_include<'t, 'a>(
+        self,
+        setting: Setting,
+        tokens: &'t [Token<'a>],
+    ) -> Option<(usize, &'t [Token<'a>])>
+        ensures reads { option_map (λ x. (x.0, lexemes_in self.count x.1.now)) result ≡ include_front (setting_of setting) (lexemes_in self.count tokens.now) }
         ensures shorter { IfSome result (λ x. length x.1.now < length tokens.now) }
     {
         match tokens {
             [first, rest @ ..] => match first.kind {
-                TokenKind::Keyword(Keyword::Include) => {
-                    Some((self.count.saturating_sub(rest.len()), rest))
-                }
+                TokenKind::Keyword(Keyword::Include) => match setting {
+                    Setting::Content => Some((self.count.saturating_sub(rest.len()), rest)),
+                    Setting::Override => None,
+                },
                 _ => None,
             },
             [] => None,

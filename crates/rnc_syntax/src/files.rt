@@ -3,6 +3,7 @@ ghost use Rattle.std.specs.Prelude.{◌≡◌, ◌<◌, ◌≤◌, map, length, 
 ghost use Rattle.rnc_syntax.specs.Lexeme.{lexemes_in};
 ghost use Rattle.rnc_syntax.specs.Fault.{Gives, stop_of};
 ghost use Rattle.rnc_syntax.specs.Productions.{
+  annotated_body_with,
   begins_declaration as is_declaration_front,
   begins_method as is_method_front,
   body_with,
@@ -54,10 +55,10 @@ impl Reader {
         }
     }
 
-    /// Whether what follows the declarations is a grammar: no tokens, a component's keyword, or an identifier and a
-    /// method.
-    fn begins_grammar(self, tokens: &[Token<'_>]) -> bool
-        ensures { result ≡ is_grammar_body (lexemes_in self.count tokens.now) }
+    /// Whether what follows the declarations is a grammar: a component's keyword, or an identifier and a method; or no
+    /// tokens, where it may have none.
+    fn begins_grammar(self, may_be_empty: bool, tokens: &[Token<'_>]) -> bool
+        ensures { result ≡ is_grammar_body may_be_empty (lexemes_in self.count tokens.now) }
     {
         match tokens {
             [first, rest @ ..] => match first.kind {
@@ -69,7 +70,7 @@ impl Reader {
                 }
                 _ => false,
             },
-            [] => true,
+            [] => may_be_empty,
         }
     }
 
@@ -179,7 +180,7 @@ impl Reader {
     }
 
     /// What follows the declarations.
-    #[tactic(auto, unfolding(crate::specs::Productions::body_with))]
+    #[tactic(auto, unfolding(crate::specs::Productions::body_with, crate::specs::Productions::bare_body_with))]
     fn body<'t, 'a>(
         self,
         levels: u8,
@@ -188,11 +189,36 @@ impl Reader {
         ensures reads { Gives stop_of (λ x. (body_of x.0, lexemes_in self.count x.1.now)) result (body_with (inside_at levels) (lexemes_in self.count tokens.now)) }
         ensures shorter { IfOk result (λ x. length x.1.now ≤ length tokens.now) }
     {
-        if self.begins_grammar(tokens) {
+        if let Some(rest) = self.find_after(Sign::OpenBracket, tokens) {
+            let rest = self.annotation_end(rest)?;
+            return self.annotated_body(levels, rest);
+        }
+        if self.begins_grammar(true, tokens) {
             let (components, rest) = self.components(levels, Setting::Content, tokens)?;
             Ok((Body::Grammar(components), rest))
         } else {
-            let (pattern, rest) = self.pattern(levels, tokens)?;
+            let (pattern, rest) = self.bare_pattern(levels, tokens)?;
+            Ok((Body::Pattern(pattern), rest))
+        }
+    }
+
+    /// What follows the declarations, behind the annotation of its pattern or its first component.
+    #[tactic(auto, unfolding(crate::specs::Productions::annotated_body_with))]
+    fn annotated_body<'t, 'a>(
+        self,
+        levels: u8,
+        tokens: &'t [Token<'a>],
+    ) -> Result<(Body<'a>, &'t [Token<'a>]), ReadFault>
+        ensures reads { Gives stop_of (λ x. (body_of x.0, lexemes_in self.count x.1.now)) result (annotated_body_with (inside_at levels) (lexemes_in self.count tokens.now)) }
+        ensures shorter { IfOk result (λ x. length x.1.now ≤ length tokens.now) }
+    {
+        if self.begins_grammar(false, tokens) {
+            let (first, rest) = self.bare_component(levels, Setting::Content, tokens)?;
+            let (mut components, rest) = self.components(levels, Setting::Content, rest)?;
+            components.insert(0, first)?;
+            Ok((Body::Grammar(components), rest))
+        } else {
+            let (pattern, rest) = self.bare_pattern(levels, tokens)?;
             Ok((Body::Pattern(pattern), rest))
         }
     }

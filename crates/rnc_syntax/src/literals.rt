@@ -3,7 +3,7 @@ ghost use Rattle.std.specs.Prelude.{◌≡◌, ◌<◌, ◌≤◌, ℕ, ◌-◌,
 ghost use Rattle.rnc_syntax.specs.Lexeme.{lexemes_in};
 ghost use Rattle.rnc_syntax.specs.Combinators.{follow, many, segment_at, with_front};
 ghost use Rattle.rnc_syntax.specs.Fault.{Gives, stop_of};
-ghost use Rattle.rnc_syntax.specs.Productions.{inherit_at, literal_at, mention_at, parameter_at, parameters_at, word_front};
+ghost use Rattle.rnc_syntax.specs.Productions.{annotated_parameter_at, inherit_at, literal_at, mention_at, parameter_at, parameter_front, parameters_at};
 ghost use Rattle.rnc_syntax.specs.SyntaxView.{mention_of, parameter_of, text_of};
 ghost use Rattle.rnc_text.specs.declared.token.Sign.TheVariants.{Tilde};
 
@@ -47,7 +47,7 @@ impl Reader {
         Ok((segments, rest))
     }
 
-    /// A parameter: `word "=" literal`.
+    /// A parameter without its annotation, or what `datatypes` declares: `word "=" literal`.
     #[tactic(auto, unfolding(crate::specs::Productions::parameter_at))]
     pub fn parameter<'t, 'a>(
         self,
@@ -60,6 +60,19 @@ impl Reader {
         let rest = self.skip(Sign::Equal, rest)?;
         let (value, rest) = self.literal(rest)?;
         Ok((Parameter { name, value }, rest))
+    }
+
+    /// A parameter of a datatype: `[annotation] word "=" literal`.
+    #[tactic(auto, unfolding(crate::specs::Productions::annotated_parameter_at))]
+    fn annotated_parameter<'t, 'a>(
+        self,
+        tokens: &'t [Token<'a>],
+    ) -> Result<(Parameter<'a>, &'t [Token<'a>]), ReadFault>
+        ensures reads { Gives stop_of (λ x. (parameter_of x.0, lexemes_in self.count x.1.now)) result (annotated_parameter_at (lexemes_in self.count tokens.now)) }
+        ensures shorter { IfOk result (λ x. length x.1.now < length tokens.now) }
+    {
+        let rest = self.annotation(tokens)?;
+        self.parameter(rest)
     }
 
     /// The parameters of a datatype, in braces, if a brace opens: `["{" param* "}"]`.
@@ -86,13 +99,13 @@ impl Reader {
         self,
         tokens: &'t [Token<'a>],
     ) -> Result<(Vec<Parameter<'a>>, &'t [Token<'a>]), ReadFault>
-        ensures reads { Gives stop_of (λ x. (map parameter_of x.0.items, lexemes_in self.count x.1.now)) result (many word_front parameter_at (lexemes_in self.count tokens.now)) }
+        ensures reads { Gives stop_of (λ x. (map parameter_of x.0.items, lexemes_in self.count x.1.now)) result (many parameter_front annotated_parameter_at (lexemes_in self.count tokens.now)) }
         ensures shorter { IfOk result (λ x. length x.1.now ≤ length tokens.now) }
     {
         let mut parameters = Vec::new(self.alloc);
         let mut rest = tokens;
-        while begins_with_word(rest) {
-            let (next, after) = self.parameter(rest)?;
+        while begins_parameter(rest) {
+            let (next, after) = self.annotated_parameter(rest)?;
             parameters.push(next)?;
             rest = onward(after);
         }
@@ -141,14 +154,15 @@ impl Reader {
     }
 }
 
-/// Whether a word stands in front.
-fn begins_with_word(tokens: &[Token<'_>]) -> bool
-    ensures { (count : ℕ) → word_front (lexemes_in count tokens.now) ≡ (if result then Some (lexemes_in count tokens.now) else None) }
+/// Whether a parameter begins here, or its annotation.
+fn begins_parameter(tokens: &[Token<'_>]) -> bool
+    ensures { (count : ℕ) → parameter_front (lexemes_in count tokens.now) ≡ (if result then Some (lexemes_in count tokens.now) else None) }
 {
     match tokens {
         [first, ..] => match first.kind {
             TokenKind::Identifier | TokenKind::QuotedIdentifier => true,
             TokenKind::Keyword(_) => true,
+            TokenKind::Sign(Sign::OpenBracket) => true,
             _ => false,
         },
         [] => false,

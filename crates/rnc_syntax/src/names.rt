@@ -3,7 +3,17 @@ ghost use Rattle.std.specs.Prelude.{◌≡◌, ◌<◌, ◌≤◌, map, option_m
 ghost use Rattle.rnc_syntax.specs.Lexeme.{lexemes_in, prefix_in, local_in};
 ghost use Rattle.rnc_syntax.specs.Combinators.{follow, many, with_front};
 ghost use Rattle.rnc_syntax.specs.Fault.{Gives, stop_of};
-ghost use Rattle.rnc_syntax.specs.Productions.{basic_with, choice_with, class_with, except_front, excepted, inside_at, wide_front};
+ghost use Rattle.rnc_syntax.specs.Productions.{
+  bare_basic_with,
+  bare_class_with,
+  basic_with,
+  choice_with,
+  class_with,
+  except_front,
+  excepted,
+  inside_at,
+  wide_front,
+};
 ghost use Rattle.rnc_syntax.specs.Syntax as syntax;
 ghost use Rattle.rnc_syntax.specs.SyntaxView.{class_of};
 ghost use Rattle.rnc_text.specs.declared.token.Sign.TheVariants.{Bar};
@@ -77,7 +87,7 @@ impl Reader {
     }
 
     /// A name class that stands in so many brackets less than may be open:
-    /// `basic | basic ("|" basic)+ | (nsName | "*") "-" basic`.
+    /// `basic | basic ("|" basic)+ | [annotation] (nsName | "*") "-" basic`.
     #[cycle(classes)]
     #[tactic(auto, unfolding(crate::specs::Productions::class_with))]
     pub fn class<'t, 'a>(
@@ -85,7 +95,22 @@ impl Reader {
         levels: u8,
         tokens: &'t [Token<'a>],
     ) -> Result<(NameClass<'a>, &'t [Token<'a>]), ReadFault>
-        ensures reads { Gives stop_of (λ x. (class_of x.0, lexemes_in self.count x.1.now)) result (class_with (basic_with (inside_at levels).class) (lexemes_in self.count tokens.now)) }
+        ensures reads { Gives stop_of (λ x. (class_of x.0, lexemes_in self.count x.1.now)) result (class_with (inside_at levels).class (lexemes_in self.count tokens.now)) }
+        ensures shorter { IfOk result (λ x. length x.1.now < length tokens.now) }
+    {
+        let rest = self.annotation(tokens)?;
+        self.bare_class(levels, rest)
+    }
+
+    /// A name class behind an annotation.
+    #[cycle(classes)]
+    #[tactic(auto, unfolding(crate::specs::Productions::bare_class_with))]
+    fn bare_class<'t, 'a>(
+        self,
+        levels: u8,
+        tokens: &'t [Token<'a>],
+    ) -> Result<(NameClass<'a>, &'t [Token<'a>]), ReadFault>
+        ensures reads { Gives stop_of (λ x. (class_of x.0, lexemes_in self.count x.1.now)) result (bare_class_with (inside_at levels).class (lexemes_in self.count tokens.now)) }
         ensures shorter { IfOk result (λ x. length x.1.now < length tokens.now) }
     {
         match self.find_except(tokens) {
@@ -95,7 +120,7 @@ impl Reader {
                 Ok((except(prefix, class), rest))
             }
             None => {
-                let (class, rest) = self.basic(levels, tokens)?;
+                let (class, rest) = self.bare_basic(levels, tokens)?;
                 self.choice(levels, class, rest)
             }
         }
@@ -144,15 +169,30 @@ impl Reader {
         Ok((all, rest))
     }
 
-    /// `word | CName | nsName | "*" | "(" class ")"`.
+    /// `[annotation] ( word | CName | nsName | "*" | "(" class ")" )`.
     #[cycle(classes)]
-    #[tactic(auto, unfolding(crate::specs::Productions::basic_with, crate::specs::Productions::class_in_parens))]
+    #[tactic(auto, unfolding(crate::specs::Productions::basic_with))]
     fn basic<'t, 'a>(
         self,
         levels: u8,
         tokens: &'t [Token<'a>],
     ) -> Result<(NameClass<'a>, &'t [Token<'a>]), ReadFault>
         ensures reads { Gives stop_of (λ x. (class_of x.0, lexemes_in self.count x.1.now)) result (basic_with (inside_at levels).class (lexemes_in self.count tokens.now)) }
+        ensures shorter { IfOk result (λ x. length x.1.now < length tokens.now) }
+    {
+        let rest = self.annotation(tokens)?;
+        self.bare_basic(levels, rest)
+    }
+
+    /// `word | CName | nsName | "*" | "(" class ")"`.
+    #[cycle(classes)]
+    #[tactic(auto, unfolding(crate::specs::Productions::bare_basic_with, crate::specs::Productions::class_in_parens))]
+    fn bare_basic<'t, 'a>(
+        self,
+        levels: u8,
+        tokens: &'t [Token<'a>],
+    ) -> Result<(NameClass<'a>, &'t [Token<'a>]), ReadFault>
+        ensures reads { Gives stop_of (λ x. (class_of x.0, lexemes_in self.count x.1.now)) result (bare_basic_with (inside_at levels).class (lexemes_in self.count tokens.now)) }
         ensures shorter { IfOk result (λ x. length x.1.now < length tokens.now) }
     {
         match tokens {

@@ -4,6 +4,9 @@ ghost use Rattle.rnc_syntax.specs.Lexeme.{lexemes_in};
 ghost use Rattle.rnc_syntax.specs.Combinators.{follow, many, with_front};
 ghost use Rattle.rnc_syntax.specs.Fault.{Gives, stop_of};
 ghost use Rattle.rnc_syntax.specs.Productions.{
+  bare_component_with,
+  bare_pattern_with,
+  bare_primary_with,
   braced_with,
   component_with,
   components_with,
@@ -152,6 +155,21 @@ impl Reader {
         ensures reads { Gives stop_of (λ x. (pattern_of x.0, lexemes_in self.count x.1.now)) result (primary_with (inside_at levels) (lexemes_in self.count tokens.now)) }
         ensures shorter { IfOk result (λ x. length x.1.now < length tokens.now) }
     {
+        let rest = self.annotation(tokens)?;
+        self.bare_primary(levels, rest)
+    }
+
+    /// The same, behind its annotation.
+    #[cycle(patterns)]
+    #[tactic(auto, unfolding(crate::specs::Productions::bare_primary_with))]
+    fn bare_primary<'t, 'a>(
+        self,
+        levels: u8,
+        tokens: &'t [Token<'a>],
+    ) -> Result<(Pattern<'a>, &'t [Token<'a>]), ReadFault>
+        ensures reads { Gives stop_of (λ x. (pattern_of x.0, lexemes_in self.count x.1.now)) result (bare_primary_with (inside_at levels) (lexemes_in self.count tokens.now)) }
+        ensures shorter { IfOk result (λ x. length x.1.now < length tokens.now) }
+    {
         match self.find_opening(tokens) {
             Some((opening, rest)) => self.opened(levels, opening, rest),
             None => self.atom(tokens),
@@ -265,9 +283,24 @@ impl Reader {
         ensures reads { Gives stop_of (λ x. (pattern_of x.0, lexemes_in self.count x.1.now)) result (pattern_with (inside_at levels) (lexemes_in self.count tokens.now)) }
         ensures shorter { IfOk result (λ x. length x.1.now < length tokens.now) }
     {
+        let rest = self.annotation(tokens)?;
+        self.bare_pattern(levels, rest)
+    }
+
+    /// The same, behind an annotation.
+    #[cycle(patterns)]
+    #[tactic(auto, unfolding(crate::specs::Productions::bare_pattern_with))]
+    pub fn bare_pattern<'t, 'a>(
+        self,
+        levels: u8,
+        tokens: &'t [Token<'a>],
+    ) -> Result<(Pattern<'a>, &'t [Token<'a>]), ReadFault>
+        ensures reads { Gives stop_of (λ x. (pattern_of x.0, lexemes_in self.count x.1.now)) result (bare_pattern_with (inside_at levels) (lexemes_in self.count tokens.now)) }
+        ensures shorter { IfOk result (λ x. length x.1.now < length tokens.now) }
+    {
         match self.find_data(tokens) {
             None => {
-                let (primary, rest) = self.primary(levels, tokens)?;
+                let (primary, rest) = self.bare_primary(levels, tokens)?;
                 self.pattern_from(levels, primary, rest)
             }
             Some((type_name, rest)) => {
@@ -306,11 +339,27 @@ impl Reader {
         ensures reads { Gives stop_of (λ x. (component_of x.0, lexemes_in self.count x.1.now)) result (component_with (inside_at levels) (setting_of setting) (lexemes_in self.count tokens.now)) }
         ensures shorter { IfOk result (λ x. length x.1.now < length tokens.now) }
     {
+        let rest = self.annotation(tokens)?;
+        self.bare_component(levels, setting, rest)
+    }
+
+    /// One component, behind its annotation.
+    #[cycle(patterns)]
+    #[tactic(auto, unfolding(crate::specs::Productions::bare_component_with))]
+    pub fn bare_component<'t, 'a>(
+        self,
+        levels: u8,
+        setting: Setting,
+        tokens: &'t [Token<'a>],
+    ) -> Result<(Component<'a>, &'t [Token<'a>]), ReadFault>
+        ensures reads { Gives stop_of (λ x. (component_of x.0, lexemes_in self.count x.1.now)) result (bare_component_with (inside_at levels) (setting_of setting) (lexemes_in self.count tokens.now)) }
+        ensures shorter { IfOk result (λ x. length x.1.now < length tokens.now) }
+    {
         if let Some(rest) = self.find_after_keyword(Keyword::Div, tokens) {
             let (components, rest) = self.contents(levels, setting, rest)?;
             return Ok((Component::Div(components), rest));
         }
-        if let Some((place, rest)) = self.find_include(tokens) {
+        if let Some((place, rest)) = self.find_include(setting, tokens) {
             let (mention, rest) = self.mention(place, rest)?;
             let (components, rest) = self.overrides(levels, rest)?;
             return Ok((Component::Include(mention, components), rest));

@@ -54,7 +54,7 @@ fn read<'a>(alloc: Global, tokens: &[Token<'a>]) -> Result<File<'a>, SyntaxFault
 ///
 /// The tokens are all of the file's, in order. Of each its kind and its text count, and of the word `include` or
 /// `external` its place too, which the tree tells; where a token lies in the text does not matter. A sentence of the
-/// grammar has one syntax tree, and it is answered where the brackets nest within the limit; else the fault is
+/// grammar has one syntax tree, and it is answered where `{` and `(` nest within the limit; else the fault is
 ///
 /// - `TooDeep`, where at some token the `{` and `(` up to it exceed the `}` and `)` up to it by more than 128;
 /// - `Unexpected`, where they do so at none and the tokens are no sentence, with the place of the first token, from 1,
@@ -62,10 +62,11 @@ fn read<'a>(alloc: Global, tokens: &[Token<'a>]) -> Result<File<'a>, SyntaxFault
 ///
 /// `Memory` answers that there was no memory for the tree, and says nothing about the tokens.
 ///
-/// Takes time and memory in proportion to the tokens; the tree borrows their texts. Recurses as deep as the brackets
-/// nest.
+/// Annotations are skipped, however deep they nest, and leave no trace in the tree; their tokens count for places.
 ///
-/// RELAX NG Compact Syntax, "Syntax".
+/// Takes time and memory in proportion to the tokens; the tree borrows their texts. Recurses as deep as `{` and `(` nest.
+///
+/// RELAX NG Compact Syntax, "Syntax", "Annotations".
 #[tactic(auto, using(crate::proofs::CompletenessFiles::unique))]
 pub fn read_syntax<'a>(alloc: Global, tokens: &[Token<'a>]) -> Result<File<'a>, SyntaxFault>
     ensures tree { IfOk result (λ f. IsSyntaxTree (lexemes tokens.now) (file_of f)) }

@@ -1,5 +1,5 @@
--- Which characters are a blank, a comment or a token (RELAX NG Compact Syntax, "Lexical structure"). Annotations are left
--- out: square brackets are no signs, and `##` begins a comment as `#` does.
+-- Which characters are a blank, a comment or a token (RELAX NG Compact Syntax, "Lexical structure"). Documentation comments
+-- and `>>` are left out: `##` begins a comment as `#` does.
 use Rattle.std.specs.Prelude.{◌≡◌, ℕ, Bool, true, false, not, ◌||◌, ◌==◌, if◌then◌else◌, List, [], ◌∷◌, ◌++◌, Option, Some, None, codes}
 use Rattle.std.specs.List.{list_all}
 use Rattle.std.specs.Str.{bytes_eq}
@@ -41,7 +41,8 @@ sign_table =
     (codes "=", signs.Equal) ∷ (codes "|=", signs.BarEqual) ∷ (codes "&=", signs.AndEqual) ∷ (codes ",", signs.Comma) ∷
     (codes "|", signs.Bar) ∷ (codes "&", signs.And) ∷ (codes "?", signs.Question) ∷ (codes "*", signs.Star) ∷
     (codes "+", signs.Plus) ∷ (codes "-", signs.Minus) ∷ (codes "{", signs.OpenBrace) ∷ (codes "}", signs.CloseBrace) ∷
-    (codes "(", signs.OpenParenthesis) ∷ (codes ")", signs.CloseParenthesis) ∷ (codes "~", signs.Tilde) ∷ []
+    (codes "(", signs.OpenParenthesis) ∷ (codes ")", signs.CloseParenthesis) ∷ (codes "[", signs.OpenBracket) ∷
+    (codes "]", signs.CloseBracket) ∷ (codes "~", signs.Tilde) ∷ []
 
 -- what a table has for a text
 abbrev pub look_up : {A : Type 0} → List ℕ → List (List ℕ × A) → Option A

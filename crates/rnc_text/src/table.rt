@@ -61,6 +61,8 @@ pub fn single_sign(character: char) -> Option<Sign>
         '}' => Some(Sign::CloseBrace),
         '(' => Some(Sign::OpenParenthesis),
         ')' => Some(Sign::CloseParenthesis),
+        '[' => Some(Sign::OpenBracket),
+        ']' => Some(Sign::CloseBracket),
         '~' => Some(Sign::Tilde),
         _ => None,
     }

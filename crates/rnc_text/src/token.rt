@@ -57,6 +57,10 @@ pub enum Sign {
     OpenParenthesis,
     /// `)`
     CloseParenthesis,
+    /// `[`
+    OpenBracket,
+    /// `]`
+    CloseBracket,
     /// `~`
     Tilde,
 }

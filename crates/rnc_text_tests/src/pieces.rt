@@ -5,7 +5,7 @@ use rng_model::{is_name_char, is_name_start};
 use std::alloc::{AllocError, Global};
 
 /// The signs, each as it is written.
-const SIGNS: [(&str, Sign); 15] = [
+const SIGNS: [(&str, Sign); 17] = [
     ("=", Sign::Equal),
     ("|=", Sign::BarEqual),
     ("&=", Sign::AndEqual),
@@ -20,6 +20,8 @@ const SIGNS: [(&str, Sign); 15] = [
     ("}", Sign::CloseBrace),
     ("(", Sign::OpenParenthesis),
     (")", Sign::CloseParenthesis),
+    ("[", Sign::OpenBracket),
+    ("]", Sign::CloseBracket),
     ("~", Sign::Tilde),
 ];
 

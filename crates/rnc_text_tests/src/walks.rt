@@ -5,9 +5,9 @@ use rnc_text::{Character, Text, TextFault, Token, TokenKind, read_text, tokens};
 use std::alloc::{AllocError, Global};
 
 /// What the texts are made of.
-const LETTERS: [&str; 18] = [
+const LETTERS: [&str; 19] = [
     "\\", "x", "{", "}", "\\x{A}", "\\x{5c}", "\\x{22}", "\"", "'", "#", " ", "\n", "\r", ":", "*",
-    "|", "=", "-",
+    "|", "=", "-", "[",
 ];
 
 /// Whether the tokens are these.

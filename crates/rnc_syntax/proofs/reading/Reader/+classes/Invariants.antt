@@ -11,16 +11,22 @@ abbrev pub decreases-inner_class : goal.decreases-inner_class
 decreases-inner_class l = 8 * l.levels
 
 abbrev pub decreases-basic : goal.decreases-basic
-decreases-basic l = 8 * l.levels + 1
+decreases-basic l = 8 * l.levels + 2
+
+abbrev pub decreases-bare_basic : goal.decreases-bare_basic
+decreases-bare_basic l = 8 * l.levels + 1
 
 abbrev pub decreases-more_classes : goal.decreases-more_classes
-decreases-more_classes l = 8 * l.levels + 2
+decreases-more_classes l = 8 * l.levels + 3
 
 abbrev pub decreases-choice : goal.decreases-choice
-decreases-choice l = 8 * l.levels + 3
+decreases-choice l = 8 * l.levels + 4
 
 abbrev pub decreases-class : goal.decreases-class
-decreases-class l = 8 * l.levels + 4
+decreases-class l = 8 * l.levels + 6
+
+abbrev pub decreases-bare_class : goal.decreases-bare_class
+decreases-bare_class l = 8 * l.levels + 5
 
 abbrev pub invariant-more_classes-loop-after : goal.invariant-more_classes-loop-after
 invariant-more_classes-loop-after l = record {

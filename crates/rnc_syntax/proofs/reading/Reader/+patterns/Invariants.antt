@@ -19,37 +19,46 @@ abbrev pub decreases-contents : goal.decreases-contents
 decreases-contents l = 16 * l.levels + 1
 
 abbrev pub decreases-primary : goal.decreases-primary
-decreases-primary l = 16 * l.levels + 3
+decreases-primary l = 16 * l.levels + 4
+
+abbrev pub decreases-bare_primary : goal.decreases-bare_primary
+decreases-bare_primary l = 16 * l.levels + 3
 
 abbrev pub decreases-opened : goal.decreases-opened
 decreases-opened l = 16 * l.levels + 2
 
 abbrev pub decreases-particle : goal.decreases-particle
-decreases-particle l = 16 * l.levels + 4
+decreases-particle l = 16 * l.levels + 5
 
 abbrev pub decreases-more : goal.decreases-more
-decreases-more l = 16 * l.levels + 5
+decreases-more l = 16 * l.levels + 6
 
 abbrev pub decreases-members : goal.decreases-members
-decreases-members l = 16 * l.levels + 6
+decreases-members l = 16 * l.levels + 7
 
 abbrev pub decreases-pattern_from : goal.decreases-pattern_from
-decreases-pattern_from l = 16 * l.levels + 7
+decreases-pattern_from l = 16 * l.levels + 8
 
 abbrev pub decreases-data : goal.decreases-data
-decreases-data l = 16 * l.levels + 8
+decreases-data l = 16 * l.levels + 9
 
 abbrev pub decreases-pattern : goal.decreases-pattern
-decreases-pattern l = 16 * l.levels + 9
+decreases-pattern l = 16 * l.levels + 11
+
+abbrev pub decreases-bare_pattern : goal.decreases-bare_pattern
+decreases-bare_pattern l = 16 * l.levels + 10
 
 abbrev pub decreases-overrides : goal.decreases-overrides
 decreases-overrides l = 16 * l.levels + 2
 
 abbrev pub decreases-component : goal.decreases-component
-decreases-component l = 16 * l.levels + 10
+decreases-component l = 16 * l.levels + 13
+
+abbrev pub decreases-bare_component : goal.decreases-bare_component
+decreases-bare_component l = 16 * l.levels + 12
 
 abbrev pub decreases-components : goal.decreases-components
-decreases-components l = 16 * l.levels + 11
+decreases-components l = 16 * l.levels + 14
 
 abbrev pub invariant-more-loop-after : goal.invariant-more-loop-after
 invariant-more-loop-after l = record {

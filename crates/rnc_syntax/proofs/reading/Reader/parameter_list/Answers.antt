@@ -9,7 +9,7 @@ use Rattle.rnc_syntax.proofs.reading.Reader.parameter_list.Goals as goal
 pub returns-in_err-next-clause-reads : goal.returns-in_err-next-clause-reads
 returns-in_err-next-clause-reads c =
     let p = err_from_is_err_and c.from_residual.result c.from_residual.ensures.1 in
-    rw (p.1, p.2) (stops _ _ _ _ _ c.in_err-next.field-0.0 _ (rw c.loop-self-test.true at (c.begins_with_word.ensures c.args.self.count))
+    rw (p.1, p.2) (stops _ _ _ _ _ c.in_err-next.field-0.0 _ (rw c.loop-self-test.true at (c.begins_parameter.ensures c.args.self.count))
     c.in_err-next.ensures.reads refl c.loop-self.invariant.goes)
 
 pub loop-self-preserved : goal.loop-self-preserved
@@ -17,7 +17,7 @@ loop-self-preserved c =
     let e : map parameter_of c.push.new.self.items ≡ map parameter_of c.loop-self.parameters.items ++ parameter_of c.in_ok-next.next ∷ [] =
     rw c.in_ok-push.ensures.items (map_push _ c.loop-self.parameters.items c.in_ok-next.next) in
     record {
-      goes = rw (e, c.onward-rest.ensures) (goes_on _ _ _ _ _ _ _ _ (rw c.loop-self-test.true at (c.begins_with_word.ensures c.args.self.count))
+      goes = rw (e, c.onward-rest.ensures) (goes_on _ _ _ _ _ _ _ _ (rw c.loop-self-test.true at (c.begins_parameter.ensures c.args.self.count))
           c.in_ok-next.ensures.reads
           (omega (
             arith,
@@ -29,4 +29,4 @@ loop-self-preserved c =
     }
 
 pub returns-clause-reads : goal.returns-clause-reads
-returns-clause-reads c = is_done _ _ _ _ _ (rw c.loop-self-test.false at (c.begins_with_word.ensures c.args.self.count)) c.loop-self.invariant.goes
+returns-clause-reads c = is_done _ _ _ _ _ (rw c.loop-self-test.false at (c.begins_parameter.ensures c.args.self.count)) c.loop-self.invariant.goes

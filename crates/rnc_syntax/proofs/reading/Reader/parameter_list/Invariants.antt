@@ -1,15 +1,15 @@
 use Rattle.std.proofs.Common.{map, length, ◌≤◌}
 use Rattle.rnc_syntax.specs.Lexeme.{lexemes_in}
 use Rattle.rnc_syntax.specs.Combinators.{many}
-use Rattle.rnc_syntax.specs.Productions.{parameter_at, word_front}
+use Rattle.rnc_syntax.specs.Productions.{annotated_parameter_at, parameter_front}
 use Rattle.rnc_syntax.specs.SyntaxView.{parameter_of}
 use Rattle.rnc_syntax.proofs.Items.{Goes}
 use Rattle.rnc_syntax.proofs.reading.Reader.parameter_list.Given as goal
 
 abbrev pub invariant-loop-self : goal.invariant-loop-self
 invariant-loop-self l = record {
-  goes : Goes word_front parameter_at (map parameter_of l.parameters.items) (lexemes_in l.self.count l.rest)
-      (many word_front parameter_at (lexemes_in l.self.count l.tokens));
+  goes : Goes parameter_front annotated_parameter_at (map parameter_of l.parameters.items) (lexemes_in l.self.count l.rest)
+      (many parameter_front annotated_parameter_at (lexemes_in l.self.count l.tokens));
   within : length l.rest ≤ length l.tokens;
 }
 

@@ -1,0 +1,79 @@
+// Reading annotations, which leave no trace in the tree.
+ghost use Rattle.std.specs.Prelude.{◌≡◌, ◌<◌, ◌≤◌, option_map, length, IfOk, IfSome};
+ghost use Rattle.rnc_syntax.specs.Lexeme.{lexemes_in};
+ghost use Rattle.rnc_syntax.specs.Fault.{Gives, stop_of};
+ghost use Rattle.rnc_syntax.specs.Productions.{annotation_at, annotation_end, role_front};
+
+use crate::fault::ReadFault;
+use crate::reading::{Reader, onward};
+use rnc_text::{Sign, Token, TokenKind};
+
+/// What a token is in an annotation.
+///
+/// RELAX NG Compact Syntax, "Annotations".
+pub enum Role {
+    /// `[` opens an annotation inside it.
+    Opens,
+    /// `]` closes it, or the last one inside it.
+    Closes,
+    /// Content, whatever it says.
+    Content,
+    /// A brace or a parenthesis, which no annotation holds.
+    Foreign,
+}
+
+impl Reader {
+    /// What the token in front is in an annotation, and the tokens after it.
+    fn find_role<'t, 'a>(self, tokens: &'t [Token<'a>]) -> Option<(Role, &'t [Token<'a>])>
+        ensures reads { option_map (λ x. (x.0, lexemes_in self.count x.1.now)) result ≡ role_front (lexemes_in self.count tokens.now) }
+        ensures shorter { IfSome result (λ x. length x.1.now < length tokens.now) }
+    {
+        match tokens {
+            [first, rest @ ..] => match first.kind {
+                TokenKind::Sign(Sign::OpenBracket) => Some((Role::Opens, rest)),
+                TokenKind::Sign(Sign::CloseBracket) => Some((Role::Closes, rest)),
+                TokenKind::Sign(Sign::OpenBrace) => Some((Role::Foreign, rest)),
+                TokenKind::Sign(Sign::CloseBrace) => Some((Role::Foreign, rest)),
+                TokenKind::Sign(Sign::OpenParenthesis) => Some((Role::Foreign, rest)),
+                TokenKind::Sign(Sign::CloseParenthesis) => Some((Role::Foreign, rest)),
+                _ => Some((Role::Content, rest)),
+            },
+            [] => None,
+        }
+    }
+
+    /// The tokens behind an annotation whose `[` has been read.
+    pub fn annotation_end<'t, 'a>(
+        self,
+        tokens: &'t [Token<'a>],
+    ) -> Result<&'t [Token<'a>], ReadFault>
+        ensures reads { Gives stop_of (λ x. (tt, lexemes_in self.count x.now)) result (annotation_end 0 (lexemes_in self.count tokens.now)) }
+        ensures shorter { IfOk result (λ x. length x.now ≤ length tokens.now) }
+    {
+        let mut open = 0usize;
+        let mut rest = tokens;
+        while let Some((role, after)) = self.find_role(rest) {
+            match role {
+                Role::Opens => open += 1,
+                Role::Closes if open == 0 => return Ok(after),
+                Role::Closes => open -= 1,
+                Role::Content => {}
+                Role::Foreign => return Err(self.unexpected(rest)),
+            }
+            rest = onward(after);
+        }
+        Err(self.unexpected(rest))
+    }
+
+    /// The tokens behind an annotation, if one stands in front.
+    #[tactic(auto, unfolding(crate::specs::Productions::annotation_at))]
+    pub fn annotation<'t, 'a>(self, tokens: &'t [Token<'a>]) -> Result<&'t [Token<'a>], ReadFault>
+        ensures reads { Gives stop_of (λ x. (tt, lexemes_in self.count x.now)) result (annotation_at (lexemes_in self.count tokens.now)) }
+        ensures shorter { IfOk result (λ x. length x.now ≤ length tokens.now) }
+    {
+        match self.find_after(Sign::OpenBracket, tokens) {
+            None => Ok(tokens),
+            Some(rest) => self.annotation_end(rest),
+        }
+    }
+}
