@@ -1,26 +1,29 @@
 -- Documents in PYX: which tree some lines are, and where some break a clause.
 use Rattle.std.proofs.Common.{◌≡◌, ◌≢◌, ℕ, Bool, true, false, not, List, [], ◌∷◌, ◌++◌, length, codes, Option, Some, None, ◌∙◌, inl, inr, refl, sym, ap}
-use Rattle.std.proofs.Common.{arith, true≢false}
-use Rattle.std.specs.Prelude.{◌⊎◌, nat_le, ◌==◌, All}
+use Rattle.std.proofs.Common.{arith, subst, true≢false}
+use Rattle.std.specs.Prelude.{◌<◌, ◌≤◌, ◌⊎◌, nat_le, ◌==◌, All}
 use Rattle.std.specs.List.{list_all, AllByRecursion}
 use Rattle.std.specs.Str.{is_utf8, chars}
 use Rattle.std.proofs.lemmas.Bool.{and_parts, leb-true}
 use Rattle.std.proofs.lemmas.List.Elements.{All-from_recursion, All-cons, All-nil}
 use Rattle.std.proofs.lemmas.Str.{IsUtf8-from_is_utf8}
-use Rattle.rng_model.specs.Lists.{Repeats, at_first, here, later, there}
+use Rattle.rng_model.specs.Lists.{HasTwice, at_first, here, later, there}
 use Rattle.rng_model.specs.Characters.{is_ncname, is_xml_char}
 use Rattle.rng_model.specs.Document.{Attribute}
 use Rattle.rng_model.specs.Lines.{Line, lines, line_limit}
 use Rattle.rng_model.specs.Pyx.{Distinct, none, one_more, another_name, nothing_named}
 use Rattle.rng_model.specs.PyxLines.{IsNcname, IsName, alone, prefixed, StandsFor, at_end, itself, Said, WrittenName, start, attribute, text, end, instruction}
-use Rattle.rng_model.specs.PyxLines.{Says, says_start, says_attribute, says_text, says_end, says_instruction, IsGoodLine, no_lines, line_and}
+use Rattle.rng_model.specs.PyxLines.{Says, says_start, says_attribute, says_text, says_end, says_instruction, IsGoodLine, AreGoodLines, no_lines, line_and}
+use Rattle.rng_model.specs.PyxLines.{too_long, within as within_limit}
 use Rattle.rng_model.specs.PyxNamespaces.{none_written, written_and, WrittenAttribute, nothing as parted_nothing, declaration, other, Declares}
 use Rattle.rng_model.specs.PyxNamespaces.{default_namespace}
 use Rattle.rng_model.specs.PyxNamespaces.{prefix_declared, DeclaresNothing, Declaration, IsForbidden, of_xmlns_uri, of_xmlns, of_nothing, xml_as_another}
 use Rattle.rng_model.specs.PyxNamespaces.{another_as_xml, xml_uri, xmlns_uri, xmlns, HasNamespace, declared_here, xml_beforehand, no_default}
-use Rattle.rng_model.specs.PyxNamespaces.{declared_outside, IsUndeclared}
+use Rattle.rng_model.specs.PyxNamespaces.{declared_outside, IsUndeclared, Scope}
 use Rattle.rng_model.specs.PyxNamespaces.{element_name, with_prefix, none_left, expanded_and}
 use Rattle.rng_model.specs.PyxFaults.{HasKind, nothing}
+use Rattle.rng_model.specs.PyxClauses.{BreaksHere, alone as alone_broken, no_tag, none_to_end, other_name, text_outside, second_root, attributes, elements}
+use Rattle.rng_model.specs.PyxClauses.{joined_text}
 use Rattle.rng_model.specs.PyxClauses.{BeginsOtherwise, none_open, SaysTag, no_tags, EndsWithTag, element_prefix, namespaces, expanded_twice, repeated_name}
 use Rattle.rng_model.specs.PyxClauses.{Breaks, at_line}
 use Rattle.rng_model.specs.PyxTrees as trees
@@ -72,7 +75,7 @@ a_is_a_name : IsName (codes "a") name_a
 unfolding chars is_utf8 lib.Utf8.encode
 a_is_a_name = alone (is_name (codes "a") refl refl)
 
-nothing_repeats : {A : Type 0} → Repeats {A = A} [] → ⊥
+nothing_repeats : {A : Type 0} → HasTwice {A = A} [] → ⊥
 nothing_repeats r = elim r [ ]
 
 across_is : IsPyxDocument across (element_at 2 (record { ns = []; local = codes "a" }) [] (placed_and (text_at 5 (codes "xy")) none_placed) 5)
@@ -160,7 +163,7 @@ u_is_allowed forbidden = refuses forbidden refl refl where
       let bad : prefix_size (Some (codes "p")) ≡ prefix_size (Some (codes "xml")) = ap prefix_size (sym p ∙ e) in absurd (omega (arith, bad))
   refuses (another_as_xml n e) p u = let bad : length (codes "u") ≡ length xml_uri = ap length (sym u ∙ e) in absurd (omega (arith, bad))
 
-two_names : Repeats (with_p (codes "x") ∷ declares_p ∷ []) → ⊥
+two_names : HasTwice (with_p (codes "x") ∷ declares_p ∷ []) → ⊥
 two_names (at_first (there none_of_these)) = elim none_of_these [ ]
 two_names (later (at_first none_of_these)) = elim none_of_these [ ]
 two_names (later (later none_left_over)) = elim none_left_over [ ]
@@ -348,3 +351,48 @@ one_name_twice_breaks = at_line {before = whole (codes "(a") ∷ whole (codes "A
     (expanded_twice (declaration prefix_declared (declaration prefix_declared (other px_declares_nothing (other qx_declares_nothing parted_nothing))))
     (expanded_and (with_prefix (declared_here here)) (expanded_and (with_prefix (declared_here (there here))) none_left))
     (λ distinct. not_distinct distinct refl)))
+
+-- ---- a line that is too long breaks P10 and no other
+
+last_of : List Line → Option Line
+last_of [] = None
+last_of (l ∷ []) = Some l
+last_of (l ∷ m ∷ ls) = last_of (m ∷ ls)
+
+same_last : (front : List Line) (l : Line) (ls : List Line) → last_of (front ++ l ∷ ls) ≡ last_of (l ∷ ls)
+unfolding last_of
+same_last [] l ls = refl
+same_last (a ∷ []) l ls = refl
+same_last (a ∷ b ∷ front) l ls = same_last (b ∷ front) l ls
+
+IsWithin : Option Line → Type 0
+IsWithin None = Unit {0}
+IsWithin (Some l) = length l.bytes ≤ line_limit
+
+last_is_within : {l : Line} {ls : List Line} {first : Said} {said : List Said} → IsGoodLine l first → AreGoodLines ls said → IsWithin (last_of (l ∷ ls))
+unfolding last_of IsWithin
+last_is_within good_line no_lines = good_line.within
+last_is_within good_line (line_and next more) = last_is_within next more
+
+-- so a line that ends a tag whose lines say something is not too long
+tag_is_within : (before : List Line) (l : Line) {outer : Scope} {name : WrittenName} {written : List WrittenAttribute} →
+    EndsWithTag (before ++ l ∷ []) outer name written → length l.bytes ≤ line_limit
+unfolding last_of IsWithin
+tag_is_within before l tag =
+    let same : last_of (before ++ l ∷ []) ≡ last_of (tag.ends.front ++ tag.ends.tag ∷ tag.ends.others) = ap last_of tag.ends.parts in
+    let last : Some l ≡ last_of (tag.ends.tag ∷ tag.ends.others) = sym (same_last before l []) ∙ same ∙ same_last tag.ends.front tag.ends.tag tag.ends.others in
+    subst IsWithin (sym last) (last_is_within tag.says.first tag.says.attributes)
+
+too_long_breaks_one : {before behind : List Line} {l : Line} {clause : ℕ} → line_limit < length l.bytes → BreaksHere before l behind clause → clause ≡ 10
+too_long_breaks_one long (alone_broken (within_limit short broken)) = absurd (omega (arith, long, short))
+too_long_breaks_one long (alone_broken (too_long more)) = refl
+too_long_breaks_one long (no_tag short kind none_open_tag) = absurd (omega (arith, long, short))
+too_long_breaks_one long (none_to_end short kind opened) = absurd (omega (arith, long, short))
+too_long_breaks_one long (other_name short is opened first differs) = absurd (omega (arith, long, short))
+too_long_breaks_one long (text_outside short kind opened) = absurd (omega (arith, long, short))
+too_long_breaks_one long (second_root front rest root short kind opened parts kind_of_root) = absurd (omega (arith, long, short))
+too_long_breaks_one long (attributes kind tag many) = refl
+too_long_breaks_one long (elements kind opened many) = refl
+too_long_breaks_one long (joined_text ends many) = refl
+too_long_breaks_one long (namespaces tag last broken) = let short = tag_is_within _ _ tag in absurd (omega (arith, long, short))
+too_long_breaks_one long (repeated_name tag last broken) = let short = tag_is_within _ _ tag in absurd (omega (arith, long, short))

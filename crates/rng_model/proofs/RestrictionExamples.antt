@@ -10,7 +10,7 @@ use Rattle.rng_model.specs.Table.{Grammar}
 use Rattle.rng_model.specs.Restrictions as restrictions
 use Rattle.rng_model.specs.Restrictions.{itself, in_left, inside_attribute, inside_list, inside_left, inside_one_or_more, unrepeated_itself, occurs_itself}
 use Rattle.rng_model.specs.Restrictions.{attribute_in_attribute, text_in_list, empty_in_except, text_in_start, any, interleaved, grouped, BreaksRestriction}
-use Rattle.rng_model.specs.Restrictions.{HasContent, of_both, of_text, of_value, AreGroupable, IsUnordered, ContentType, complex_content, simple_content}
+use Rattle.rng_model.specs.Restrictions.{HasContent, of_both, of_text, of_value, AreGroupable, IsNoChoice, ContentType, complex_content, simple_content}
 
 abbrev plain : List ℕ → Name
 plain local = record { ns = []; local = local }
@@ -100,7 +100,7 @@ s24 = restrictions.in_attribute_names (restrictions.a_body here) (record {
   left = attribute_x;
   right = attribute_x;
   stands = itself;
-  is_unordered = grouped;
+  is_no_choice = grouped;
   first_class = named (codes "x");
   first_body = s_text;
   second_class = named (codes "x");

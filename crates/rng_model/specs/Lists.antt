@@ -7,6 +7,6 @@ pub data Among {A : Type 0} (x : A) : List A → Type 0 where
   there : {y : A} {xs : List A} → Among x xs → Among x (y ∷ xs)
 
 -- two of the list are one
-pub data Repeats {A : Type 0} : List A → Type 0 where
-  at_first : {x : A} {xs : List A} → Among x xs → Repeats (x ∷ xs)
-  later : {x : A} {xs : List A} → Repeats xs → Repeats (x ∷ xs)
+pub data HasTwice {A : Type 0} : List A → Type 0 where
+  at_first : {x : A} {xs : List A} → Among x xs → HasTwice (x ∷ xs)
+  later : {x : A} {xs : List A} → HasTwice xs → HasTwice (x ∷ xs)

@@ -2,9 +2,9 @@
 -- told by first bytes alone, so that no clause depends on another not being broken.
 -- (docs/LANGUAGE.md; Namespaces in XML 1.0, sections 3 to 6; XML 1.0, section 3.1)
 use Rattle.std.specs.Prelude.{◌≡◌, ◌≢◌, ℕ, ◌+◌, ◌<◌, ◌≤◌, List, [], ◌∷◌, ◌++◌, Some, length, map, All}
-use Rattle.rng_model.specs.Lists.{Among, Repeats}
+use Rattle.rng_model.specs.Lists.{Among, HasTwice}
 use Rattle.rng_model.specs.Document.{Attribute}
-use Rattle.rng_model.specs.Lines.{Line}
+use Rattle.rng_model.specs.Lines.{Line, line_limit}
 use Rattle.rng_model.specs.Pyx.{Distinct, attribute_limit, open_limit, text_limit}
 use Rattle.rng_model.specs.PyxFaults.{Fault, HasKind, IsBalanced, IsBefore, EndsInTag}
 use Rattle.rng_model.specs.PyxLines.{Said, WrittenName, start, IsGoodLine, AreGoodLines, BreaksAlone}
@@ -55,7 +55,7 @@ pub data BreaksNamespaces (outer : Scope) (name : WrittenName) (written : List W
 
 -- P12, of such a tag: two `A` lines have one name, or two attributes one expanded name
 pub data RepeatsName (outer : Scope) (written : List WrittenAttribute) : Type 0 where
-  written_twice : Repeats (map (λ a. a.name) written) → RepeatsName outer written
+  written_twice : HasTwice (map (λ a. a.name) written) → RepeatsName outer written
   expanded_twice : {ds : List Declaration} {others : List WrittenAttribute} {attrs : List Attribute} → AreParted written ds others
       → AreExpanded (ds ∷ outer) others attrs → (Distinct attrs → ⊥) → RepeatsName outer written
 
@@ -67,7 +67,7 @@ pub record EndsWithTag (ls : List Line) (outer : Scope) (name : WrittenName) (wr
   pub are_open : AreOpenTags ends.front around
   pub scope : HasScope around outer
 
--- these lines end with texts, and instructions between them, which say this together
+-- these lines end with texts and instructions, perhaps with none, whose texts say this together
 pub record EndsInText (ls : List Line) (joined : List ℕ) : Type 0 where
   pub front : List Line
   pub run : List Line
@@ -78,20 +78,20 @@ pub record EndsInText (ls : List Line) (joined : List ℕ) : Type 0 where
 
 -- ---- clauses
 
--- the clause is broken by this line, between these
+-- The clause is broken by this line, between these. A line that is too long breaks P10 and no other.
 pub data BreaksHere (before : List Line) (l : Line) (behind : List Line) : ℕ → Type 0 where
   -- P1 to P6, and P10: by itself
   alone : {clause : ℕ} → BreaksAlone l clause → BreaksHere before l behind clause
   -- P7: an attribute in no tag
-  no_tag : HasKind 65 l → (EndsInTag before → ⊥) → BreaksHere before l behind 7
+  no_tag : length l.bytes ≤ line_limit → HasKind 65 l → (EndsInTag before → ⊥) → BreaksHere before l behind 7
   -- P8: an end tag where no element is open, or with another name than the open element
-  none_to_end : HasKind 41 l → AreOpenTags before [] → BreaksHere before l behind 8
-  other_name : {name opened_name : List ℕ} {tag : Tag} {outer : List Tag} → l.bytes ≡ 41 ∷ name → AreOpenTags before (tag ∷ outer)
-      → tag.first.bytes ≡ 40 ∷ opened_name → name ≢ opened_name → BreaksHere before l behind 8
+  none_to_end : length l.bytes ≤ line_limit → HasKind 41 l → AreOpenTags before [] → BreaksHere before l behind 8
+  other_name : {name opened_name : List ℕ} {tag : Tag} {outer : List Tag} → length l.bytes ≤ line_limit → l.bytes ≡ 41 ∷ name
+      → AreOpenTags before (tag ∷ outer) → tag.first.bytes ≡ 40 ∷ opened_name → name ≢ opened_name → BreaksHere before l behind 8
   -- P9: a text outside the root, or a start tag behind it
-  text_outside : HasKind 45 l → AreOpenTags before [] → BreaksHere before l behind 9
-  second_root : (front rest : List Line) (root : Line) → HasKind 40 l → AreOpenTags before [] → before ≡ front ++ root ∷ rest → HasKind 40 root
-      → BreaksHere before l behind 9
+  text_outside : length l.bytes ≤ line_limit → HasKind 45 l → AreOpenTags before [] → BreaksHere before l behind 9
+  second_root : (front rest : List Line) (root : Line) → length l.bytes ≤ line_limit → HasKind 40 l → AreOpenTags before []
+      → before ≡ front ++ root ∷ rest → HasKind 40 root → BreaksHere before l behind 9
   -- P10: one attribute too many in a tag, one open element too many, or a joined text that is too long
   attributes : HasKind 65 l → (tag : EndsInTag before) → attribute_limit ≤ length tag.others → BreaksHere before l behind 10
   elements : {opened : List Tag} → HasKind 40 l → AreOpenTags before opened → open_limit ≤ length opened → BreaksHere before l behind 10

@@ -36,7 +36,7 @@ pub record IsCutAtLine (bytes : List ℕ) (whole : List Line) (begun : List ℕ)
   pub ended : All (λ l. l.ended ≡ true) whole
   pub parts : (lines bytes ≡ whole × begun ≡ []) ⊎ (lines bytes ≡ whole ++ record { bytes = begun; ended = false } ∷ [])
 
--- the lines end with texts and instructions that say this together, and before these stands neither
+-- the lines end with texts and instructions, perhaps with none, whose texts say this together, and before these stands neither
 pub record JoinsText (whole : List Line) (joined : List ℕ) : Type 0 where
   pub ends : EndsInText whole joined
   pub no_text : (l : Line) (rest : List Line) → ends.front ≡ rest ++ l ∷ [] → HasKind 45 l → ⊥

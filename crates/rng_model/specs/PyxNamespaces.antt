@@ -59,14 +59,14 @@ abbrev pub IsDeclared : Option (List ℕ) → List ℕ → List Declaration → 
 IsDeclared p uri ds = Among (record { prefix = p; uri = uri }) ds
 
 -- the tag does not declare it
-abbrev pub IsLeft : Option (List ℕ) → List Declaration → Type 0
-IsLeft p ds = All (λ d. d.prefix ≢ p) ds
+abbrev pub DeclaresNone : Option (List ℕ) → List Declaration → Type 0
+DeclaresNone p ds = All (λ d. d.prefix ≢ p) ds
 
 -- the innermost tag that declares the prefix, or the default namespace, declares it as this; where none does, `xml` stands for its own
 -- namespace, and without a prefix there is none
 pub data HasNamespace : Scope → Option (List ℕ) → List ℕ → Type 0 where
   declared_here : {ds : List Declaration} {outer : Scope} {p : Option (List ℕ)} {uri : List ℕ} → IsDeclared p uri ds → HasNamespace (ds ∷ outer) p uri
-  declared_outside : {ds : List Declaration} {outer : Scope} {p : Option (List ℕ)} {uri : List ℕ} → IsLeft p ds → HasNamespace outer p uri
+  declared_outside : {ds : List Declaration} {outer : Scope} {p : Option (List ℕ)} {uri : List ℕ} → DeclaresNone p ds → HasNamespace outer p uri
       → HasNamespace (ds ∷ outer) p uri
   xml_beforehand : HasNamespace [] (Some (codes "xml")) xml_uri
   no_default : HasNamespace [] None []
@@ -102,6 +102,6 @@ pub data IsForbidden : Declaration → Type 0 where
   xml_as_another : {d : Declaration} → d.prefix ≡ Some (codes "xml") → d.uri ≢ xml_uri → IsForbidden d
   another_as_xml : {d : Declaration} → d.prefix ≢ Some (codes "xml") → d.uri ≡ xml_uri → IsForbidden d
 
--- no open tag declares the prefix
+-- the prefix stands for no namespace
 abbrev pub IsUndeclared : Scope → List ℕ → Type 0
 IsUndeclared scope p = (uri : List ℕ) → HasNamespace scope (Some p) uri → ⊥

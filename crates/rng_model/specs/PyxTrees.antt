@@ -1,7 +1,7 @@
 -- Which lines are which document in PYX, and at which line each of its events comes.
 -- (docs/LANGUAGE.md; RELAX NG Specification, section 2; XML 1.0, section 3.1; Namespaces in XML 1.0, section 6)
 use Rattle.std.specs.Prelude.{◌≡◌, ℕ, suc, ◌+◌, ◌≤◌, List, [], ◌∷◌, ◌++◌, length, map, All}
-use Rattle.rng_model.specs.Lists.{Repeats}
+use Rattle.rng_model.specs.Lists.{HasTwice}
 use Rattle.rng_model.specs.Names.{Name}
 use Rattle.rng_model.specs.Document.{Attribute, Item, a_text, an_element, Items, no_items, item_and}
 use Rattle.rng_model.specs.Lines.{lines}
@@ -52,7 +52,7 @@ abbrev mutual
 
 -- ---- documents
 
--- texts with nothing but instructions between them, joined
+-- texts and instructions, perhaps none; the texts joined
 pub data IsRun : List Said → List ℕ → Type 0 where
   no_run : IsRun [] []
   text_and : {value joined all : List ℕ} {more : List Said} → IsRun more joined → all ≡ value ++ joined → IsRun (text value ∷ more) all
@@ -72,7 +72,7 @@ pub record IsTag (outer : Scope) (name : WrittenName) (attributes : List Said) (
   pub written : List WrittenAttribute
   pub are_written : AreWritten attributes written
   pub within : length written ≤ attribute_limit
-  pub once : Repeats (map (λ a. a.name) written) → ⊥
+  pub once : HasTwice (map (λ a. a.name) written) → ⊥
   pub declarations : List Declaration
   pub others : List WrittenAttribute
   pub are_parted : AreParted written declarations others

@@ -115,9 +115,9 @@ pub data AreGroupable : ContentType → ContentType → Type 0 where
   both_complex : AreGroupable complex_content complex_content
 
 -- what lies between members of a group or an interleave
-pub data IsUnordered : Connector → Type 0 where
-  grouped : IsUnordered tree.group
-  interleaved : IsUnordered tree.interleave
+pub data IsNoChoice : Connector → Type 0 where
+  grouped : IsNoChoice tree.group
+  interleaved : IsNoChoice tree.interleave
 
 module _ {L : Type 0} where
   -- the content type of a pattern; notAllowed has none
@@ -130,7 +130,7 @@ module _ {L : Type 0} where
     of_ref : {l : L} → HasContent (s_leaf l) complex_content
     of_empty : HasContent s_empty empty_content
     of_attribute : {c : NameClass} {p : Simple L} {t : ContentType} → HasContent p t → HasContent (s_attribute c p) empty_content
-    of_both : {k : Connector} {p q : Simple L} {t u : ContentType} → IsUnordered k → HasContent p t → HasContent q u → AreGroupable t u
+    of_both : {k : Connector} {p q : Simple L} {t u : ContentType} → IsNoChoice k → HasContent p t → HasContent q u → AreGroupable t u
         → HasContent (s_joined k p q) (greater t u)
     of_one_or_more : {p : Simple L} {t : ContentType} → HasContent p t → AreGroupable t t → HasContent (s_one_or_more p) t
     of_choice : {p q : Simple L} {t u : ContentType} → HasContent p t → HasContent q u → HasContent (s_joined tree.choice p q) (greater t u)
@@ -232,7 +232,7 @@ module _ {L : Type 0} where
     pub left : Simple L
     pub right : Simple L
     pub stands : StandsIn (s_joined connector left right) p
-    pub is_unordered : IsUnordered connector
+    pub is_no_choice : IsNoChoice connector
     pub first_class : NameClass
     pub first_body : Simple L
     pub second_class : NameClass
