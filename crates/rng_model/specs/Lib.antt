@@ -30,3 +30,13 @@ pub mod Facets
 pub mod Numerals
 pub mod Datatypes
 pub mod DatatypeTests
+pub mod Patterns
+pub mod Schema
+pub mod Unfolding
+pub mod Simplification
+pub mod Depth
+pub mod Reached
+pub mod SchemaForm
+pub mod SchemaMatching
+pub mod SchemaClauses
+pub mod SchemaAnswers

@@ -10,3 +10,8 @@ pub data Among {A : Type 0} (x : A) : List A → Type 0 where
 pub data HasTwice {A : Type 0} : List A → Type 0 where
   at_first : {x : A} {xs : List A} → Among x xs → HasTwice (x ∷ xs)
   later : {x : A} {xs : List A} → HasTwice xs → HasTwice (x ∷ xs)
+
+-- two of the list, at different places, are so to one another
+pub data HasTwo {A : Type 0} (P : A → A → Type 0) : List A → Type 0 where
+  first_and : {x y : A} {xs : List A} → Among y xs → P x y → HasTwo P (x ∷ xs)
+  both_later : {x : A} {xs : List A} → HasTwo P xs → HasTwo P (x ∷ xs)

@@ -1,0 +1,135 @@
+-- The clauses that a schema of one grammar or more may break: S11 to S15 over all components at all places, reached or not;
+-- S16 and S17 over the trees that are reached; S18 to S27 over its simple form. (RELAX NG Specification, sections 4.16 to
+-- 4.19 and 7; what is said of `xmlns` but its uri, and S17, are profile)
+use Rattle.std.specs.Prelude.{◌≡◌, codes, ℕ, ◌<◌, ◌≤◌, List, [], Some, None}
+use Rattle.rng_model.specs.Lists.{Among, HasTwo}
+use Rattle.rng_model.specs.Names.{NameClass, NameClasses, any_name, any_except, ns_name, ns_except, name_is, one_of, class_and}
+use Rattle.rng_model.specs.Tree.{Tree, Datatype, Simple, as_tree}
+use Rattle.rng_model.specs.Table.{Grammar}
+use Rattle.rng_model.specs.Datatypes.{IsKnownDatatype, IsAllowed}
+use Rattle.rng_model.specs.Step.{IsSimpleClassOf}
+use Rattle.rng_model.specs.Patterns.{Place, Pattern, element, attribute, data_of, data_except, value, ref, parent_ref}
+use Rattle.rng_model.specs.Schema.{Schema, Component, start_of, HasComponent, IsWrittenAt}
+use Rattle.rng_model.specs.Unfolding.{Leaf, IsTreeOf, IsBodyOf}
+use Rattle.rng_model.specs.Simplification.{IsRewritten}
+use Rattle.rng_model.specs.Reached.{IsReached, IsReachedTree}
+use Rattle.rng_model.specs.Depth.{depth, class_depth, depth_limit}
+use Rattle.rng_model.specs.SchemaForm.{IsSimpleGrammarOf}
+use Rattle.rng_model.specs.Restrictions.{BreaksRestriction}
+use Rattle.rng_model.specs.declared.method.Method.TheVariants as methods
+
+-- ---- S11: name classes (section 4.16)
+
+-- the class d is c, or stands in it, in its excepts too
+mutual
+  pub data IsPartOf (d : NameClass) : NameClass → Type 0 where
+    itself : IsPartOf d d
+    in_any_except : {c : NameClass} → IsPartOf d c → IsPartOf d (any_except c)
+    in_ns_except : {u : List ℕ} {c : NameClass} → IsPartOf d c → IsPartOf d (ns_except u c)
+    in_first : {b c : NameClass} {cs : NameClasses} → IsPartOf d b → IsPartOf d (one_of b c cs)
+    in_second : {b c : NameClass} {cs : NameClasses} → IsPartOf d c → IsPartOf d (one_of b c cs)
+    in_another : {b c : NameClass} {cs : NameClasses} → IsPartOfOne d cs → IsPartOf d (one_of b c cs)
+
+  pub data IsPartOfOne (d : NameClass) : NameClasses → Type 0 where
+    in_this : {c : NameClass} {cs : NameClasses} → IsPartOf d c → IsPartOfOne d (class_and c cs)
+    in_later : {c : NameClass} {cs : NameClasses} → IsPartOfOne d cs → IsPartOfOne d (class_and c cs)
+
+-- the class is `*`, with an except or without
+pub data IsAny : NameClass → Type 0 where
+  any_is : IsAny any_name
+  any_but_is : {c : NameClass} → IsAny (any_except c)
+
+-- the class is `p:*`, with an except or without
+pub data IsNamespace : NameClass → Type 0 where
+  namespace_is : {u : List ℕ} → IsNamespace (ns_name u)
+  namespace_but_is : {u : List ℕ} {c : NameClass} → IsNamespace (ns_except u c)
+
+-- in the class, inside an except of `*` there is a `*`, or inside one of `p:*` there is a `*` or a `q:*`
+pub data BreaksExcept (c : NameClass) : Type 0 where
+  any_in_any : {d e : NameClass} → IsPartOf (any_except e) c → IsPartOf d e → IsAny d → BreaksExcept c
+  any_in_namespace : {u : List ℕ} {d e : NameClass} → IsPartOf (ns_except u e) c → IsPartOf d e → IsAny d → BreaksExcept c
+  namespace_in_namespace : {u : List ℕ} {d e : NameClass} → IsPartOf (ns_except u e) c → IsPartOf d e → IsNamespace d → BreaksExcept c
+
+-- the namespace of which no attribute may be
+abbrev pub xmlns_uri : List ℕ
+xmlns_uri = codes "http://www.w3.org/2000/xmlns"
+
+-- the class is the name `xmlns` without namespace, or a name, or all names, of that namespace
+pub data IsOfDeclarations : NameClass → Type 0 where
+  xmlns_is : IsOfDeclarations (name_is (record { ns = []; local = codes "xmlns" }))
+  name_of_it : {local : List ℕ} → IsOfDeclarations (name_is (record { ns = xmlns_uri; local = local }))
+  all_names_of_it : IsOfDeclarations (ns_name xmlns_uri)
+  names_of_it_but : {c : NameClass} → IsOfDeclarations (ns_except xmlns_uri c)
+
+pub data BreaksNameClass (s : Schema) : Type 0 where
+  of_element : {x : Place} {c : NameClass} {p : Pattern} → IsWrittenAt s x (element c p) → BreaksExcept c → BreaksNameClass s
+  of_attribute : {x : Place} {c : NameClass} {p : Pattern} → IsWrittenAt s x (attribute c p) → BreaksExcept c → BreaksNameClass s
+  of_declaration : {x : Place} {c d : NameClass} {p : Pattern} → IsWrittenAt s x (attribute c p) → IsPartOf d c → IsOfDeclarations d → BreaksNameClass s
+
+-- ---- S12: datatypes (section 4.16)
+
+-- a datatype is not known, or a value is not allowed by its own
+pub data BreaksDatatype (s : Schema) : Type 0 where
+  of_data : {x : Place} {d : Datatype} → IsWrittenAt s x (data_of d) → ¬ (IsKnownDatatype d) → BreaksDatatype s
+  of_data_except : {x : Place} {d : Datatype} {p : Pattern} → IsWrittenAt s x (data_except d p) → ¬ (IsKnownDatatype d) → BreaksDatatype s
+  of_value : {x : Place} {d : Datatype} {v : List ℕ} → IsWrittenAt s x (value d v) → ¬ (IsAllowed d v) → BreaksDatatype s
+
+-- ---- S13, S14, S15: grammars (sections 4.17 and 4.18)
+
+-- S13: two components of a name, or of the start, have `=`; or one has `|=` and one `&=`
+pub data BreaksCombination (s : Schema) : Type 0 where
+  two_plain : {x : Place} {cs : List Component} → s.components x ≡ Some cs
+      → HasTwo (λ c d. (c.name ≡ d.name) × (c.method ≡ methods.Plain) × (d.method ≡ methods.Plain)) cs → BreaksCombination s
+  both_methods : {x : Place} {c d : Component} → HasComponent s x c → HasComponent s x d → c.name ≡ d.name → c.method ≡ methods.Choice
+      → d.method ≡ methods.Interleave → BreaksCombination s
+
+-- S14: a grammar has no start
+pub record BreaksStart (s : Schema) : Type 0 where
+  pub place : Place
+  pub components : List Component
+  pub there : s.components place ≡ Some components
+  pub none : (c : Component) → Among c components → ¬ (c.name ≡ None)
+
+-- the grammar at the place defines the name
+abbrev pub IsDefinedAt : Schema → Place → List ℕ → Type 0
+IsDefinedAt s x y = (c : Component) × HasComponent s x c × (c.name ≡ Some y)
+
+-- S15: a ref finds no definition in its grammar, or a parent ref none in the grammar around
+pub data BreaksRef (s : Schema) : Type 0 where
+  of_ref : {x : Place} {y : List ℕ} → IsWrittenAt s x (ref y) → ¬ (IsDefinedAt s x y) → BreaksRef s
+  of_parent_ref : {x : Place} {y : List ℕ} → IsWrittenAt s x (parent_ref y) → ((z : Place) → s.outer x ≡ Some z → ¬ (IsDefinedAt s z y)) → BreaksRef s
+
+-- ---- S16, S17: trees (section 4.19)
+
+-- S16: some expansion loops outside elements, so that the start, or the body of an element reached, has no tree
+pub data BreaksExpansion (s : Schema) : Type 0 where
+  of_start : ((t : Tree Leaf) → ¬ (IsTreeOf s (start_of s) t)) → BreaksExpansion s
+  of_body : {l : Leaf} → IsReached s l → ((t : Tree Leaf) → ¬ (IsBodyOf s l t)) → BreaksExpansion s
+
+-- S17: a tree that is reached is too deep, 4.12 to 4.15 applied, or the name class of an element that is reached
+pub data BreaksDepth (s : Schema) : Type 0 where
+  deep_tree : {t : Tree Leaf} (p : Simple Leaf) → IsReachedTree s t → IsRewritten t (as_tree p) → depth_limit < depth p → BreaksDepth s
+  deep_class : {l : Leaf} {c : NameClass} → IsReached s l → IsSimpleClassOf l.class c → depth_limit < class_depth c → BreaksDepth s
+
+-- ---- the verdict
+
+-- the schema breaks the clause
+pub data BreaksClause (s : Schema) : ℕ → Type 0 where
+  in_name_class : BreaksNameClass s → BreaksClause s 11
+  in_datatype : BreaksDatatype s → BreaksClause s 12
+  in_combination : BreaksCombination s → BreaksClause s 13
+  in_start : BreaksStart s → BreaksClause s 14
+  in_ref : BreaksRef s → BreaksClause s 15
+  in_expansion : BreaksExpansion s → BreaksClause s 16
+  in_depth : BreaksDepth s → BreaksClause s 17
+  -- S18 to S27
+  in_restriction : {g : Grammar} {clause : ℕ} → IsSimpleGrammarOf s g → BreaksRestriction g clause → BreaksClause s clause
+
+-- it breaks none
+abbrev pub BreaksNoClause : Schema → Type 0
+BreaksNoClause s = (clause : ℕ) → ¬ (BreaksClause s clause)
+
+-- the least clause that it breaks
+pub record IsLeastClause (s : Schema) (clause : ℕ) : Type 0 where
+  pub broken : BreaksClause s clause
+  pub least : (other : ℕ) → BreaksClause s other → clause ≤ other
