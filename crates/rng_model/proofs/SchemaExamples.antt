@@ -4,7 +4,8 @@ use Rattle.rng_model.specs.Names.{Name, NameClass, name_is}
 use Rattle.rng_model.specs.Tree as tree
 use Rattle.rng_model.specs.Tree.{Tree, choice, group, interleave}
 use Rattle.rng_model.specs.Patterns.{Place, Pattern, element, empty, ref, parent_ref, grammar, external, joined, no_patterns, Point, an_element, a_ref, a_parent_ref, a_grammar}
-use Rattle.rng_model.specs.Schema.{Schema, Component, Definition, body, start_of}
+use Rattle.rng_model.specs.Lists.{Among}
+use Rattle.rng_model.specs.Schema.{Schema, Component, Definition, body, start_of, HasComponent}
 use Rattle.rng_model.specs.SimpleForm as at
 use Rattle.rng_model.specs.Unfolding.{Leaf, Aim, to_definition, aim, Unfolds, IsTreeOf, IsBodyOf}
 use Rattle.rng_model.specs.Unfolding as u
@@ -31,6 +32,17 @@ at_main cs (n ∷ x) = None
 
 abbrev pub one_grammar : List Component → Schema
 one_grammar cs = record { main = []; components = at_main cs; outer = λ z. None }
+
+pub some_is : {A : Type 0} {x y : A} → Some x ≡ Some y → x ≡ y
+some_is e = cc
+
+no_components : {cs : List Component} → None ≡ Some cs → ⊥
+no_components e = cc
+
+-- what stands at some place stands in the main grammar
+pub only_main : {cs : List Component} (x : Place) {c : Component} → HasComponent (one_grammar cs) x c → Among c cs
+only_main [] {c} h = subst (λ ds. Among c ds) (sym (some_is h.there)) h.among
+only_main (n ∷ x) h = absurd (no_components h.there)
 
 -- a definition of the main grammar
 abbrev pub in_main : Option (List ℕ) → Definition
@@ -126,7 +138,7 @@ parent_and_own = u.found refl refl (u.joined_is (u.found refl refl (u.element_is
 -- ---- loops
 
 -- start = c   c = c | element b { empty }
-abbrev looping : Schema
+abbrev pub looping : Schema
 looping = one_grammar (start (ref (codes "c")) ∷ define (codes "c") (joined choice (ref (codes "c")) (an_element_of (codes "b") empty) no_patterns) ∷ [])
 
 abbrev looping_body : Tree Point
@@ -148,7 +160,7 @@ is_its_own d e a b = record {
   own_body = let f = the_body_of_c in cc
 
 -- a pattern whose expansion loops has no tree
-no_tree_of_c : (t : Tree Leaf) → IsTreeOf looping (in_main (Some (codes "c"))) t → ⊥
+pub no_tree_of_c : (t : Tree Leaf) → IsTreeOf looping (in_main (Some (codes "c"))) t → ⊥
 no_tree_of_c = none_of_stuck looping (λ d. d ≡ in_main (Some (codes "c"))) is_its_own (in_main (Some (codes "c"))) refl
 
 -- start = c   c = element b { c }
