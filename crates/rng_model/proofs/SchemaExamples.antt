@@ -36,7 +36,7 @@ one_grammar cs = record { main = []; components = at_main cs; outer = λ z. None
 pub some_is : {A : Type 0} {x y : A} → Some x ≡ Some y → x ≡ y
 some_is e = cc
 
-no_components : {cs : List Component} → None ≡ Some cs → ⊥
+pub no_components : {cs : List Component} → None ≡ Some cs → ⊥
 no_components e = cc
 
 -- what stands at some place stands in the main grammar
