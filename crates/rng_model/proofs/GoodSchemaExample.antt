@@ -1,9 +1,11 @@
 -- `element a { (text & text), notAllowed }` breaks no clause: what would break S27 is gone once notAllowed is carried outward.
-use Rattle.std.proofs.Common.{◌≡◌, refl, sym, subst, ap, ◌∙◌, ◌⊎◌, inl, inr, arith, ℕ, ◌<◌, List, [], ◌∷◌, Option, Some, None, codes, length, slice_get}
+use Rattle.std.proofs.Common.{◌≡◌, refl, sym, subst, ap, ◌∙◌, ◌⊎◌, inl, inr, arith, ℕ, suc, ◌<◌, List, [], ◌∷◌, Option, Some, None, codes, length, slice_get, Contains, zero}
+use Rattle.std.proofs.lemmas.List.Elements.{All-nil, All-cons, All-contains, Contains-push}
 use Rattle.rng_model.specs.Lists.{Among, here, there, HasTwo, first_and, both_later}
 use Rattle.rng_model.specs.Names.{Name, NameClass, name_is}
 use Rattle.rng_model.specs.Tree as tree
-use Rattle.rng_model.specs.Tree.{Datatype, Tree, group, interleave, choice, Simple, s_not_allowed, s_text, s_leaf, s_joined, as_tree}
+use Rattle.rng_model.specs.Tree.{Datatype, Tree, group, interleave, choice, Simple, s_not_allowed, s_empty, s_text, s_leaf, s_attribute, s_list}
+use Rattle.rng_model.specs.Tree.{s_data, s_data_except, s_value, s_one_or_more, s_joined, as_tree}
 use Rattle.rng_model.specs.Table.{Grammar}
 use Rattle.rng_model.specs.Unfold.{renamed}
 use Rattle.rng_model.specs.Step.{ClassStep, ClassSteps, IsSimpleClassOf}
@@ -19,7 +21,7 @@ use Rattle.rng_model.specs.Simplification.{Group, rewriting, propagation, Step, 
 use Rattle.rng_model.specs.Simplification as steps
 use Rattle.rng_model.specs.Reached.{IsReached, from_start, from_element, IsReachedTree, of_start, of_body, IsSimplyReached, from_simple_start, from_simple_body}
 use Rattle.rng_model.specs.Depth.{depth, class_depth}
-use Rattle.rng_model.specs.SchemaForm.{Element, SimpleForm, IsSimpleFormOfSchema, IsSameUpToNumbering, IsSimpleGrammarOf}
+use Rattle.rng_model.specs.SchemaForm.{Element, IsElementOf, SimpleForm, IsSimpleFormOfSchema, IsSameUpToNumbering, IsSimpleGrammarOf}
 use Rattle.rng_model.specs.SchemaClauses as clauses
 use Rattle.rng_model.specs.SchemaClauses.{BreaksClause, BreaksNoClause}
 use Rattle.rng_model.specs.Restrictions as restrictions
@@ -245,3 +247,229 @@ not_deep_name {c = c} e s d =
 keeps_s17 : ¬ (clauses.BreaksDepth good)
 keeps_s17 (clauses.deep_tree p r w d) = not_deep p r w d
 keeps_s17 (clauses.deep_class r s d) = not_deep_name (reached r) s d
+
+-- ---- S18 to S27: the simple form
+
+texts_stay : {g : Group} {c : Tree Leaf} → ¬ (Step g (as_tree simple_texts) c)
+texts_stay (steps.other_not_allowed f h) = elim h [ ]
+texts_stay (steps.in_first d) = elim d [ ]
+texts_stay (steps.in_second d) = elim d [ ]
+texts_stay (steps.in_others d) = elim d [ ]
+
+-- one step carries notAllowed outward
+next_of_inside : {g : Group} {c : Tree Leaf} → Step g (as_tree simple_inside) c → c ≡ tree.not_allowed
+next_of_inside (steps.second_not_allowed f) = refl
+next_of_inside (steps.other_not_allowed f h) = elim h [ ]
+next_of_inside (steps.in_first d) = absurd (texts_stay d)
+next_of_inside (steps.in_second d) = elim d [ ]
+next_of_inside (steps.in_others d) = elim d [ ]
+
+nothing_stays : {g : Group} {c : Tree Leaf} → ¬ (Step g tree.not_allowed c)
+nothing_stays d = elim d [ ]
+
+leaf_stays : {g : Group} {l : Leaf} {c : Tree Leaf} → ¬ (Step g (tree.leaf l) c)
+leaf_stays d = elim d [ ]
+
+only_nothing : {b : Tree Leaf} → Steps AnyStep tree.not_allowed b → b ≡ tree.not_allowed
+only_nothing no_step = refl
+only_nothing (step_and s ds) = absurd (nothing_stays s.1)
+
+form_of_inside : {b : Tree Leaf} → Steps AnyStep (as_tree simple_inside) b → ((c : Tree Leaf) → AnyStep b c → ⊥) → b ≡ tree.not_allowed
+form_of_inside no_step last = absurd (last tree.not_allowed (propagation, steps.second_not_allowed (λ e. cc)))
+form_of_inside {b} (step_and s ds) last = only_nothing (subst (λ c. Steps AnyStep c b) (next_of_inside s.1) ds)
+
+form_of_start : {b : Tree Leaf} → Steps AnyStep (as_tree (s_leaf the_element)) b → b ≡ as_tree (s_leaf the_element)
+form_of_start no_step = refl
+form_of_start (step_and s ds) = absurd (leaf_stays s.1)
+
+simple_inside_is : {t b : Tree Leaf} → t ≡ as_tree simple_inside → IsSimpleFormOf t b → b ≡ tree.not_allowed
+simple_inside_is {b = b} e f = form_of_inside (subst (λ t. Steps AnyStep t b) e f.reached) f.last
+
+simple_start_is : {t b : Tree Leaf} → t ≡ as_tree (s_leaf the_element) → IsSimpleFormOf t b → b ≡ as_tree (s_leaf the_element)
+simple_start_is {b = b} e f = form_of_start (subst (λ t. Steps AnyStep t b) e f.reached)
+
+none_in_nothing : {l : Leaf} {b : Tree Leaf} → b ≡ tree.not_allowed → ¬ (LeafIn l b)
+none_in_nothing {l} e i = elim_leaf (subst (LeafIn l) e i) where
+  elim_leaf : {l : Leaf} → ¬ (LeafIn l tree.not_allowed)
+  elim_leaf i = elim i [ ]
+
+simply_reached : {l : Leaf} → IsSimplyReached good l → l ≡ the_element
+simply_reached (from_simple_start t f i) = only_leaf (simple_start_is (one_start t) f) i
+simply_reached (from_simple_body r t f i) = absurd (none_in_nothing (simple_inside_is (one_body (simply_reached r) t) f) i)
+
+-- the grammar has an element for its start and notAllowed for each body
+pub data IsBare : Simple ℕ → Type 0 where
+  an_element : {k : ℕ} → IsBare (s_leaf k)
+  nothing : IsBare s_not_allowed
+
+leaf_of : (f : ℕ → Leaf) {l : Leaf} (p : Simple ℕ) → renamed f (as_tree p) ≡ as_tree (s_leaf l) → IsBare p
+leaf_of f s_not_allowed e = cc
+leaf_of f s_empty e = cc
+leaf_of f s_text e = cc
+leaf_of f (s_leaf k) e = an_element
+leaf_of f (s_attribute c p) e = cc
+leaf_of f (s_list p) e = cc
+leaf_of f (s_data d) e = cc
+leaf_of f (s_data_except d p) e = cc
+leaf_of f (s_value d v) e = cc
+leaf_of f (s_one_or_more p) e = cc
+leaf_of f (s_joined k p q) e = cc
+
+nothing_of : (f : ℕ → Leaf) (p : Simple ℕ) → renamed f (as_tree p) ≡ tree.not_allowed → p ≡ s_not_allowed
+nothing_of f s_not_allowed e = refl
+nothing_of f s_empty e = cc
+nothing_of f s_text e = cc
+nothing_of f (s_leaf k) e = cc
+nothing_of f (s_attribute c p) e = cc
+nothing_of f (s_list p) e = cc
+nothing_of f (s_data d) e = cc
+nothing_of f (s_data_except d p) e = cc
+nothing_of f (s_value d v) e = cc
+nothing_of f (s_one_or_more p) e = cc
+nothing_of f (s_joined k p q) e = cc
+
+its_number : {A : Type 0} {x : A} {xs : List A} → Among x xs → (k : ℕ) × (slice_get xs k ≡ Some x)
+its_number here = (0, refl)
+its_number (there i) = let k = its_number i in (suc k.0, k.1)
+
+module _ {g : Grammar} (is : IsSimpleGrammarOf good g) where
+  bare_start : IsBare g.start
+  bare_start = leaf_of is.2.element g.start (sym is.2.start ∙ simple_start_is (one_start is.1.is_tree) is.1.start)
+
+  bare_element : (e : Element) → IsElementOf good e → e.body ≡ tree.not_allowed
+  bare_element e i = simple_inside_is (one_body (simply_reached i.reached) i.is_tree) i.body
+
+  bare_body : {c : NameClass} {body : Simple ℕ} → Among (c, body) g.elements → body ≡ s_not_allowed
+  bare_body {c} {body} i =
+      let k = its_number i in
+      let e : Element = record { name = is.2.element k.0; class = c; body = renamed is.2.element (as_tree body) } in
+      nothing_of is.2.element body (bare_element e (All-contains (IsElementOf good) is.0.elements e is.1.elements (is.2.bodies k.0 c body k.1).0))
+
+  bare_part : {p : Simple ℕ} → restrictions.IsPart g p → IsBare p
+  bare_part restrictions.the_start = bare_start
+  bare_part (restrictions.a_body i) = subst IsBare (sym (bare_body i)) nothing
+
+-- nothing stands in a bare pattern but itself
+stands_alone : {p q : Simple ℕ} → IsBare p → restrictions.StandsIn q p → IsBare q
+stands_alone an_element restrictions.itself = an_element
+stands_alone nothing restrictions.itself = nothing
+
+unrepeated_alone : {p q : Simple ℕ} → IsBare p → restrictions.StandsUnrepeated q p → IsBare q
+unrepeated_alone an_element restrictions.unrepeated_itself = an_element
+unrepeated_alone nothing restrictions.unrepeated_itself = nothing
+
+no_attribute_kind : {p : Simple ℕ} → IsBare p → ¬ (restrictions.kind_of p ≡ restrictions.attribute_kind)
+no_attribute_kind an_element e = cc
+no_attribute_kind nothing e = cc
+
+no_list_kind : {p : Simple ℕ} → IsBare p → ¬ (restrictions.kind_of p ≡ restrictions.list_kind)
+no_list_kind an_element e = cc
+no_list_kind nothing e = cc
+
+no_repeated_kind : {p : Simple ℕ} → IsBare p → ¬ (restrictions.kind_of p ≡ restrictions.one_or_more_kind)
+no_repeated_kind an_element e = cc
+no_repeated_kind nothing e = cc
+
+may_start : {p : Simple ℕ} → IsBare p → ¬ (restrictions.BarredFromStart (restrictions.kind_of p))
+may_start an_element b = elim b [ ]
+may_start nothing b = elim b [ ]
+
+no_except_in : {d : Datatype} {p : Simple ℕ} → ¬ (IsBare (s_data_except d p))
+no_except_in b = elim b [ ]
+
+no_joined : {k : tree.Connector} {p q : Simple ℕ} → ¬ (IsBare (s_joined k p q))
+no_joined b = elim b [ ]
+
+no_attribute_in : {c : NameClass} {p : Simple ℕ} → ¬ (IsBare (s_attribute c p))
+no_attribute_in b = elim b [ ]
+
+keeps_restrictions : {g : Grammar} {clause : ℕ} → IsSimpleGrammarOf good g → ¬ (restrictions.BreaksRestriction g clause)
+keeps_restrictions is (restrictions.in_attribute_of i b) = no_attribute_kind (stands_alone (bare_part is i) b.stands) b.is_attribute
+keeps_restrictions is (restrictions.in_one_or_more_of i b) = no_repeated_kind (stands_alone (bare_part is i) b.stands) b.is_repeated
+keeps_restrictions is (restrictions.in_list_of i b) = no_list_kind (stands_alone (bare_part is i) b.stands) b.is_list
+keeps_restrictions is (restrictions.in_except_of i b) = no_except_in (stands_alone (bare_part is i) b.stands)
+keeps_restrictions is (restrictions.in_start b) = may_start (stands_alone (bare_start is) b.inside) b.barred
+keeps_restrictions is (restrictions.in_content i b) = b.not_whole (bare_body is i)
+keeps_restrictions is (restrictions.in_attribute_names i b) = no_joined (stands_alone (bare_part is i) b.stands)
+keeps_restrictions is (restrictions.in_wildcard i b) = no_attribute_in (unrepeated_alone (bare_part is i) b.stands)
+keeps_restrictions is (restrictions.in_element_names i b) = no_joined (stands_alone (bare_part is i) b.stands)
+keeps_restrictions is (restrictions.in_text i b) = no_joined (stands_alone (bare_part is i) b.stands)
+
+-- ---- no clause is broken
+
+pub breaks_nothing : BreaksNoClause good
+breaks_nothing clause (clauses.in_name_class b) = keeps_s11 b
+breaks_nothing clause (clauses.in_datatype b) = keeps_s12 b
+breaks_nothing clause (clauses.in_combination b) = keeps_s13 b
+breaks_nothing clause (clauses.in_start b) = keeps_s14 b
+breaks_nothing clause (clauses.in_ref b) = keeps_s15 b
+breaks_nothing clause (clauses.in_expansion b) = keeps_s16 b
+breaks_nothing clause (clauses.in_depth b) = keeps_s17 b
+breaks_nothing clause (clauses.in_restriction is b) = keeps_restrictions is b
+
+-- ---- the simple form is this grammar
+
+abbrev the_grammar : Grammar
+the_grammar = record { start = s_leaf 0; elements = (named (codes "a"), s_not_allowed) ∷ [] }
+
+abbrev element_of_form : Element
+element_of_form = record { name = the_element; class = named (codes "a"); body = tree.not_allowed }
+
+abbrev the_form : SimpleForm
+the_form = record { start = as_tree (s_leaf the_element); elements = element_of_form ∷ [] }
+
+start_stays : IsSimpleFormOf (as_tree (s_leaf the_element)) (as_tree (s_leaf the_element))
+start_stays = record { reached = no_step; last = λ c s. leaf_stays s.1 }
+
+is_reached : IsSimplyReached good the_element
+is_reached = from_simple_start start_tree start_stays at.here
+
+is_element : IsElementOf good element_of_form
+is_element = record {
+  reached = is_reached;
+  class = record { reached = class_steps.no_class_step; simple = λ c d. elim d [ ] };
+  tree = as_tree simple_inside;
+  is_tree = body_tree;
+  body = record { reached = step_and (propagation, steps.second_not_allowed (λ e. cc)) no_step; last = λ c s. nothing_stays s.1 };
+}
+
+is_form : IsSimpleFormOfSchema good the_form
+is_form = record {
+  tree = as_tree (s_leaf the_element);
+  is_tree = start_tree;
+  start = start_stays;
+  elements = All-cons (IsElementOf good) element_of_form [] is_element (All-nil (IsElementOf good));
+  reached = λ l r. (element_of_form, Contains-push [] element_of_form, sym (simply_reached r));
+}
+
+only_number : {j k n : ℕ} → n ≡ 1 → j < n → k < n → j ≡ k
+only_number e a b = omega (arith, e, a, b)
+
+leaves_below : {k : ℕ} → LeafIn k (tree.leaf 0) → k < 1
+leaves_below at.here = omega arith
+
+no_leaves : {k : ℕ} → LeafIn k tree.not_allowed → k < 1
+no_leaves i = elim i [ ]
+
+abbrev HasBody : NameClass → Simple ℕ → Type 0
+HasBody c p = Contains the_form.elements (record { name = the_element; class = c; body = renamed (λ n. the_element) (as_tree p) })
+    × ((n : ℕ) → LeafIn n (as_tree p) → n < 1)
+
+is_body : HasBody (named (codes "a")) s_not_allowed
+is_body = (Contains-push [] element_of_form, λ n i. no_leaves i)
+
+the_bodies : (k : ℕ) (c : NameClass) (p : Simple ℕ) → slice_get the_grammar.elements k ≡ Some (c, p) → HasBody c p
+the_bodies zero c p e = subst (λ x. HasBody x.0 x.1) (some_is e) is_body
+the_bodies (suc k) c p e = absurd (nothing_behind e) where
+  nothing_behind : {x : NameClass × Simple ℕ} → slice_get [] k ≡ Some x → ⊥
+  nothing_behind f = cc
+
+pub is_simple_grammar : IsSimpleGrammarOf good the_grammar
+is_simple_grammar = (the_form, is_form, record {
+  element = λ n. the_element;
+  one_to_one = λ j k a b e. only_number refl a b;
+  all = All-cons (λ e. (k : ℕ) × (k < 1) × (the_element ≡ e.name)) element_of_form [] (0, omega arith, refl) (All-nil (λ e. (k : ℕ) × (k < 1) × (the_element ≡ e.name)));
+  start = refl;
+  start_below = λ k i. leaves_below i;
+  bodies = the_bodies;
+})

@@ -1,7 +1,6 @@
 -- The simple form of a schema: a start, and each element that is reached from it through simple forms (RELAX NG
 -- Specification, sections 4.12 to 4.21), and what it is for a numbered grammar to be that form.
-use Rattle.std.specs.Prelude.{◌≡◌, ℕ, ◌<◌, List, length, slice_get, Some, All}
-use Rattle.rng_model.specs.Lists.{Among}
+use Rattle.std.specs.Prelude.{◌≡◌, ℕ, ◌<◌, List, length, slice_get, Some, All, Contains}
 use Rattle.rng_model.specs.Names.{NameClass}
 use Rattle.rng_model.specs.Tree.{Tree, Simple, as_tree}
 use Rattle.rng_model.specs.Table.{Grammar}
@@ -39,7 +38,7 @@ pub record IsSimpleFormOfSchema (s : Schema) (f : SimpleForm) : Type 0 where
   pub is_tree : IsTreeOf s (start_of s) tree
   pub start : IsSimpleFormOf tree f.start
   pub elements : All (IsElementOf s) f.elements
-  pub reached : (l : Leaf) → IsSimplyReached s l → (e : Element) × Among e f.elements × (e.name ≡ l)
+  pub reached : (l : Leaf) → IsSimplyReached s l → (e : Element) × Contains f.elements e × (e.name ≡ l)
 
 -- The grammar is this form up to numbering: a one-to-one pairing of its numbers with the elements of the form carries
 -- start, name classes and bodies over.
@@ -51,7 +50,7 @@ pub record IsSameUpToNumbering (g : Grammar) (f : SimpleForm) : Type 0 where
   pub start : f.start ≡ renamed element (as_tree g.start)
   pub start_below : AreLeavesBelow (length g.elements) (as_tree g.start)
   pub bodies : (k : ℕ) (c : NameClass) (p : Simple ℕ) → slice_get g.elements k ≡ Some (c, p) →
-      Among (record { name = element k; class = c; body = renamed element (as_tree p) }) f.elements × AreLeavesBelow (length g.elements) (as_tree p)
+      Contains f.elements (record { name = element k; class = c; body = renamed element (as_tree p) }) × AreLeavesBelow (length g.elements) (as_tree p)
 
 -- the grammar is a simple form of the schema, up to numbering
 abbrev pub IsSimpleGrammarOf : Schema → Grammar → Type 0
