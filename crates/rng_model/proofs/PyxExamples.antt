@@ -39,7 +39,7 @@ is_all : (p : ℕ → Bool) (xs : List ℕ) → list_all p xs ≡ true → All (
 is_all p xs e = All-from_recursion (λ c. p c ≡ true) xs (each_of p xs e)
 
 -- a line that these tests let through
-good : (bytes : List ℕ) {said : Said} → nat_le (length bytes) line_limit ≡ true → is_utf8 bytes ≡ true → list_all is_xml_char (chars bytes) ≡ true →
+pub good : (bytes : List ℕ) {said : Said} → nat_le (length bytes) line_limit ≡ true → is_utf8 bytes ≡ true → list_all is_xml_char (chars bytes) ≡ true →
     Says bytes said → IsGoodLine (record { bytes = bytes; ended = true }) said
 good bytes within utf8 characters says = record {
   ended = refl;
@@ -49,7 +49,7 @@ good bytes within utf8 characters says = record {
   says = says;
 }
 
-is_name : (written : List ℕ) → is_utf8 written ≡ true → is_ncname (chars written) ≡ true → IsNcname written
+pub is_name : (written : List ℕ) → is_utf8 written ≡ true → is_ncname (chars written) ≡ true → IsNcname written
 is_name written utf8 ncname = record { utf8 = IsUtf8-from_is_utf8 written utf8; ncname = ncname }
 
 -- a text without a backslash stands for itself
@@ -71,7 +71,7 @@ across = codes "(a" ++ 10 ∷ (codes "-x" ++ 10 ∷ (codes "?z" ++ 10 ∷ (codes
 abbrev name_a : WrittenName
 name_a = record { prefix = None; local = codes "a" }
 
-a_is_a_name : IsName (codes "a") name_a
+pub a_is_a_name : IsName (codes "a") name_a
 unfolding chars is_utf8 lib.Utf8.encode
 a_is_a_name = alone (is_name (codes "a") refl refl)
 
@@ -199,7 +199,7 @@ late_is = record {
 
 -- ---- a prefix that is not declared: P11 at the last line of the tag
 
-abbrev whole : List ℕ → Line
+abbrev pub whole : List ℕ → Line
 whole bytes = record { bytes = bytes; ended = true }
 
 abbrev undeclared : List Line
@@ -228,7 +228,7 @@ p_is_undeclared uri found = refuses found refl where
   refuses (declared_here among) e = elim among [ ]
   refuses (declared_outside left found) e = beforehand found e
 
-abbrev first_of : List ℕ → ℕ
+abbrev pub first_of : List ℕ → ℕ
 first_of [] = 0
 first_of (b ∷ bs) = b
 
