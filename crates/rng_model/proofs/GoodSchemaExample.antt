@@ -12,14 +12,14 @@ use Rattle.rng_model.specs.Step.{ClassStep, ClassSteps, IsSimpleClassOf}
 use Rattle.rng_model.specs.Step as class_steps
 use Rattle.rng_model.specs.SimpleForm.{LeafIn}
 use Rattle.rng_model.specs.SimpleForm as at
-use Rattle.rng_model.specs.Patterns.{Place, Pattern, text, not_allowed, element, attribute, data_of, data_except, value, ref, parent_ref, joined, no_patterns, StandsIn}
+use Rattle.rng_model.specs.Patterns.{Place, Pattern, text, not_allowed, element, attribute, data_of, data_except, value, ref, parent_ref, joined, no_patterns, IsWrittenIn}
 use Rattle.rng_model.specs.Patterns as in_pattern
-use Rattle.rng_model.specs.Schema.{Schema, Component, body, start_of, IsWrittenAt, HasComponent}
+use Rattle.rng_model.specs.Schema.{Schema, Component, body, main_start, IsWrittenAt, HasComponent}
 use Rattle.rng_model.specs.Unfolding.{Leaf, Unfolds, IsTreeOf, IsBodyOf}
 use Rattle.rng_model.specs.Unfolding as u
-use Rattle.rng_model.specs.Simplification.{Group, rewriting, propagation, Step, AnyStep, Steps, no_step, step_and, IsLast, IsRewritten, IsSimpleFormOf}
+use Rattle.rng_model.specs.Simplification.{RuleGroup, rewriting, propagation, Step, AnyStep, Steps, no_step, step_and, IsLast, IsRewritten, IsSimpleFormOf}
 use Rattle.rng_model.specs.Simplification as steps
-use Rattle.rng_model.specs.Reached.{IsReached, from_start, from_element, IsReachedTree, of_start, of_body, IsSimplyReached, from_simple_start, from_simple_body}
+use Rattle.rng_model.specs.Reached.{IsReachedByTrees, from_start, from_element, IsReachedTree, of_start, of_body, IsReachedBySimpleForms, from_simple_start, from_simple_body}
 use Rattle.rng_model.specs.Depth.{depth, class_depth}
 use Rattle.rng_model.specs.SchemaForm.{Element, IsElementOf, SimpleForm, IsSimpleFormOfSchema, IsSameUpToNumbering, IsSimpleGrammarOf}
 use Rattle.rng_model.specs.SchemaClauses as clauses
@@ -51,28 +51,28 @@ the_element = record { place = []; position = 0 ∷ []; class = named (codes "a"
 abbrev IsOneOf : Pattern → Type 0
 IsOneOf q = (q ≡ whole) ⊎ ((q ≡ inside) ⊎ ((q ≡ texts) ⊎ ((q ≡ text) ⊎ (q ≡ not_allowed))))
 
-in_texts : {q : Pattern} → StandsIn q texts → IsOneOf q
+in_texts : {q : Pattern} → IsWrittenIn q texts → IsOneOf q
 in_texts in_pattern.itself = inr (inr (inl refl))
 in_texts (in_pattern.in_first in_pattern.itself) = inr (inr (inr (inl refl)))
 in_texts (in_pattern.in_second in_pattern.itself) = inr (inr (inr (inl refl)))
 in_texts (in_pattern.in_another i) = elim i [ ]
 
-in_inside : {q : Pattern} → StandsIn q inside → IsOneOf q
+in_inside : {q : Pattern} → IsWrittenIn q inside → IsOneOf q
 in_inside in_pattern.itself = inr (inl refl)
 in_inside (in_pattern.in_first i) = in_texts i
 in_inside (in_pattern.in_second in_pattern.itself) = inr (inr (inr (inr refl)))
 in_inside (in_pattern.in_another i) = elim i [ ]
 
-in_whole : {q : Pattern} → StandsIn q whole → IsOneOf q
+in_whole : {q : Pattern} → IsWrittenIn q whole → IsOneOf q
 in_whole in_pattern.itself = inl refl
 in_whole (in_pattern.in_element i) = in_inside i
 
-in_start : {c : Component} {q : Pattern} → Among c (start whole ∷ []) → StandsIn q c.pattern → IsOneOf q
+in_start : {c : Component} {q : Pattern} → Among c (start whole ∷ []) → IsWrittenIn q c.pattern → IsOneOf q
 in_start here i = in_whole i
 in_start (there j) i = elim j [ ]
 
 written : {x : Place} {q : Pattern} → IsWrittenAt good x q → IsOneOf q
-written {x} w = in_start (only_main x w.there) w.stands
+written {x} w = in_start (only_main x w.there) w.written
 
 components_are : {cs ds : List Component} (x : Place) → (one_grammar cs).components x ≡ Some ds → ds ≡ cs
 components_are [] e = sym (some_is e)
@@ -115,7 +115,7 @@ no_except (inr (inr (inl e))) = cc
 no_except (inr (inr (inr (inl e)))) = cc
 no_except (inr (inr (inr (inr e)))) = cc
 
-no_value : {d : Datatype} {v : List ℕ} → IsNone (value d v)
+no_value : {library name v : List ℕ} → IsNone (value library name v)
 no_value (inl e) = cc
 no_value (inr (inl e)) = cc
 no_value (inr (inr (inl e))) = cc
@@ -136,13 +136,13 @@ no_parent_ref (inr (inr (inl e))) = cc
 no_parent_ref (inr (inr (inr (inl e)))) = cc
 no_parent_ref (inr (inr (inr (inr e)))) = cc
 
-a_name_has_no_except : (n : Name) → ¬ (clauses.BreaksExcept (name_is n))
+a_name_has_no_except : (n : Name) → ¬ (clauses.BreaksClassExcept (name_is n))
 a_name_has_no_except n (clauses.any_in_any i j k) = elim i [ ]
 a_name_has_no_except n (clauses.any_in_namespace i j k) = elim i [ ]
 a_name_has_no_except n (clauses.namespace_in_namespace i j k) = elim i [ ]
 
 keeps_s11 : ¬ (clauses.BreaksNameClass good)
-keeps_s11 (clauses.of_element w b) = a_name_has_no_except _ (subst clauses.BreaksExcept (its_class (written w)) b)
+keeps_s11 (clauses.of_element w b) = a_name_has_no_except _ (subst clauses.BreaksClassExcept (its_class (written w)) b)
 keeps_s11 (clauses.of_attribute w b) = no_attribute (written w)
 keeps_s11 (clauses.of_declaration w i b) = no_attribute (written w)
 
@@ -162,7 +162,7 @@ keeps_s13 : ¬ (clauses.BreaksCombination good)
 keeps_s13 (clauses.two_plain {x = x} e h) = no_two (subst (HasTwo _) (components_are x e) h)
 keeps_s13 (clauses.both_methods {x = x} c d n k m) = not_plain (only_one (only_main x c)) k
 
-keeps_s14 : ¬ (clauses.BreaksStart good)
+keeps_s14 : ¬ (clauses.HasNoStart good)
 keeps_s14 b = b.none (start whole) (subst (Among (start whole)) (sym (components_are b.place b.there)) here) refl
 
 keeps_s15 : ¬ (clauses.BreaksRef good)
@@ -177,14 +177,14 @@ simple_texts = s_joined interleave s_text s_text
 abbrev simple_inside : Simple Leaf
 simple_inside = s_joined group simple_texts s_not_allowed
 
-start_tree : IsTreeOf good (start_of good) (as_tree (s_leaf the_element))
+start_tree : IsTreeOf good (main_start good) (as_tree (s_leaf the_element))
 unfolding body
 start_tree = (tree.leaf _, refl, u.element_is refl)
 
 body_tree : IsBodyOf good the_element (as_tree simple_inside)
 body_tree = u.joined_is (u.joined_is u.text_is u.text_is u.none_is) u.not_allowed_is u.none_is
 
-one_start : {t : Tree Leaf} → IsTreeOf good (start_of good) t → t ≡ as_tree (s_leaf the_element)
+one_start : {t : Tree Leaf} → IsTreeOf good (main_start good) t → t ≡ as_tree (s_leaf the_element)
 unfolding body
 one_start {t} v = one_tree good (subst (λ a. Unfolds good [] a t) (sym (some_is v.1)) v.2) (u.element_is refl)
 
@@ -205,7 +205,7 @@ no_leaf {l} e i = none_there (subst (LeafIn l) e i) where
   none_there (at.of_second i) = elim i [ ]
   none_there (at.of_others i) = elim i [ ]
 
-reached : {l : Leaf} → IsReached good l → l ≡ the_element
+reached : {l : Leaf} → IsReachedByTrees good l → l ≡ the_element
 reached (from_start t i) = only_leaf (one_start t) i
 reached (from_element r t i) = absurd (no_leaf (one_body (reached r) t) i)
 
@@ -250,24 +250,24 @@ keeps_s17 (clauses.deep_class r s d) = not_deep_name (reached r) s d
 
 -- ---- S18 to S27: the simple form
 
-texts_stay : {g : Group} {c : Tree Leaf} → ¬ (Step g (as_tree simple_texts) c)
+texts_stay : {g : RuleGroup} {c : Tree Leaf} → ¬ (Step g (as_tree simple_texts) c)
 texts_stay (steps.other_not_allowed f h) = elim h [ ]
 texts_stay (steps.in_first d) = elim d [ ]
 texts_stay (steps.in_second d) = elim d [ ]
 texts_stay (steps.in_others d) = elim d [ ]
 
 -- one step carries notAllowed outward
-next_of_inside : {g : Group} {c : Tree Leaf} → Step g (as_tree simple_inside) c → c ≡ tree.not_allowed
+next_of_inside : {g : RuleGroup} {c : Tree Leaf} → Step g (as_tree simple_inside) c → c ≡ tree.not_allowed
 next_of_inside (steps.second_not_allowed f) = refl
 next_of_inside (steps.other_not_allowed f h) = elim h [ ]
 next_of_inside (steps.in_first d) = absurd (texts_stay d)
 next_of_inside (steps.in_second d) = elim d [ ]
 next_of_inside (steps.in_others d) = elim d [ ]
 
-nothing_stays : {g : Group} {c : Tree Leaf} → ¬ (Step g tree.not_allowed c)
+nothing_stays : {g : RuleGroup} {c : Tree Leaf} → ¬ (Step g tree.not_allowed c)
 nothing_stays d = elim d [ ]
 
-leaf_stays : {g : Group} {l : Leaf} {c : Tree Leaf} → ¬ (Step g (tree.leaf l) c)
+leaf_stays : {g : RuleGroup} {l : Leaf} {c : Tree Leaf} → ¬ (Step g (tree.leaf l) c)
 leaf_stays d = elim d [ ]
 
 only_nothing : {b : Tree Leaf} → Steps AnyStep tree.not_allowed b → b ≡ tree.not_allowed
@@ -293,7 +293,7 @@ none_in_nothing {l} e i = elim_leaf (subst (LeafIn l) e i) where
   elim_leaf : {l : Leaf} → ¬ (LeafIn l tree.not_allowed)
   elim_leaf i = elim i [ ]
 
-simply_reached : {l : Leaf} → IsSimplyReached good l → l ≡ the_element
+simply_reached : {l : Leaf} → IsReachedBySimpleForms good l → l ≡ the_element
 simply_reached (from_simple_start t f i) = only_leaf (simple_start_is (one_start t) f) i
 simply_reached (from_simple_body r t f i) = absurd (none_in_nothing (simple_inside_is (one_body (simply_reached r) t) f) i)
 
@@ -398,13 +398,13 @@ keeps_restrictions is (restrictions.in_text i b) = no_joined (stands_alone (bare
 -- ---- no clause is broken
 
 pub breaks_nothing : BreaksNoClause good
-breaks_nothing clause (clauses.in_name_class b) = keeps_s11 b
-breaks_nothing clause (clauses.in_datatype b) = keeps_s12 b
-breaks_nothing clause (clauses.in_combination b) = keeps_s13 b
-breaks_nothing clause (clauses.in_start b) = keeps_s14 b
-breaks_nothing clause (clauses.in_ref b) = keeps_s15 b
-breaks_nothing clause (clauses.in_expansion b) = keeps_s16 b
-breaks_nothing clause (clauses.in_depth b) = keeps_s17 b
+breaks_nothing clause (clauses.in_schema (clauses.in_name_class b)) = keeps_s11 b
+breaks_nothing clause (clauses.in_schema (clauses.in_datatype b)) = keeps_s12 b
+breaks_nothing clause (clauses.in_schema (clauses.in_combination b)) = keeps_s13 b
+breaks_nothing clause (clauses.in_schema (clauses.without_start b)) = keeps_s14 b
+breaks_nothing clause (clauses.in_schema (clauses.in_ref b)) = keeps_s15 b
+breaks_nothing clause (clauses.in_schema (clauses.in_expansion b)) = keeps_s16 b
+breaks_nothing clause (clauses.in_schema (clauses.in_depth b)) = keeps_s17 b
 breaks_nothing clause (clauses.in_restriction is b) = keeps_restrictions is b
 
 -- ---- the simple form is this grammar
@@ -421,7 +421,7 @@ the_form = record { start = as_tree (s_leaf the_element); elements = element_of_
 start_stays : IsSimpleFormOf (as_tree (s_leaf the_element)) (as_tree (s_leaf the_element))
 start_stays = record { reached = no_step; last = λ c s. leaf_stays s.1 }
 
-is_reached : IsSimplyReached good the_element
+is_reached : IsReachedBySimpleForms good the_element
 is_reached = from_simple_start start_tree start_stays at.here
 
 is_element : IsElementOf good element_of_form

@@ -5,7 +5,7 @@ use Rattle.rng_model.specs.Tree as tree
 use Rattle.rng_model.specs.Tree.{Tree, choice, group, interleave}
 use Rattle.rng_model.specs.Patterns.{Place, Pattern, element, empty, ref, parent_ref, grammar, external, joined, no_patterns, Point, an_element, a_ref, a_parent_ref, a_grammar}
 use Rattle.rng_model.specs.Lists.{Among}
-use Rattle.rng_model.specs.Schema.{Schema, Component, Definition, body, start_of, HasComponent}
+use Rattle.rng_model.specs.Schema.{Schema, Component, Definition, body, main_start, HasComponent}
 use Rattle.rng_model.specs.SimpleForm as at
 use Rattle.rng_model.specs.Unfolding.{Leaf, Aim, to_definition, aim, Unfolds, IsTreeOf, IsBodyOf}
 use Rattle.rng_model.specs.Unfolding as u
@@ -61,7 +61,7 @@ two_by_choice = one_grammar (start (ref (codes "a"))
     ∷ record { name = Some (codes "a"); method = Choice; pattern = an_element_of (codes "x") empty } ∷ [])
 
 -- equal bodies of one name are two elements: the position of each begins with the number of its component
-choice_of_two : IsTreeOf two_by_choice (start_of two_by_choice)
+choice_of_two : IsTreeOf two_by_choice (main_start two_by_choice)
     (tree.joined choice (tree.leaf (empty_leaf (1 ∷ []) (codes "x"))) (tree.leaf (empty_leaf (2 ∷ []) (codes "x"))) tree.no_trees)
 unfolding body
 choice_of_two = (tree.leaf (a_ref (codes "a")), refl, u.found refl refl (u.joined_is (u.element_is refl) (u.element_is refl) u.none_is))
@@ -72,7 +72,7 @@ two_names = one_grammar (start (joined choice (ref (codes "a")) (ref (codes "b")
     ∷ define (codes "a") (an_element_of (codes "x") empty) ∷ define (codes "b") (an_element_of (codes "x") empty) ∷ [])
 
 -- equal bodies of two names are two elements too
-choice_of_two_names : IsTreeOf two_names (start_of two_names)
+choice_of_two_names : IsTreeOf two_names (main_start two_names)
     (tree.joined choice (tree.leaf (empty_leaf (1 ∷ []) (codes "x"))) (tree.leaf (empty_leaf (2 ∷ []) (codes "x"))) tree.no_trees)
 unfolding body
 choice_of_two_names = (tree.joined choice (tree.leaf (a_ref (codes "a"))) (tree.leaf (a_ref (codes "b"))) tree.no_trees, refl,
@@ -101,7 +101,7 @@ abbrev through_a_file : Schema
 through_a_file = one_grammar (start (external (ref (codes "x"))) ∷ define (codes "x") (an_element_of (codes "a") empty) ∷ [])
 
 -- its refs are looked up in the grammar that mentions it
-ref_through_a_file : IsTreeOf through_a_file (start_of through_a_file) (tree.leaf (empty_leaf (1 ∷ []) (codes "a")))
+ref_through_a_file : IsTreeOf through_a_file (main_start through_a_file) (tree.leaf (empty_leaf (1 ∷ []) (codes "a")))
 unfolding body
 ref_through_a_file = (tree.leaf (a_ref (codes "x")), refl, u.found refl refl (u.element_is refl))
 
@@ -171,7 +171,7 @@ abbrev the_element_b : Leaf
 the_element_b = record { place = []; position = 1 ∷ []; class = named (codes "b"); content = ref (codes "c") }
 
 -- a loop through an element is none: the element is a leaf, and a leaf of its own body
-recursive_start : IsTreeOf recursive (start_of recursive) (tree.leaf the_element_b)
+recursive_start : IsTreeOf recursive (main_start recursive) (tree.leaf the_element_b)
 unfolding body
 recursive_start = (tree.leaf (a_ref (codes "c")), refl, u.found refl refl (u.element_is refl))
 

@@ -1,7 +1,7 @@
 -- Trees and their simple forms.
 use Rattle.std.proofs.Common.{[], ◌∷◌, codes}
 use Rattle.rng_model.specs.Tree.{Datatype, Tree, group, data_of, data_except, value, joined, no_trees, not_allowed, empty}
-use Rattle.rng_model.specs.Simplification.{Group, propagation, Step, IsSimpleFormOf, no_step, step_and}
+use Rattle.rng_model.specs.Simplification.{RuleGroup, propagation, Step, IsSimpleFormOf, no_step, step_and}
 use Rattle.rng_model.specs.Simplification as steps
 
 abbrev plain : Datatype
@@ -11,10 +11,10 @@ abbrev token_x : {L : Type 0} → Tree L
 token_x = value (record { lib = []; type_name = codes "token"; parameters = [] }) (codes "x")
 
 module _ (L : Type 0) where
-  data_stays : {g : Group} {c : Tree L} → ¬ (Step g (data_of plain) c)
+  data_stays : {g : RuleGroup} {c : Tree L} → ¬ (Step g (data_of plain) c)
   data_stays d = elim d [ ]
 
-  except_stays : {g : Group} {c : Tree L} → ¬ (Step g (data_except plain token_x) c)
+  except_stays : {g : RuleGroup} {c : Tree L} → ¬ (Step g (data_except plain token_x) c)
   except_stays (steps.in_except d) = elim d [ ]
 
   -- `string - (notAllowed, "x")` is `string`: what the except holds is gone before the restrictions are judged

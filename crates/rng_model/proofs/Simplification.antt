@@ -5,7 +5,7 @@ use Rattle.rng_model.specs.Simplification as groups
 
 module _ {L : Type 0} where
   mutual
-    pub step_of : {g : groups.Group} {a b : Tree L} → groups.Step g a b → step.Step a b
+    pub step_of : {g : groups.RuleGroup} {a b : Tree L} → groups.Step g a b → step.Step a b
     step_of groups.nest = step.nest
     step_of (groups.in_class d) = step.in_class d
     step_of groups.mixed_is = step.mixed_is
@@ -36,7 +36,7 @@ module _ {L : Type 0} where
     step_of (groups.in_second d) = step.in_second (step_of d)
     step_of (groups.in_others d) = step.in_others (step_among_of d)
 
-    step_among_of : {g : groups.Group} {ts us : Trees L} → groups.StepAmong g ts us → step.StepAmong ts us
+    step_among_of : {g : groups.RuleGroup} {ts us : Trees L} → groups.StepAmong g ts us → step.StepAmong ts us
     step_among_of (groups.this_member d) = step.this_member (step_of d)
     step_among_of (groups.later_member d) = step.later_member (step_among_of d)
 
@@ -72,7 +72,7 @@ module _ {L : Type 0} where
     grouped (step.in_second d) = let s = grouped d in (s.0, groups.in_second s.1)
     grouped (step.in_others d) = let s = grouped_among d in (s.0, groups.in_others s.1)
 
-    grouped_among : {ts us : Trees L} → step.StepAmong ts us → (g : groups.Group) × groups.StepAmong g ts us
+    grouped_among : {ts us : Trees L} → step.StepAmong ts us → (g : groups.RuleGroup) × groups.StepAmong g ts us
     grouped_among (step.this_member d) = let s = grouped d in (s.0, groups.this_member s.1)
     grouped_among (step.later_member d) = let s = grouped_among d in (s.0, groups.later_member s.1)
 

@@ -3,7 +3,7 @@ use Rattle.std.specs.Prelude.{ℕ, ◌+◌, max}
 use Rattle.rng_model.specs.Names.{NameClass, any_name, any_except, ns_name, ns_except, name_is, one_of, NameClasses, no_classes, class_and}
 use Rattle.rng_model.specs.Tree.{Simple, s_not_allowed, s_empty, s_text, s_leaf, s_attribute, s_list, s_data, s_data_except, s_value, s_one_or_more, s_joined}
 
--- what has no child has the depth 1, all else one more than its deepest child; the child of an except is its class
+-- what has no child has the depth 1, all else one more than its deepest child; the child of `* - c` and of `p:* - c` is c
 abbrev mutual
   pub class_depth : NameClass → ℕ
   class_depth any_name = 1

@@ -30,6 +30,7 @@ pub mod Facets
 pub mod Numerals
 pub mod Datatypes
 pub mod DatatypeTests
+pub mod Least
 pub mod Patterns
 pub mod Schema
 pub mod Unfolding

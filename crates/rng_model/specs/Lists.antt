@@ -11,7 +11,7 @@ pub data HasTwice {A : Type 0} : List A → Type 0 where
   at_first : {x : A} {xs : List A} → Among x xs → HasTwice (x ∷ xs)
   later : {x : A} {xs : List A} → HasTwice xs → HasTwice (x ∷ xs)
 
--- two of the list, at different places, are so to one another
+-- of two of the list, the earlier is so to the later
 pub data HasTwo {A : Type 0} (P : A → A → Type 0) : List A → Type 0 where
   first_and : {x y : A} {xs : List A} → Among y xs → P x y → HasTwo P (x ∷ xs)
   both_later : {x : A} {xs : List A} → HasTwo P xs → HasTwo P (x ∷ xs)

@@ -1,6 +1,6 @@
 -- Patterns as they are written, of all kinds (RELAX NG Specification, section 3; mentions of files followed, 4.5 and 4.6).
 -- Where an element stands, its position says, so that two equal ones are told apart.
-use Rattle.std.specs.Prelude.{ℕ, ◌+◌, List, ◌∷◌}
+use Rattle.std.specs.Prelude.{ℕ, ◌+◌, List, [], ◌∷◌}
 use Rattle.rng_model.specs.Names.{NameClass}
 use Rattle.rng_model.specs.Tree.{Datatype, Connector}
 use Rattle.rng_model.specs.Tree.{Tree, Trees}
@@ -26,7 +26,8 @@ mutual
     list : Pattern → Pattern
     data_of : Datatype → Pattern
     data_except : Datatype → Pattern → Pattern
-    value : Datatype → List ℕ → Pattern
+    -- the library and the name of its datatype, which has no parameters, and its text
+    value : List ℕ → List ℕ → List ℕ → Pattern
     mixed : Pattern → Pattern
     optional : Pattern → Pattern
     zero_or_more : Pattern → Pattern
@@ -44,6 +45,10 @@ mutual
     no_patterns : Patterns
     pattern_and : Pattern → Patterns → Patterns
 
+-- the datatype of this name in this library, with no parameters
+abbrev pub without_parameters : List ℕ → List ℕ → Datatype
+without_parameters library name = record { lib = library; type_name = name; parameters = [] }
+
 -- where the tree of a pattern ends: an element, at its position, with its class and its body; or what is looked up
 pub data Point : Type 0 where
   an_element : Position → NameClass → Pattern → Point
@@ -53,49 +58,49 @@ pub data Point : Type 0 where
 
 -- the tree of the pattern at a position, down to its elements and refs; an external is its file's pattern (section 4.6)
 abbrev mutual
-  pub tree_at : Position → Pattern → Tree Point
-  tree_at x not_allowed = tree.not_allowed
-  tree_at x empty = tree.empty
-  tree_at x text = tree.text
-  tree_at x (element c p) = tree.leaf (an_element x c p)
-  tree_at x (attribute c p) = tree.attribute c (tree_at (0 ∷ x) p)
-  tree_at x (list p) = tree.list (tree_at (0 ∷ x) p)
-  tree_at x (data_of d) = tree.data_of d
-  tree_at x (data_except d p) = tree.data_except d (tree_at (0 ∷ x) p)
-  tree_at x (value d v) = tree.value d v
-  tree_at x (mixed p) = tree.mixed (tree_at (0 ∷ x) p)
-  tree_at x (optional p) = tree.optional (tree_at (0 ∷ x) p)
-  tree_at x (zero_or_more p) = tree.zero_or_more (tree_at (0 ∷ x) p)
-  tree_at x (one_or_more p) = tree.one_or_more (tree_at (0 ∷ x) p)
-  tree_at x (joined k p q ps) = tree.joined k (tree_at (0 ∷ x) p) (tree_at (1 ∷ x) q) (trees_at 2 x ps)
-  tree_at x (ref y) = tree.leaf (a_ref y)
-  tree_at x (parent_ref y) = tree.leaf (a_parent_ref y)
-  tree_at x (grammar z) = tree.leaf (a_grammar z)
-  tree_at x (external p) = tree_at (0 ∷ x) p
+  pub pattern_tree : Position → Pattern → Tree Point
+  pattern_tree x not_allowed = tree.not_allowed
+  pattern_tree x empty = tree.empty
+  pattern_tree x text = tree.text
+  pattern_tree x (element c p) = tree.leaf (an_element x c p)
+  pattern_tree x (attribute c p) = tree.attribute c (pattern_tree (0 ∷ x) p)
+  pattern_tree x (list p) = tree.list (pattern_tree (0 ∷ x) p)
+  pattern_tree x (data_of d) = tree.data_of d
+  pattern_tree x (data_except d p) = tree.data_except d (pattern_tree (0 ∷ x) p)
+  pattern_tree x (value library name v) = tree.value (without_parameters library name) v
+  pattern_tree x (mixed p) = tree.mixed (pattern_tree (0 ∷ x) p)
+  pattern_tree x (optional p) = tree.optional (pattern_tree (0 ∷ x) p)
+  pattern_tree x (zero_or_more p) = tree.zero_or_more (pattern_tree (0 ∷ x) p)
+  pattern_tree x (one_or_more p) = tree.one_or_more (pattern_tree (0 ∷ x) p)
+  pattern_tree x (joined k p q ps) = tree.joined k (pattern_tree (0 ∷ x) p) (pattern_tree (1 ∷ x) q) (pattern_trees 2 x ps)
+  pattern_tree x (ref y) = tree.leaf (a_ref y)
+  pattern_tree x (parent_ref y) = tree.leaf (a_parent_ref y)
+  pattern_tree x (grammar z) = tree.leaf (a_grammar z)
+  pattern_tree x (external p) = pattern_tree (0 ∷ x) p
 
   -- the first of them is the child with this number
-  pub trees_at : ℕ → Position → Patterns → Trees Point
-  trees_at n x no_patterns = tree.no_trees
-  trees_at n x (pattern_and p ps) = tree.tree_and (tree_at (n ∷ x) p) (trees_at (n + 1) x ps)
+  pub pattern_trees : ℕ → Position → Patterns → Trees Point
+  pattern_trees n x no_patterns = tree.no_trees
+  pattern_trees n x (pattern_and p ps) = tree.tree_and (pattern_tree (n ∷ x) p) (pattern_trees (n + 1) x ps)
 
 -- the pattern q is p or stands somewhere in it, also in the bodies of elements and in the patterns of other files; the
 -- components of a nested grammar stand at its own place
 mutual
-  pub data StandsIn (q : Pattern) : Pattern → Type 0 where
-    itself : StandsIn q q
-    in_element : {c : NameClass} {p : Pattern} → StandsIn q p → StandsIn q (element c p)
-    in_attribute : {c : NameClass} {p : Pattern} → StandsIn q p → StandsIn q (attribute c p)
-    in_list : {p : Pattern} → StandsIn q p → StandsIn q (list p)
-    in_except : {d : Datatype} {p : Pattern} → StandsIn q p → StandsIn q (data_except d p)
-    in_mixed : {p : Pattern} → StandsIn q p → StandsIn q (mixed p)
-    in_optional : {p : Pattern} → StandsIn q p → StandsIn q (optional p)
-    in_zero_or_more : {p : Pattern} → StandsIn q p → StandsIn q (zero_or_more p)
-    in_one_or_more : {p : Pattern} → StandsIn q p → StandsIn q (one_or_more p)
-    in_first : {k : Connector} {p r : Pattern} {ps : Patterns} → StandsIn q p → StandsIn q (joined k p r ps)
-    in_second : {k : Connector} {p r : Pattern} {ps : Patterns} → StandsIn q r → StandsIn q (joined k p r ps)
-    in_another : {k : Connector} {p r : Pattern} {ps : Patterns} → StandsAmong q ps → StandsIn q (joined k p r ps)
-    in_external : {p : Pattern} → StandsIn q p → StandsIn q (external p)
+  pub data IsWrittenIn (q : Pattern) : Pattern → Type 0 where
+    itself : IsWrittenIn q q
+    in_element : {c : NameClass} {p : Pattern} → IsWrittenIn q p → IsWrittenIn q (element c p)
+    in_attribute : {c : NameClass} {p : Pattern} → IsWrittenIn q p → IsWrittenIn q (attribute c p)
+    in_list : {p : Pattern} → IsWrittenIn q p → IsWrittenIn q (list p)
+    in_except : {d : Datatype} {p : Pattern} → IsWrittenIn q p → IsWrittenIn q (data_except d p)
+    in_mixed : {p : Pattern} → IsWrittenIn q p → IsWrittenIn q (mixed p)
+    in_optional : {p : Pattern} → IsWrittenIn q p → IsWrittenIn q (optional p)
+    in_zero_or_more : {p : Pattern} → IsWrittenIn q p → IsWrittenIn q (zero_or_more p)
+    in_one_or_more : {p : Pattern} → IsWrittenIn q p → IsWrittenIn q (one_or_more p)
+    in_first : {k : Connector} {p r : Pattern} {ps : Patterns} → IsWrittenIn q p → IsWrittenIn q (joined k p r ps)
+    in_second : {k : Connector} {p r : Pattern} {ps : Patterns} → IsWrittenIn q r → IsWrittenIn q (joined k p r ps)
+    in_another : {k : Connector} {p r : Pattern} {ps : Patterns} → IsWrittenAmong q ps → IsWrittenIn q (joined k p r ps)
+    in_external : {p : Pattern} → IsWrittenIn q p → IsWrittenIn q (external p)
 
-  pub data StandsAmong (q : Pattern) : Patterns → Type 0 where
-    in_this : {p : Pattern} {ps : Patterns} → StandsIn q p → StandsAmong q (pattern_and p ps)
-    in_later : {p : Pattern} {ps : Patterns} → StandsAmong q ps → StandsAmong q (pattern_and p ps)
+  pub data IsWrittenAmong (q : Pattern) : Patterns → Type 0 where
+    in_this : {p : Pattern} {ps : Patterns} → IsWrittenIn q p → IsWrittenAmong q (pattern_and p ps)
+    in_later : {p : Pattern} {ps : Patterns} → IsWrittenAmong q ps → IsWrittenAmong q (pattern_and p ps)

@@ -2,21 +2,21 @@
 -- forms (RELAX NG Specification, sections 4.18 to 4.20).
 use Rattle.rng_model.specs.Tree.{Tree}
 use Rattle.rng_model.specs.SimpleForm.{LeafIn}
-use Rattle.rng_model.specs.Schema.{Schema, start_of}
+use Rattle.rng_model.specs.Schema.{Schema, main_start}
 use Rattle.rng_model.specs.Unfolding.{Leaf, IsTreeOf, IsBodyOf}
 use Rattle.rng_model.specs.Simplification.{IsSimpleFormOf}
 
 -- an element that is a leaf of the start's tree, or of the tree of the body of one so reached
-pub data IsReached (s : Schema) : Leaf → Type 0 where
-  from_start : {t : Tree Leaf} {l : Leaf} → IsTreeOf s (start_of s) t → LeafIn l t → IsReached s l
-  from_element : {m l : Leaf} {t : Tree Leaf} → IsReached s m → IsBodyOf s m t → LeafIn l t → IsReached s l
+pub data IsReachedByTrees (s : Schema) : Leaf → Type 0 where
+  from_start : {t : Tree Leaf} {l : Leaf} → IsTreeOf s (main_start s) t → LeafIn l t → IsReachedByTrees s l
+  from_element : {m l : Leaf} {t : Tree Leaf} → IsReachedByTrees s m → IsBodyOf s m t → LeafIn l t → IsReachedByTrees s l
 
 -- the start's tree, or that of the body of an element that is reached
 pub data IsReachedTree (s : Schema) : Tree Leaf → Type 0 where
-  of_start : {t : Tree Leaf} → IsTreeOf s (start_of s) t → IsReachedTree s t
-  of_body : {l : Leaf} {t : Tree Leaf} → IsReached s l → IsBodyOf s l t → IsReachedTree s t
+  of_start : {t : Tree Leaf} → IsTreeOf s (main_start s) t → IsReachedTree s t
+  of_body : {l : Leaf} {t : Tree Leaf} → IsReachedByTrees s l → IsBodyOf s l t → IsReachedTree s t
 
 -- an element that is a leaf of the start's simple form, or of that of the body of one so reached
-pub data IsSimplyReached (s : Schema) : Leaf → Type 0 where
-  from_simple_start : {t b : Tree Leaf} {l : Leaf} → IsTreeOf s (start_of s) t → IsSimpleFormOf t b → LeafIn l b → IsSimplyReached s l
-  from_simple_body : {m l : Leaf} {t b : Tree Leaf} → IsSimplyReached s m → IsBodyOf s m t → IsSimpleFormOf t b → LeafIn l b → IsSimplyReached s l
+pub data IsReachedBySimpleForms (s : Schema) : Leaf → Type 0 where
+  from_simple_start : {t b : Tree Leaf} {l : Leaf} → IsTreeOf s (main_start s) t → IsSimpleFormOf t b → LeafIn l b → IsReachedBySimpleForms s l
+  from_simple_body : {m l : Leaf} {t b : Tree Leaf} → IsReachedBySimpleForms s m → IsBodyOf s m t → IsSimpleFormOf t b → LeafIn l b → IsReachedBySimpleForms s l

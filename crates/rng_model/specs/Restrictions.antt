@@ -1,5 +1,6 @@
 -- The restrictions on grammars in the simple syntax: clauses S18 to S27 (RELAX NG Specification, section 7).
-use Rattle.std.specs.Prelude.{◌≡◌, ◌≢◌, ◌⊎◌, ℕ, ◌≤◌, List, Some, slice_get}
+use Rattle.std.specs.Prelude.{◌≡◌, ◌≢◌, ◌⊎◌, ℕ, List, Some, slice_get}
+use Rattle.rng_model.specs.Least.{IsLeast}
 use Rattle.rng_model.specs.Lists.{Among}
 use Rattle.rng_model.specs.Names.{NameClass, NameClasses, any_name, any_except, ns_name, ns_except, one_of, class_and, Overlap}
 use Rattle.rng_model.specs.Tree as tree
@@ -296,6 +297,5 @@ pub data BreaksRestriction (g : Grammar) : ℕ → Type 0 where
   in_text : {p : Simple ℕ} → IsPart g p → BreaksText p → BreaksRestriction g 27
 
 -- the least clause that it breaks
-pub record IsLeastRestriction (g : Grammar) (clause : ℕ) : Type 0 where
-  pub broken : BreaksRestriction g clause
-  pub least : (other : ℕ) → BreaksRestriction g other → clause ≤ other
+abbrev pub IsLeastRestriction : Grammar → ℕ → Type 0
+IsLeastRestriction g clause = IsLeast (BreaksRestriction g) clause

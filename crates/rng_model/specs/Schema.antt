@@ -5,7 +5,7 @@ use Rattle.std.specs.Str.{bytes_eq}
 use Rattle.rng_model.specs.Lists.{Among}
 use Rattle.rng_model.specs.Tree.{Connector, choice, interleave}
 use Rattle.rng_model.specs.Tree.{Tree, joined, no_trees}
-use Rattle.rng_model.specs.Patterns.{Place, Pattern, Point, tree_at, StandsIn}
+use Rattle.rng_model.specs.Patterns.{Place, Pattern, grammar, Point, pattern_tree, IsWrittenIn}
 use Rattle.rng_model.specs.declared.method.Method.{Method}
 use Rattle.rng_model.specs.declared.method.Method.TheVariants as methods
 
@@ -21,14 +21,14 @@ pub record Schema : Type 0 where
   pub components : Place → Option (List Component)
   pub outer : Place → Option Place
 
--- a name, or the start, of the grammar at a place
+-- what is looked up: a name, or the start, of the grammar at a place, whether some component has it or none
 pub record Definition : Type 0 where
   pub place : Place
   pub name : Option (List ℕ)
 
 -- where matching starts
-abbrev pub start_of : Schema → Definition
-start_of s = record { place = s.main; name = None }
+abbrev pub main_start : Schema → Definition
+main_start s = record { place = s.main; name = None }
 
 abbrev pub same_name : Option (List ℕ) → Option (List ℕ) → Bool
 same_name None None = true
@@ -41,7 +41,7 @@ same_name (Some a) (Some b) = bytes_eq a b
 abbrev pub trees_named : Option (List ℕ) → ℕ → List Component → List (Tree Point)
 trees_named y n [] = []
 trees_named y n (c ∷ cs) =
-    if same_name y c.name then tree_at (n ∷ []) c.pattern ∷ trees_named y (n + 1) cs else trees_named y (n + 1) cs
+    if same_name y c.name then pattern_tree (n ∷ []) c.pattern ∷ trees_named y (n + 1) cs else trees_named y (n + 1) cs
 
 abbrev pub is_interleaved : Method → Bool
 is_interleaved methods.Plain = false
@@ -81,4 +81,12 @@ pub record HasComponent (s : Schema) (x : Place) (c : Component) : Type 0 where
 pub record IsWrittenAt (s : Schema) (x : Place) (q : Pattern) : Type 0 where
   pub component : Component
   pub there : HasComponent s x component
-  pub stands : StandsIn q component.pattern
+  pub written : IsWrittenIn q component.pattern
+
+-- The grammars of a schema are in their places: the main one is there and none is around it; each that is nested in another is
+-- there, and around it is the one in which it is written.
+pub record IsWellPlaced (s : Schema) : Type 0 where
+  pub components : List Component
+  pub main : s.components s.main ≡ Some components
+  pub outermost : s.outer s.main ≡ None
+  pub nested : (x z : Place) → IsWrittenAt s x (grammar z) → (cs : List Component) × (s.components z ≡ Some cs) × (s.outer z ≡ Some x)

@@ -1,4 +1,4 @@
--- What is answered of a schema and of a document, where the schema's files break no clause (docs/LANGUAGE.md).
+-- What is answered of a schema whose files break none of S1 to S10, and of a document by it (docs/LANGUAGE.md).
 use Rattle.std.specs.Prelude.{ℕ, ◌≤◌, List, length}
 use Rattle.rng_model.specs.Lines.{lines}
 use Rattle.rng_model.specs.PyxTrees.{Placed, item_of, IsPyxDocument}

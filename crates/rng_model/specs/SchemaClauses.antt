@@ -1,18 +1,19 @@
 -- The clauses that a schema of one grammar or more may break: S11 to S15 over all components at all places, reached or not;
 -- S16 and S17 over the trees that are reached; S18 to S27 over its simple form. (RELAX NG Specification, sections 4.16 to
--- 4.19 and 7; what is said of `xmlns` but its uri, and S17, are profile)
+-- 4.19 and 7; S17 is profile)
 use Rattle.std.specs.Prelude.{◌≡◌, codes, ℕ, ◌<◌, ◌≤◌, List, [], Some, None}
+use Rattle.rng_model.specs.Least.{IsLeast}
 use Rattle.rng_model.specs.Lists.{Among, HasTwo}
-use Rattle.rng_model.specs.Names.{NameClass, NameClasses, any_name, any_except, ns_name, ns_except, name_is, one_of, class_and}
+use Rattle.rng_model.specs.Names.{Name, NameClass, NameClasses, any_name, any_except, ns_name, ns_except, name_is, one_of, class_and}
 use Rattle.rng_model.specs.Tree.{Tree, Datatype, Simple, as_tree}
 use Rattle.rng_model.specs.Table.{Grammar}
 use Rattle.rng_model.specs.Datatypes.{IsKnownDatatype, IsAllowed}
 use Rattle.rng_model.specs.Step.{IsSimpleClassOf}
-use Rattle.rng_model.specs.Patterns.{Place, Pattern, element, attribute, data_of, data_except, value, ref, parent_ref}
-use Rattle.rng_model.specs.Schema.{Schema, Component, start_of, HasComponent, IsWrittenAt}
+use Rattle.rng_model.specs.Patterns.{Place, Pattern, element, attribute, data_of, data_except, value, without_parameters, ref, parent_ref}
+use Rattle.rng_model.specs.Schema.{Schema, Component, main_start, HasComponent, IsWrittenAt}
 use Rattle.rng_model.specs.Unfolding.{Leaf, IsTreeOf, IsBodyOf}
 use Rattle.rng_model.specs.Simplification.{IsRewritten}
-use Rattle.rng_model.specs.Reached.{IsReached, IsReachedTree}
+use Rattle.rng_model.specs.Reached.{IsReachedByTrees, IsReachedTree}
 use Rattle.rng_model.specs.Depth.{depth, class_depth, depth_limit}
 use Rattle.rng_model.specs.SchemaForm.{IsSimpleGrammarOf}
 use Rattle.rng_model.specs.Restrictions.{BreaksRestriction}
@@ -45,25 +46,25 @@ pub data IsNamespace : NameClass → Type 0 where
   namespace_but_is : {u : List ℕ} {c : NameClass} → IsNamespace (ns_except u c)
 
 -- in the class, inside an except of `*` there is a `*`, or inside one of `p:*` there is a `*` or a `q:*`
-pub data BreaksExcept (c : NameClass) : Type 0 where
-  any_in_any : {d e : NameClass} → IsPartOf (any_except e) c → IsPartOf d e → IsAny d → BreaksExcept c
-  any_in_namespace : {u : List ℕ} {d e : NameClass} → IsPartOf (ns_except u e) c → IsPartOf d e → IsAny d → BreaksExcept c
-  namespace_in_namespace : {u : List ℕ} {d e : NameClass} → IsPartOf (ns_except u e) c → IsPartOf d e → IsNamespace d → BreaksExcept c
+pub data BreaksClassExcept (c : NameClass) : Type 0 where
+  any_in_any : {d e : NameClass} → IsPartOf (any_except e) c → IsPartOf d e → IsAny d → BreaksClassExcept c
+  any_in_namespace : {u : List ℕ} {d e : NameClass} → IsPartOf (ns_except u e) c → IsPartOf d e → IsAny d → BreaksClassExcept c
+  namespace_in_namespace : {u : List ℕ} {d e : NameClass} → IsPartOf (ns_except u e) c → IsPartOf d e → IsNamespace d → BreaksClassExcept c
 
--- the namespace of which no attribute may be
-abbrev pub xmlns_uri : List ℕ
-xmlns_uri = codes "http://www.w3.org/2000/xmlns"
+-- the namespace of which no attribute may be; it has no slash at its end, as that of declarations in documents has
+abbrev pub barred_uri : List ℕ
+barred_uri = codes "http://www.w3.org/2000/xmlns"
 
 -- the class is the name `xmlns` without namespace, or a name, or all names, of that namespace
 pub data IsOfDeclarations : NameClass → Type 0 where
-  xmlns_is : IsOfDeclarations (name_is (record { ns = []; local = codes "xmlns" }))
-  name_of_it : {local : List ℕ} → IsOfDeclarations (name_is (record { ns = xmlns_uri; local = local }))
-  all_names_of_it : IsOfDeclarations (ns_name xmlns_uri)
-  names_of_it_but : {c : NameClass} → IsOfDeclarations (ns_except xmlns_uri c)
+  xmlns_is : {n : Name} → n.ns ≡ [] → n.local ≡ codes "xmlns" → IsOfDeclarations (name_is n)
+  name_of_it : {n : Name} → n.ns ≡ barred_uri → IsOfDeclarations (name_is n)
+  all_names_of_it : {u : List ℕ} → u ≡ barred_uri → IsOfDeclarations (ns_name u)
+  names_of_it_but : {u : List ℕ} {c : NameClass} → u ≡ barred_uri → IsOfDeclarations (ns_except u c)
 
 pub data BreaksNameClass (s : Schema) : Type 0 where
-  of_element : {x : Place} {c : NameClass} {p : Pattern} → IsWrittenAt s x (element c p) → BreaksExcept c → BreaksNameClass s
-  of_attribute : {x : Place} {c : NameClass} {p : Pattern} → IsWrittenAt s x (attribute c p) → BreaksExcept c → BreaksNameClass s
+  of_element : {x : Place} {c : NameClass} {p : Pattern} → IsWrittenAt s x (element c p) → BreaksClassExcept c → BreaksNameClass s
+  of_attribute : {x : Place} {c : NameClass} {p : Pattern} → IsWrittenAt s x (attribute c p) → BreaksClassExcept c → BreaksNameClass s
   of_declaration : {x : Place} {c d : NameClass} {p : Pattern} → IsWrittenAt s x (attribute c p) → IsPartOf d c → IsOfDeclarations d → BreaksNameClass s
 
 -- ---- S12: datatypes (section 4.16)
@@ -72,7 +73,8 @@ pub data BreaksNameClass (s : Schema) : Type 0 where
 pub data BreaksDatatype (s : Schema) : Type 0 where
   of_data : {x : Place} {d : Datatype} → IsWrittenAt s x (data_of d) → ¬ (IsKnownDatatype d) → BreaksDatatype s
   of_data_except : {x : Place} {d : Datatype} {p : Pattern} → IsWrittenAt s x (data_except d p) → ¬ (IsKnownDatatype d) → BreaksDatatype s
-  of_value : {x : Place} {d : Datatype} {v : List ℕ} → IsWrittenAt s x (value d v) → ¬ (IsAllowed d v) → BreaksDatatype s
+  of_value : {x : Place} {library name v : List ℕ} → IsWrittenAt s x (value library name v) → ¬ (IsAllowed (without_parameters library name) v)
+      → BreaksDatatype s
 
 -- ---- S13, S14, S15: grammars (sections 4.17 and 4.18)
 
@@ -84,7 +86,7 @@ pub data BreaksCombination (s : Schema) : Type 0 where
       → d.method ≡ methods.Interleave → BreaksCombination s
 
 -- S14: a grammar has no start
-pub record BreaksStart (s : Schema) : Type 0 where
+pub record HasNoStart (s : Schema) : Type 0 where
   pub place : Place
   pub components : List Component
   pub there : s.components place ≡ Some components
@@ -103,26 +105,29 @@ pub data BreaksRef (s : Schema) : Type 0 where
 
 -- S16: some expansion loops outside elements, so that the start, or the body of an element reached, has no tree
 pub data BreaksExpansion (s : Schema) : Type 0 where
-  of_start : ((t : Tree Leaf) → ¬ (IsTreeOf s (start_of s) t)) → BreaksExpansion s
-  of_body : {l : Leaf} → IsReached s l → ((t : Tree Leaf) → ¬ (IsBodyOf s l t)) → BreaksExpansion s
+  of_start : ((t : Tree Leaf) → ¬ (IsTreeOf s (main_start s) t)) → BreaksExpansion s
+  of_body : {l : Leaf} → IsReachedByTrees s l → ((t : Tree Leaf) → ¬ (IsBodyOf s l t)) → BreaksExpansion s
 
 -- S17: a tree that is reached is too deep, 4.12 to 4.15 applied, or the name class of an element that is reached
 pub data BreaksDepth (s : Schema) : Type 0 where
   deep_tree : {t : Tree Leaf} (p : Simple Leaf) → IsReachedTree s t → IsRewritten t (as_tree p) → depth_limit < depth p → BreaksDepth s
-  deep_class : {l : Leaf} {c : NameClass} → IsReached s l → IsSimpleClassOf l.class c → depth_limit < class_depth c → BreaksDepth s
+  deep_class : {l : Leaf} {c : NameClass} → IsReachedByTrees s l → IsSimpleClassOf l.class c → depth_limit < class_depth c → BreaksDepth s
 
 -- ---- the verdict
 
--- the schema breaks the clause
+-- the schema breaks the clause, of those that come before its simple form
+pub data BreaksSchemaClause (s : Schema) : ℕ → Type 0 where
+  in_name_class : BreaksNameClass s → BreaksSchemaClause s 11
+  in_datatype : BreaksDatatype s → BreaksSchemaClause s 12
+  in_combination : BreaksCombination s → BreaksSchemaClause s 13
+  without_start : HasNoStart s → BreaksSchemaClause s 14
+  in_ref : BreaksRef s → BreaksSchemaClause s 15
+  in_expansion : BreaksExpansion s → BreaksSchemaClause s 16
+  in_depth : BreaksDepth s → BreaksSchemaClause s 17
+
+-- the schema breaks the clause: one of those, or its simple form breaks a restriction
 pub data BreaksClause (s : Schema) : ℕ → Type 0 where
-  in_name_class : BreaksNameClass s → BreaksClause s 11
-  in_datatype : BreaksDatatype s → BreaksClause s 12
-  in_combination : BreaksCombination s → BreaksClause s 13
-  in_start : BreaksStart s → BreaksClause s 14
-  in_ref : BreaksRef s → BreaksClause s 15
-  in_expansion : BreaksExpansion s → BreaksClause s 16
-  in_depth : BreaksDepth s → BreaksClause s 17
-  -- S18 to S27
+  in_schema : {clause : ℕ} → BreaksSchemaClause s clause → BreaksClause s clause
   in_restriction : {g : Grammar} {clause : ℕ} → IsSimpleGrammarOf s g → BreaksRestriction g clause → BreaksClause s clause
 
 -- it breaks none
@@ -130,6 +135,5 @@ abbrev pub BreaksNoClause : Schema → Type 0
 BreaksNoClause s = (clause : ℕ) → ¬ (BreaksClause s clause)
 
 -- the least clause that it breaks
-pub record IsLeastClause (s : Schema) (clause : ℕ) : Type 0 where
-  pub broken : BreaksClause s clause
-  pub least : (other : ℕ) → BreaksClause s other → clause ≤ other
+abbrev pub IsLeastClause : Schema → ℕ → Type 0
+IsLeastClause s clause = IsLeast (BreaksClause s) clause

@@ -7,10 +7,10 @@ use Rattle.rng_model.specs.Table.{Grammar}
 use Rattle.rng_model.specs.Unfold.{renamed}
 use Rattle.rng_model.specs.Step.{IsSimpleClassOf}
 use Rattle.rng_model.specs.SimpleForm.{AreLeavesBelow}
-use Rattle.rng_model.specs.Schema.{Schema, start_of}
+use Rattle.rng_model.specs.Schema.{Schema, main_start}
 use Rattle.rng_model.specs.Unfolding.{Leaf, IsTreeOf, IsBodyOf}
 use Rattle.rng_model.specs.Simplification.{IsSimpleFormOf}
-use Rattle.rng_model.specs.Reached.{IsSimplyReached}
+use Rattle.rng_model.specs.Reached.{IsReachedBySimpleForms}
 
 -- an element of a simple form: which one it is, its name class, and its body
 pub record Element : Type 0 where
@@ -25,7 +25,7 @@ pub record SimpleForm : Type 0 where
 
 -- an element that is reached, with the simple forms of its name class and of its body's tree
 pub record IsElementOf (s : Schema) (e : Element) : Type 0 where
-  pub reached : IsSimplyReached s e.name
+  pub reached : IsReachedBySimpleForms s e.name
   pub class : IsSimpleClassOf e.name.class e.class
   pub tree : Tree Leaf
   pub is_tree : IsBodyOf s e.name tree
@@ -35,10 +35,10 @@ pub record IsElementOf (s : Schema) (e : Element) : Type 0 where
 -- element may be notAllowed
 pub record IsSimpleFormOfSchema (s : Schema) (f : SimpleForm) : Type 0 where
   pub tree : Tree Leaf
-  pub is_tree : IsTreeOf s (start_of s) tree
+  pub is_tree : IsTreeOf s (main_start s) tree
   pub start : IsSimpleFormOf tree f.start
   pub elements : All (IsElementOf s) f.elements
-  pub reached : (l : Leaf) → IsSimplyReached s l → (e : Element) × Contains f.elements e × (e.name ≡ l)
+  pub reached : (l : Leaf) → IsReachedBySimpleForms s l → (e : Element) × Contains f.elements e × (e.name ≡ l)
 
 -- The grammar is this form up to numbering: a one-to-one pairing of its numbers with the elements of the form carries
 -- start, name classes and bodies over.

@@ -9,8 +9,8 @@ use Rattle.rng_model.specs.Lex.{HasText}
 use Rattle.rng_model.specs.Texts.{texts_of}
 use Rattle.rng_model.specs.DatatypeTests.{text_tests}
 use Rattle.rng_model.specs.Table.{Grammar, IsValidBy}
-use Rattle.rng_model.specs.Patterns.{Place, Position, Pattern, Point, an_element, tree_at}
-use Rattle.rng_model.specs.Schema.{Schema, Definition, start_of, body}
+use Rattle.rng_model.specs.Patterns.{Place, Position, Pattern, Point, an_element, pattern_tree}
+use Rattle.rng_model.specs.Schema.{Schema, Definition, main_start, body}
 use Rattle.rng_model.specs.Unfolding.{Leaf, to_definition, aim, Unfolds}
 
 module _ (s : Schema) where
@@ -19,19 +19,19 @@ module _ (s : Schema) where
     is_found : {x z : Place} {l : Point} {d : Definition} {a : Tree Point} → aim s x l ≡ to_definition d → body s d ≡ Some a → z ≡ d.place → IsFound x l z a
 
   -- an element has its class, and its body, which is its only child, at the same place
-  pub data IsWritten : Place → Point → NameClass → Place → Tree Point → Type 0 where
-    is_written : {x : Place} {n : Position} {c : NameClass} {p : Pattern} {a : Tree Point} → a ≡ tree_at (0 ∷ n) p → IsWritten x (an_element n c p) c x a
+  pub data IsWrittenElement : Place → Point → NameClass → Place → Tree Point → Type 0 where
+    is_written : {x : Place} {n : Position} {c : NameClass} {p : Pattern} {a : Tree Point} → a ≡ pattern_tree (0 ∷ n) p → IsWrittenElement x (an_element n c p) c x a
 
   -- the except of a data has the text if its unfolded tree does (section 6.2.8)
   abbrev pub ExceptHas : Texts → Place → Tree Point → List ℕ → Type 0
   ExceptHas texts x a w = (t : Tree Leaf) × Unfolds s x a t × HasText texts t w
 
   abbrev pub schema_leaves : Texts → Leaves Place Point
-  schema_leaves texts = record { StandsFor = IsFound; IsElement = IsWritten; Excepts = ExceptHas texts }
+  schema_leaves texts = record { StandsFor = IsFound; IsElement = IsWrittenElement; Excepts = ExceptHas texts }
 
   -- the document with this root is valid by the start of the main grammar, whatever is known of texts (section 6.3)
   abbrev pub IsValidOver : Texts → Item → Type 0
-  IsValidOver texts root = (a : Tree Point) × (body s (start_of s) ≡ Some a) × IsValid (schema_leaves texts) In texts s.main a root
+  IsValidOver texts root = (a : Tree Point) × (body s (main_start s) ≡ Some a) × IsValid (schema_leaves texts) In texts s.main a root
 
   -- the same with the datatypes of the table
   abbrev pub IsValidBySchema : Item → Type 0

@@ -8,15 +8,15 @@ use Rattle.rng_model.specs.Tree.{Datatype, Connector, choice, interleave}
 use Rattle.rng_model.specs.Tree.{Tree, not_allowed, empty, text, attribute, list, data_of, data_except, mixed, optional, zero_or_more, one_or_more, joined}
 use Rattle.rng_model.specs.Tree.{Trees, no_trees, tree_and}
 
-pub data Group : Type 0 where
+pub data RuleGroup : Type 0 where
   -- 4.12 to 4.15
-  rewriting : Group
+  rewriting : RuleGroup
   -- 4.20 and 4.21
-  propagation : Group
+  propagation : RuleGroup
 
 -- one step of a group
 mutual
-  pub data Step {L : Type 0} : Group → Tree L → Tree L → Type 0 where
+  pub data Step {L : Type 0} : RuleGroup → Tree L → Tree L → Type 0 where
     -- 4.12: three members or more are nested in twos from the left
     nest : {k : Connector} {a b c : Tree L} {cs : Trees L} → Step rewriting (joined k a b (tree_and c cs)) (joined k (joined k a b no_trees) c cs)
     in_class : {c d : NameClass} {a : Tree L} → ClassStep c d → Step rewriting (attribute c a) (attribute d a)
@@ -48,27 +48,27 @@ mutual
     -- 4.21: one empty or more is empty
     one_or_more_empty : Step propagation (one_or_more empty) empty
     -- a step inside the tree
-    in_attribute : {g : Group} {c : NameClass} {a b : Tree L} → Step g a b → Step g (attribute c a) (attribute c b)
-    in_list : {g : Group} {a b : Tree L} → Step g a b → Step g (list a) (list b)
-    in_except : {g : Group} {d : Datatype} {a b : Tree L} → Step g a b → Step g (data_except d a) (data_except d b)
-    in_mixed : {g : Group} {a b : Tree L} → Step g a b → Step g (mixed a) (mixed b)
-    in_optional : {g : Group} {a b : Tree L} → Step g a b → Step g (optional a) (optional b)
-    in_zero_or_more : {g : Group} {a b : Tree L} → Step g a b → Step g (zero_or_more a) (zero_or_more b)
-    in_one_or_more : {g : Group} {a b : Tree L} → Step g a b → Step g (one_or_more a) (one_or_more b)
-    in_first : {g : Group} {k : Connector} {a b c : Tree L} {ts : Trees L} → Step g a b → Step g (joined k a c ts) (joined k b c ts)
-    in_second : {g : Group} {k : Connector} {a b c : Tree L} {ts : Trees L} → Step g a b → Step g (joined k c a ts) (joined k c b ts)
-    in_others : {g : Group} {k : Connector} {a b : Tree L} {ts us : Trees L} → StepAmong g ts us → Step g (joined k a b ts) (joined k a b us)
+    in_attribute : {g : RuleGroup} {c : NameClass} {a b : Tree L} → Step g a b → Step g (attribute c a) (attribute c b)
+    in_list : {g : RuleGroup} {a b : Tree L} → Step g a b → Step g (list a) (list b)
+    in_except : {g : RuleGroup} {d : Datatype} {a b : Tree L} → Step g a b → Step g (data_except d a) (data_except d b)
+    in_mixed : {g : RuleGroup} {a b : Tree L} → Step g a b → Step g (mixed a) (mixed b)
+    in_optional : {g : RuleGroup} {a b : Tree L} → Step g a b → Step g (optional a) (optional b)
+    in_zero_or_more : {g : RuleGroup} {a b : Tree L} → Step g a b → Step g (zero_or_more a) (zero_or_more b)
+    in_one_or_more : {g : RuleGroup} {a b : Tree L} → Step g a b → Step g (one_or_more a) (one_or_more b)
+    in_first : {g : RuleGroup} {k : Connector} {a b c : Tree L} {ts : Trees L} → Step g a b → Step g (joined k a c ts) (joined k b c ts)
+    in_second : {g : RuleGroup} {k : Connector} {a b c : Tree L} {ts : Trees L} → Step g a b → Step g (joined k c a ts) (joined k c b ts)
+    in_others : {g : RuleGroup} {k : Connector} {a b : Tree L} {ts us : Trees L} → StepAmong g ts us → Step g (joined k a b ts) (joined k a b us)
 
   -- one step in one of the trees
-  pub data StepAmong {L : Type 0} : Group → Trees L → Trees L → Type 0 where
-    this_member : {g : Group} {a b : Tree L} {ts : Trees L} → Step g a b → StepAmong g (tree_and a ts) (tree_and b ts)
-    later_member : {g : Group} {a : Tree L} {ts us : Trees L} → StepAmong g ts us → StepAmong g (tree_and a ts) (tree_and a us)
+  pub data StepAmong {L : Type 0} : RuleGroup → Trees L → Trees L → Type 0 where
+    this_member : {g : RuleGroup} {a b : Tree L} {ts : Trees L} → Step g a b → StepAmong g (tree_and a ts) (tree_and b ts)
+    later_member : {g : RuleGroup} {a : Tree L} {ts us : Trees L} → StepAmong g ts us → StepAmong g (tree_and a ts) (tree_and a us)
 
 -- one step of either group
 abbrev pub AnyStep : {L : Type 0} → Tree L → Tree L → Type 0
-AnyStep a b = (g : Group) × Step g a b
+AnyStep a b = (g : RuleGroup) × Step g a b
 
--- any number of steps, of those that are meant
+-- any number of these steps
 pub data Steps {L : Type 0} (IsStep : Tree L → Tree L → Type 0) : Tree L → Tree L → Type 0 where
   no_step : {a : Tree L} → Steps IsStep a a
   step_and : {a b c : Tree L} → IsStep a b → Steps IsStep b c → Steps IsStep a c

@@ -5,7 +5,7 @@ use Rattle.rng_model.specs.Names.{NameClass}
 use Rattle.rng_model.specs.Tree.{Datatype, Connector}
 use Rattle.rng_model.specs.Tree.{Tree, not_allowed, empty, text, leaf, attribute, list, data_of, data_except, value, mixed, optional, zero_or_more, one_or_more}
 use Rattle.rng_model.specs.Tree.{joined, Trees, no_trees, tree_and}
-use Rattle.rng_model.specs.Patterns.{Place, Position, Pattern, Point, an_element, a_ref, a_parent_ref, a_grammar, tree_at}
+use Rattle.rng_model.specs.Patterns.{Place, Position, Pattern, Point, an_element, a_ref, a_parent_ref, a_grammar, pattern_tree}
 use Rattle.rng_model.specs.Schema.{Schema, Definition, body}
 
 -- an element by its place and its position there, with what is written there
@@ -17,7 +17,7 @@ pub record Leaf : Type 0 where
 
 -- an element's body as it is written, which is its only child
 abbrev pub content_of : Leaf → Tree Point
-content_of l = tree_at (0 ∷ l.position) l.content
+content_of l = pattern_tree (0 ∷ l.position) l.content
 
 -- what a point of a pattern is: an element, or a definition that is looked up; or nothing, for a parent ref in a grammar
 -- with none around it
