@@ -3,4 +3,7 @@ pub mod FileTreeViews
 pub mod ScopeTables
 pub mod ResolvedMembers
 pub mod ResolvedViews
+pub mod StandingPrefixes
+pub mod DeclarationRules
+pub mod DeclarationExamples
 pub mod ParsingAnswers

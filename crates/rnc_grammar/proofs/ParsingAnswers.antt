@@ -17,6 +17,7 @@ use Rattle.rnc_grammar.specs.Declarations.{file_tree}
 use Rattle.rnc_grammar.specs.Fault.{fault_of, tree_or_fault}
 use Rattle.rnc_grammar.specs.FileTree.{FileTree}
 use Rattle.rnc_grammar.specs.View.{file_of}
+use Rattle.rnc_grammar.proofs.DeclarationRules.{broken_where_none, kept_where_tree, none_where_broken}
 use Rattle.rnc_grammar.specs.Parsing.{BreaksDeclarations, IsFileTree, IsFaultOf, Gives, unless_memory}
 
 -- tokens have one file tree at most, as they have one syntax tree
@@ -71,12 +72,14 @@ module _ (ts : List Lexeme) (file : written.File) (is : IsSyntaxTree ts (syntax.
 
   tree_from : (o : Option FileTree) (t : FileTree) → file_tree f ≡ o → tree_or_fault o ≡ Ok t → IsFileTree ts t
   tree_from None t e answer = absurd (cc)
-  tree_from (Some u) t e answer = record { nesting = is.nesting; file = f; sentence = is.sentence; tree = e ∙ (let same : u ≡ t = cc in ap Some same) }
+  tree_from (Some u) t e answer =
+      let tree : file_tree f ≡ Some t = e ∙ (let same : u ≡ t = cc in ap Some same) in
+      record { nesting = is.nesting; file = f; sentence = is.sentence; kept = kept_where_tree f t tree; tree = tree }
 
   fault_from : (o : Option FileTree) (e : ParseFault) → file_tree f ≡ o → tree_or_fault o ≡ Err e → IsFaultOf ts e
-  fault_from None e broken answer =
+  fault_from None e none answer =
       let same : faults.Clause 8 ≡ e = cc in
-      subst (IsFaultOf ts) same (inr (refl, record { nesting = is.nesting; file = f; sentence = is.sentence; broken = broken }))
+      subst (IsFaultOf ts) same (inr (refl, record { nesting = is.nesting; file = f; sentence = is.sentence; broken = broken_where_none f none }))
   fault_from (Some u) e tree answer = absurd (cc)
 
   -- a tree that was returned
@@ -105,7 +108,8 @@ module _ (ts : List Lexeme) (file : written.File) (only : (g : File) → IsSynta
   pub only_declarations : (r : Result declared.FileTree ParseFault) → BreaksDeclarations ts → GivesTree r (answer_of (syntax.file_of file))
       → GivesTree r (Err (faults.Clause 8))
   only_declarations r is given =
-      subst (GivesTree r) (same_answer is.file (record { nesting = is.nesting; sentence = is.sentence }) ∙ ap tree_or_fault is.broken) given
+      let none : answer_of is.file ≡ Err (faults.Clause 8) = ap tree_or_fault (none_where_broken is.file is.broken) in
+      subst (GivesTree r) (same_answer is.file (record { nesting = is.nesting; sentence = is.sentence }) ∙ none) given
 
 -- tokens with a syntax tree break neither the nesting nor the grammar
 pub no_fault : (file : written.File) (e : SyntaxFault) → GivesFile (Ok file) (Err e) → ⊥

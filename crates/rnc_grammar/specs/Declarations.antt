@@ -1,7 +1,9 @@
 -- Declarations applied: from a syntax tree to the file tree, or to nothing where a rule about declarations is broken
--- (RELAX NG Compact Syntax, "Declarations"). Another prefix than `xml`, or the default, may be declared as the uri of `xml`.
+-- (RELAX NG Compact Syntax, "Declarations").
 use Rattle.std.specs.Prelude.{ℕ, List, [], ◌∷◌, Option, Some, None, Bool, true, false, is_none, if◌then◌else◌, codes}
 use Rattle.std.specs.Str.{bytes_eq}
+use Rattle.rng_model.specs.Datatypes.{xsd_uri}
+use Rattle.rng_model.specs.PyxNamespaces.{xml_uri}
 use Rattle.rnc_syntax.specs.Syntax as syntax
 use Rattle.rnc_grammar.specs.FileTree as tree
 use Rattle.rnc_grammar.specs.FileTree.{Namespace, inherited, given, FileTree}
@@ -23,14 +25,6 @@ option_none_else None b = b
 option_none_else (Some a) b = None
 
 -- ---- declarations
-
--- the uri of the prefix `xml` (Namespaces in XML 1.0, section 3)
-abbrev pub xml_uri : List ℕ
-xml_uri = codes "http://www.w3.org/XML/1998/namespace"
-
--- the uri of the datatype prefix `xsd` (RELAX NG Compact Syntax, "Syntax")
-abbrev pub xsd_uri : List ℕ
-xsd_uri = codes "http://www.w3.org/2001/XMLSchema-datatypes"
 
 -- what the declarations so far declare
 pub record Scope : Type 0 where

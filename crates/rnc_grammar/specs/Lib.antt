@@ -1,6 +1,7 @@
 pub mod FileTree
 pub mod View
 pub mod Declarations
+pub mod DeclarationRules
 pub mod Parsing
 pub mod Fault
 pub mod Resolved

@@ -2,6 +2,7 @@
 use Rattle.std.specs.Prelude.{◌≡◌, ◌⊎◌, List, Option, Some, None}
 use Rattle.rnc_grammar.specs.declared.fault.ParseFault.{ParseFault}
 use Rattle.rnc_grammar.specs.declared.fault.ParseFault.TheVariants as faults
+use Rattle.rnc_grammar.specs.DeclarationRules.{BreaksDeclarationRule}
 use Rattle.rnc_grammar.specs.Declarations.{file_tree}
 use Rattle.rnc_grammar.specs.FileTree.{FileTree}
 use Rattle.rnc_syntax.specs.Grammar.{IsFile}
@@ -10,18 +11,19 @@ use Rattle.rnc_syntax.specs.Syntax.{File}
 pub use Rattle.rnc_syntax.specs.Fault.{Gives}
 pub use Rattle.rnc_syntax.specs.Sentence.{NestsWithin, BreaksNesting, BreaksGrammar, BreaksGrammarAt, IsSentence, nesting_limit}
 
--- they are a sentence that nests within the limit, and its declarations or prefixes break a rule (clause 8)
+-- they are a sentence that nests within the limit, and it breaks a rule about declarations (clause 8)
 pub record BreaksDeclarations (ts : List Lexeme) : Type 0 where
   pub nesting : NestsWithin nesting_limit ts
   pub file : File
   pub sentence : IsFile ts file
-  pub broken : file_tree file ≡ None
+  pub broken : BreaksDeclarationRule file
 
--- they break no clause, and this is their file tree
+-- they break no clause, and this is their file tree: that of their sentence, with its declarations applied
 pub record IsFileTree (ts : List Lexeme) (t : FileTree) : Type 0 where
   pub nesting : NestsWithin nesting_limit ts
   pub file : File
   pub sentence : IsFile ts file
+  pub kept : ¬ (BreaksDeclarationRule file)
   pub tree : file_tree file ≡ Some t
 
 -- this fault, unless memory ran out

@@ -1,0 +1,96 @@
+-- Worked examples of files that break a rule about declarations, and of files that break none.
+use Rattle.std.proofs.Common.{◌≢◌, refl, ℕ, List, [], ◌∷◌, Some, None, codes}
+use Rattle.rng_model.specs.Lists.{here, there}
+use Rattle.rng_model.specs.PyxNamespaces.{xml_uri}
+use Rattle.rnc_syntax.specs.Syntax.{prefixed, name_is, prefixed_type, Pattern, element, empty, data_of, external, start}
+use Rattle.rnc_syntax.specs.Syntax.{include, component_and, no_components, inherit, literal, Declaration, namespace, default_namespace, datatypes, pattern_body}
+use Rattle.rnc_syntax.specs.Syntax.{grammar_body, File}
+use Rattle.rnc_grammar.specs.Declarations.{file_tree}
+use Rattle.rnc_grammar.specs.DeclarationRules.{namespace_prefix, IsUndeclared, at_first, later, BreaksDeclarationRule, namespace_prefix_twice}
+use Rattle.rnc_grammar.specs.DeclarationRules.{default_namespace_twice, xml_as_another, xmlns_declared, namespace_prefix_undeclared}
+use Rattle.rnc_grammar.proofs.DeclarationRules.{kept_where_tree}
+
+-- the declarations, and one pattern
+abbrev file : List Declaration → Pattern → File
+file ds p = record { declarations = ds; body = pattern_body p }
+
+-- the prefixes of these examples
+abbrev p : List ℕ
+p = codes "p"
+
+abbrev q : List ℕ
+q = codes "q"
+
+-- `element p:a { .. }`
+abbrev element_of : List ℕ → Pattern → Pattern
+element_of p content = element (name_is (prefixed p (codes "a"))) content
+
+-- `namespace xml = inherit`
+pub xml_inherited : BreaksDeclarationRule (file (namespace (codes "xml") inherit ∷ []) empty)
+xml_inherited = xml_as_another here no_literal where
+  no_literal : inherit ≢ literal xml_uri
+  no_literal e = cc
+
+-- `namespace xmlns = "u"`
+pub xmlns_is_declared : BreaksDeclarationRule (file (namespace (codes "xmlns") (literal (codes "u")) ∷ []) empty)
+xmlns_is_declared = xmlns_declared here
+
+-- `default namespace p = "u"` and `namespace p = "v"`
+pub default_and_prefix : BreaksDeclarationRule (file (default_namespace (Some p) (literal (codes "u")) ∷ namespace p (literal (codes "v")) ∷ []) empty)
+default_and_prefix = namespace_prefix_twice (later (at_first here))
+
+-- `default namespace = "u"` and `default namespace p = "u"`
+pub two_defaults : BreaksDeclarationRule (file (default_namespace None (literal (codes "u")) ∷ default_namespace (Some p) (literal (codes "u")) ∷ []) empty)
+two_defaults = default_namespace_twice (at_first here)
+
+-- `namespace p = "u"`, written twice
+pub written_twice : BreaksDeclarationRule (file (namespace p (literal (codes "u")) ∷ namespace p (literal (codes "u")) ∷ []) empty)
+written_twice = namespace_prefix_twice (at_first here)
+
+-- `element p:a { empty }`
+pub of_an_element : BreaksDeclarationRule (file [] (element_of p empty))
+of_an_element = namespace_prefix_undeclared here differs (λ u a. elim a [ ]) where
+  differs : p ≢ codes "xml"
+  differs e = cc
+
+-- `external "x" inherit = p`
+pub of_an_external : BreaksDeclarationRule (file [] (external (record { href = codes "x"; inherit = Some p; token = 1 })))
+of_an_external = namespace_prefix_undeclared here differs (λ u a. elim a [ ]) where
+  differs : p ≢ codes "xml"
+  differs e = cc
+
+-- `namespace p = "u"`, and `include "x" inherit = p { start = element q:a { empty } }`
+abbrev declaring_p : List Declaration
+declaring_p = namespace p (literal (codes "u")) ∷ []
+
+pub in_braces : (m : _) → BreaksDeclarationRule (record {
+  declarations = declaring_p;
+  body = grammar_body (component_and (include (record { href = codes "x"; inherit = Some p; token = 5 })
+      (component_and (start m (element_of q empty)) no_components)) no_components);
+})
+in_braces m = namespace_prefix_undeclared (there here) differs none where
+  differs : q ≢ codes "xml"
+  differs e = cc
+
+  none : IsUndeclared (namespace_prefix q) declaring_p
+  none u (there a) = elim a [ ]
+
+-- `datatypes p = "u"` and `namespace p = "u"`
+pub two_tables : ¬ (BreaksDeclarationRule (file (datatypes p (codes "u") ∷ namespace p (literal (codes "u")) ∷ []) empty))
+unfolding file_tree
+two_tables = kept_where_tree _ _ refl
+
+-- `element xml:a { xsd:integer }`
+pub beforehand : ¬ (BreaksDeclarationRule (file [] (element_of (codes "xml") (data_of (prefixed_type (codes "xsd") (codes "integer")) []))))
+unfolding file_tree
+beforehand = kept_where_tree _ _ refl
+
+-- `namespace xml = "http://www.w3.org/XML/1998/namespace"`
+pub xml_as_itself : ¬ (BreaksDeclarationRule (file (namespace (codes "xml") (literal xml_uri) ∷ []) empty))
+unfolding file_tree
+xml_as_itself = kept_where_tree _ _ refl
+
+-- `namespace p = "http://www.w3.org/XML/1998/namespace"`
+pub another_as_xml : ¬ (BreaksDeclarationRule (file (namespace p (literal xml_uri) ∷ []) empty))
+unfolding file_tree
+another_as_xml = kept_where_tree _ _ refl
