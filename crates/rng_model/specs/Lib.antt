@@ -30,3 +30,4 @@ pub mod Facets
 pub mod Numerals
 pub mod Datatypes
 pub mod DatatypeTests
+pub mod WellFormed
