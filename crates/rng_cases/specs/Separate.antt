@@ -1,7 +1,7 @@
 -- Items told one by one to hold no two strings side by side.
 use Rattle.std.specs.Prelude.{ℕ, List, ◌∷◌, Bool, true, false}
 use Rattle.rng_model.specs.Document.{Item, a_text, an_element}
-use Rattle.rng_deriv.specs.WellFormed.{Separate}
+use Rattle.rng_model.specs.WellFormed.{Separate}
 
 abbrev pub is_text : Item → Bool
 is_text (a_text s) = true

@@ -1,9 +1,8 @@
 // What `is_valid` asks of a document.
 ghost use Rattle.std.specs.Prelude.{◌≡◌, IsTrue, map};
 ghost use Rattle.std.specs.Bool.{OnTrue};
-ghost use Rattle.rng_model.specs.Pyx.{Distinct};
+ghost use Rattle.rng_model.specs.WellFormed.{Distinct, IsWellFormed};
 ghost use Rattle.rng_model.specs.View.{attribute_of, item_of};
-ghost use Rattle.rng_deriv.specs.WellFormed.{IsWellFormed};
 ghost use Rattle.rng_cases.specs.Separate.{StaysSeparate, is_text};
 
 use rng_model::{Attr, Item};

@@ -13,8 +13,8 @@ use Rattle.rng_model.specs.Matching as m
 use Rattle.rng_model.specs.Table.{Grammar, grammar_leaves}
 use Rattle.rng_model.specs.Texts.{TextTests, texts_of, is_blank}
 use Rattle.rng_deriv.specs.Acceptance.{IsDerivable, IsOf, Accepts, TakesText, Contains, has_element, without_blanks, content}
-use Rattle.rng_deriv.specs.WellFormed.{Separate}
-use Rattle.rng_deriv.specs.WellFormed as w
+use Rattle.rng_model.specs.WellFormed.{Separate}
+use Rattle.rng_model.specs.WellFormed as w
 use Rattle.rng_model.proofs.Interleaving.{left_alone, left_is_all}
 
 -- the second list is the first with elements padded

@@ -14,7 +14,7 @@ use Rattle.rng_model.specs.View.{attribute_of, item_of, items_of, name_of}
 use Rattle.rng_model.specs.declared.document.Attr.{Attr}
 use Rattle.rng_model.specs.declared.document.Item.{Item, Element, the_lemmas}
 use Rattle.rng_model.specs.declared.name.Name.{Name}
-use Rattle.rng_deriv.specs.WellFormed.{AreWellFormed, IsWellFormed, Separate}
+use Rattle.rng_model.specs.WellFormed.{AreWellFormed, IsWellFormed, Separate}
 use Rattle.rng_deriv.specs.Acceptance.{Accepts, content, has_element, is_blank_text, is_element, kept}
 use Rattle.rng_deriv.specs.Derivative.{HasItsElements, IsAfter, StandsForItem}
 use Rattle.rng_deriv.specs.Content.{AnswersNodes, StandForItems}

@@ -18,7 +18,7 @@ use Rattle.rng_model.specs.View.{class_of, items_of}
 use Rattle.rng_model.specs.declared.name.NameClass.{NameClass}
 use Rattle.rng_model.specs.declared.simple.PatternId.{PatternId}
 use Rattle.rng_model.specs.Texts.{TextTests, texts_of, is_blank}
-use Rattle.rng_deriv.specs.WellFormed.{Separate, IsWellFormed, AreWellFormed}
+use Rattle.rng_model.specs.WellFormed.{Separate, IsWellFormed, AreWellFormed}
 use Rattle.rng_deriv.specs.Acceptance.{Contains, IsDerivable, IsOf, Accepts, content, has_element, is_blank_text, kept, without_blanks}
 use Rattle.rng_deriv.specs.Derivative.{HasItsElements, StandsForItem}
 use Rattle.rng_deriv.specs.Content.{AnswersContent, AnswersNode, IsAfterAttributes, StandForItems, TakesNode}

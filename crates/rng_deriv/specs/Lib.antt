@@ -1,4 +1,3 @@
-pub mod WellFormed
 pub mod Acceptance
 pub mod PatternTable
 pub mod Derivative

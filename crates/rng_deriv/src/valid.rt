@@ -4,7 +4,7 @@ ghost use Rattle.std.specs.List.{list_any};
 ghost use Rattle.rng_model.specs.Table.{IsValidBy, grammar_of};
 ghost use Rattle.rng_model.specs.View.{attribute_of, item_of, name_of};
 ghost use Rattle.rng_model.specs.Texts.{TextTests, texts_of};
-ghost use Rattle.rng_deriv.specs.WellFormed.{IsWellFormed};
+ghost use Rattle.rng_model.specs.WellFormed.{IsWellFormed};
 ghost use Rattle.rng_deriv.specs.Acceptance.{is_blank_text, is_element};
 ghost use Rattle.rng_deriv.specs.PatternTable.{AreCopied, Longer, tree_of};
 ghost use Rattle.rng_deriv.specs.Derivative.{IsAfter, StandsForItem};

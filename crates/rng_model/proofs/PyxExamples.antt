@@ -11,7 +11,7 @@ use Rattle.rng_model.specs.Lists.{HasTwice, at_first, here, later, there}
 use Rattle.rng_model.specs.Characters.{is_ncname, is_xml_char}
 use Rattle.rng_model.specs.Document.{Attribute}
 use Rattle.rng_model.specs.Lines.{Line, lines, line_limit}
-use Rattle.rng_model.specs.Pyx.{Distinct, none, one_more, another_name, nothing_named}
+use Rattle.rng_model.specs.WellFormed.{Distinct, none, one_more, another_name, nothing_named}
 use Rattle.rng_model.specs.PyxLines.{IsNcname, IsName, alone, prefixed, StandsFor, at_end, itself, Said, WrittenName, start, attribute, text, end, instruction}
 use Rattle.rng_model.specs.PyxLines.{Says, says_start, says_attribute, says_text, says_end, says_instruction, IsGoodLine, AreGoodLines, no_lines, line_and}
 use Rattle.rng_model.specs.PyxLines.{too_long, within as within_limit}

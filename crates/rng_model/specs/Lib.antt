@@ -41,3 +41,4 @@ pub mod SchemaForm
 pub mod SchemaMatching
 pub mod SchemaClauses
 pub mod SchemaAnswers
+pub mod WellFormed

@@ -1,7 +1,8 @@
 -- Which lines are which document, in the first fragment of the format.
-use Rattle.std.specs.Prelude.{◌≡◌, ◌≢◌, ℕ, suc, ◌≤◌, List, [], ◌∷◌, ◌++◌, length}
+use Rattle.std.specs.Prelude.{◌≡◌, ℕ, suc, ◌≤◌, List, [], ◌∷◌, ◌++◌, length}
 use Rattle.rng_model.specs.Names.{Name}
 use Rattle.rng_model.specs.Document.{Attribute, Item, a_text, an_element, Items, no_items, item_and}
+use Rattle.rng_model.specs.WellFormed.{Distinct}
 use Rattle.rng_model.specs.Lines.{Line, lines, Shape, start, attribute, text, end, IsLine}
 
 -- a name without a namespace
@@ -28,16 +29,6 @@ pub data AreAttributes : List Shape → List Attribute → Type 0 where
   no_attributes : AreAttributes [] []
   attribute_and : {name value : List ℕ} {xs : List Shape} {attrs : List Attribute} → AreAttributes xs attrs
       → AreAttributes (attribute name value ∷ xs) (record { name = plain_name name; content = value } ∷ attrs)
-
--- no attribute has this name
-pub data HasNoName (name : Name) : List Attribute → Type 0 where
-  nothing_named : HasNoName name []
-  another_name : {a : Attribute} {attrs : List Attribute} → a.name ≢ name → HasNoName name attrs → HasNoName name (a ∷ attrs)
-
--- no name stands twice (XML 1.0, section 3.1)
-pub data Distinct : List Attribute → Type 0 where
-  none : Distinct []
-  one_more : {a : Attribute} {attrs : List Attribute} → HasNoName a.name attrs → Distinct attrs → Distinct (a ∷ attrs)
 
 -- texts, joined
 pub data IsText : List Shape → List ℕ → Type 0 where

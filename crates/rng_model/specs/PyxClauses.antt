@@ -5,7 +5,8 @@ use Rattle.std.specs.Prelude.{◌≡◌, ◌≢◌, ℕ, ◌+◌, ◌<◌, ◌�
 use Rattle.rng_model.specs.Lists.{Among, HasTwice}
 use Rattle.rng_model.specs.Document.{Attribute}
 use Rattle.rng_model.specs.Lines.{Line, line_limit}
-use Rattle.rng_model.specs.Pyx.{Distinct, attribute_limit, open_limit, text_limit}
+use Rattle.rng_model.specs.Pyx.{attribute_limit, open_limit, text_limit}
+use Rattle.rng_model.specs.WellFormed.{Distinct}
 use Rattle.rng_model.specs.PyxFaults.{Fault, HasKind, IsBalanced, IsBefore, EndsInTag}
 use Rattle.rng_model.specs.PyxLines.{Said, WrittenName, start, IsGoodLine, AreGoodLines, BreaksAlone}
 use Rattle.rng_model.specs.PyxNamespaces.{WrittenAttribute, AreWritten, AreParted, Declaration, IsForbidden, Scope, IsUndeclared, AreExpanded}

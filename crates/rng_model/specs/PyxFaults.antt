@@ -2,7 +2,8 @@
 use Rattle.std.specs.Prelude.{◌≡◌, ℕ, ◌+◌, ◌-◌, ◌<◌, ◌≤◌, ◌≢◌, ◌⊎◌, List, [], ◌∷◌, ◌++◌, length, All, sum_by}
 use Rattle.rng_model.specs.Document.{Attribute}
 use Rattle.rng_model.specs.Lines.{Line, Shape, IsLine}
-use Rattle.rng_model.specs.Pyx.{AreLines, AreAttributes, Distinct, attribute_limit, open_limit, text_limit}
+use Rattle.rng_model.specs.Pyx.{AreLines, AreAttributes, attribute_limit, open_limit, text_limit}
+use Rattle.rng_model.specs.WellFormed.{Distinct}
 
 -- the first byte of the line is this one
 abbrev pub HasKind : ℕ → Line → Type 0

@@ -6,7 +6,8 @@ use Rattle.std.proofs.lemmas.Slice.Eq.{bytes_eq-Decides}
 use Rattle.rng_model.specs.Names.{Name}
 use Rattle.rng_model.specs.Document.{Attribute}
 use Rattle.rng_model.specs.Lines.{Shape}
-use Rattle.rng_model.specs.Pyx.{plain_name, AreAttributes, no_attributes, attribute_and, HasNoName, nothing_named, another_name, Distinct, none, one_more}
+use Rattle.rng_model.specs.Pyx.{plain_name, AreAttributes, no_attributes, attribute_and}
+use Rattle.rng_model.specs.WellFormed.{HasNoName, nothing_named, another_name, Distinct, none, one_more}
 use Rattle.rng_run.specs.DocumentReader.{occurs, has_repeat}
 
 pub bytes_same : (a b : List ℕ) → bytes_eq a b ≡ true → a ≡ b

@@ -4,7 +4,8 @@ use Rattle.std.proofs.lemmas.List.{append-nil, length-append}
 use Rattle.rng_model.specs.Document.{Attribute, Item, an_element, Items, no_items, item_and, list_of}
 use Rattle.rng_model.specs.View.{items_of}
 use Rattle.rng_model.specs.Lines.{Shape, start, attribute, text, end}
-use Rattle.rng_model.specs.Pyx.{plain_name, attribute_limit, open_limit, text_limit, AreAttributes, no_attributes, attribute_and, Distinct, IsText, no_text}
+use Rattle.rng_model.specs.Pyx.{plain_name, attribute_limit, open_limit, text_limit, AreAttributes, no_attributes, attribute_and, IsText, no_text}
+use Rattle.rng_model.specs.WellFormed.{Distinct}
 use Rattle.rng_model.specs.Pyx.{text_and, text_before, IsElement, is_element, IsContent, last_text, text_and_element}
 use Rattle.rng_run.specs.DocumentReader.{Element, State, texts_of}
 use Rattle.rng_run.proofs.DocumentSteps.{inside, in_tag, tagged, behind_root}

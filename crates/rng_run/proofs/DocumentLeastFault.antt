@@ -7,7 +7,8 @@ use Rattle.std.proofs.lemmas.List.{length-append}
 use mathlib.Core.Logic.{inl, inr}
 use Rattle.rng_model.specs.Document.{Attribute, Item}
 use Rattle.rng_model.specs.Lines.{Line, Shape, start, attribute, text, end, IsLine}
-use Rattle.rng_model.specs.Pyx.{text_limit, AreLines, AreAttributes, Distinct}
+use Rattle.rng_model.specs.Pyx.{text_limit, AreLines, AreAttributes}
+use Rattle.rng_model.specs.WellFormed.{Distinct}
 use Rattle.rng_model.specs.PyxFaults.{HasKind, AreOpen, EndsInTag, EndsInText, EndsInRepeat, IsOutside, no_form, attributes, elements, joined_text, BreaksAt}
 use Rattle.rng_model.specs.PyxFaults.{outside, no_tag, none_to_end, other_name, text_outside, second_root, repeats, Fault, Broken, at_line, unfinished}
 use Rattle.rng_model.specs.PyxFaults.{rootless, IsBefore}

@@ -7,7 +7,8 @@ use Rattle.std.proofs.lemmas.Bool.{leb-true}
 use Rattle.std.proofs.lemmas.List.{append-nil, length-append, length_push}
 use Rattle.rng_model.specs.Document.{Attribute, Item}
 use Rattle.rng_model.specs.Lines.{Shape, start, attribute, text, end}
-use Rattle.rng_model.specs.Pyx.{plain_name, attribute_limit, open_limit, text_limit, AreAttributes, no_attributes, Distinct, no_text, IsElement}
+use Rattle.rng_model.specs.Pyx.{plain_name, attribute_limit, open_limit, text_limit, AreAttributes, no_attributes, no_text, IsElement}
+use Rattle.rng_model.specs.WellFormed.{Distinct}
 use Rattle.rng_run.specs.DocumentReader.{Element, State, Outcome, has_repeat, texts_of, with_text, with_child, item_of_element}
 use Rattle.rng_run.proofs.DistinctNames.{distinct_of, bytes_same}
 use Rattle.rng_run.proofs.DocumentSteps.{is_attribute, shape_read, inside, in_tag, tagged, behind_root, attribute_step, text_step, first_step, start_step}

@@ -4,7 +4,7 @@ use Rattle.rng_model.specs.Names.{Name}
 use Rattle.rng_model.specs.Document.{Attribute, Item, an_element, Items, no_items, item_and, list_of}
 use Rattle.rng_model.specs.Lines.{Shape}
 use Rattle.rng_model.specs.Pyx.{IsDocument, IsElement, is_element, IsContent, last_text, text_and_element, text_before}
-use Rattle.rng_deriv.specs.WellFormed.{IsWellFormed, AreWellFormed, Separate, nothing, string, element, string_element}
+use Rattle.rng_model.specs.WellFormed.{IsWellFormed, AreWellFormed, Separate, nothing, string, element, string_element}
 
 -- children as they should be
 record AreFine (kids : Items) : Type 0 where

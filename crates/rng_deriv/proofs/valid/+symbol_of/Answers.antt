@@ -7,7 +7,7 @@ use Rattle.rng_model.specs.declared.document.Item.{Item, the_lemmas}
 use Rattle.rng_deriv.specs.Acceptance.{content, is_element, kept}
 use Rattle.rng_deriv.specs.PatternTable.{AreCopied, Longer}
 use Rattle.rng_deriv.specs.Content.{AnswersNodes, StandForItems}
-use Rattle.rng_deriv.specs.WellFormed.{AreWellFormed}
+use Rattle.rng_model.specs.WellFormed.{AreWellFormed}
 use Rattle.rng_deriv.specs.declared.pattern_table.TableEntry.{TableEntry}
 use Rattle.rng_deriv.specs.declared.derivative.Symbol.{Symbol}
 use Rattle.rng_deriv.proofs.Follows.{AreCopied-longer, Longer-trans}

@@ -1,15 +1,24 @@
--- Documents as the reader of a document gives them.
+-- Documents that are well formed.
 use Rattle.std.specs.Prelude.{◌≢◌, ℕ, List, [], ◌∷◌}
-use Rattle.rng_model.specs.Names as names
+use Rattle.rng_model.specs.Names.{Name}
 use Rattle.rng_model.specs.Document.{Attribute, Item, a_text, an_element, Items, no_items, item_and, list_of}
-use Rattle.rng_model.specs.Pyx.{Distinct}
+
+-- no attribute has this name
+pub data HasNoName (name : Name) : List Attribute → Type 0 where
+  nothing_named : HasNoName name []
+  another_name : {a : Attribute} {attrs : List Attribute} → a.name ≢ name → HasNoName name attrs → HasNoName name (a ∷ attrs)
+
+-- no name stands twice (XML 1.0, section 3.1)
+pub data Distinct : List Attribute → Type 0 where
+  none : Distinct []
+  one_more : {a : Attribute} {attrs : List Attribute} → HasNoName a.name attrs → Distinct attrs → Distinct (a ∷ attrs)
 
 -- no two strings stand side by side
 pub data Separate : List Item → Type 0 where
   nothing : Separate []
   string : {s : List ℕ} → Separate (a_text s ∷ [])
-  element : {q : names.Name} {xs : List Attribute} {kids : Items} {ns : List Item} → Separate ns → Separate (an_element q xs kids ∷ ns)
-  string_element : {s : List ℕ} {q : names.Name} {xs : List Attribute} {kids : Items} {ns : List Item} → Separate ns
+  element : {q : Name} {xs : List Attribute} {kids : Items} {ns : List Item} → Separate ns → Separate (an_element q xs kids ∷ ns)
+  string_element : {s : List ℕ} {q : Name} {xs : List Attribute} {kids : Items} {ns : List Item} → Separate ns
       → Separate (a_text s ∷ an_element q xs kids ∷ ns)
 
 -- in each element the attributes have distinct names, no string is empty, and no two strings stand side by side
