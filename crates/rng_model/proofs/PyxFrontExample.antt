@@ -7,7 +7,7 @@ use Rattle.std.specs.Str.{is_utf8, chars}
 use Rattle.rng_model.specs.Lists.{Among, HasTwice}
 use Rattle.rng_model.specs.Document.{Attribute}
 use Rattle.rng_model.specs.Lines.{Line}
-use Rattle.rng_model.specs.Pyx.{Distinct, none}
+use Rattle.rng_model.specs.WellFormed.{Distinct, none}
 use Rattle.rng_model.specs.PyxFaults.{Fault, HasKind}
 use Rattle.rng_model.specs.PyxLines as lines
 use Rattle.rng_model.specs.PyxLines.{WrittenName, IsName, Said, start, says_start, Says, IsGoodLine, AreGoodLines, BreaksWithin}
