@@ -2,12 +2,12 @@
 use Rattle.std.proofs.Common.{◌≢◌, refl, ℕ, List, [], ◌∷◌, Some, None, codes}
 use Rattle.rng_model.specs.Lists.{here, there}
 use Rattle.rng_model.specs.PyxNamespaces.{xml_uri}
-use Rattle.rnc_syntax.specs.Syntax.{prefixed, name_is, prefixed_type, Pattern, element, empty, data_of, external, start}
+use Rattle.rnc_syntax.specs.Syntax.{prefixed, name_is, any_except, ns_name, prefixed_type, Pattern, element, empty, data_of, external, start}
 use Rattle.rnc_syntax.specs.Syntax.{include, component_and, no_components, inherit, literal, Declaration, namespace, default_namespace, datatypes, pattern_body}
 use Rattle.rnc_syntax.specs.Syntax.{grammar_body, File}
 use Rattle.rnc_grammar.specs.Declarations.{file_tree}
-use Rattle.rnc_grammar.specs.DeclarationRules.{namespace_prefix, IsUndeclared, at_first, later, BreaksDeclarationRule, namespace_prefix_twice}
-use Rattle.rnc_grammar.specs.DeclarationRules.{default_namespace_twice, xml_as_another, xmlns_declared, namespace_prefix_undeclared}
+use Rattle.rnc_grammar.specs.DeclarationRules.{namespace_prefix, datatype_prefix, IsUndeclared, at_first, later, BreaksDeclarationRule, namespace_prefix_twice}
+use Rattle.rnc_grammar.specs.DeclarationRules.{default_namespace_twice, xml_as_another, xmlns_declared, namespace_prefix_undeclared, datatype_prefix_undeclared}
 use Rattle.rnc_grammar.proofs.DeclarationRules.{kept_where_tree}
 
 -- the declarations, and one pattern
@@ -20,6 +20,9 @@ p = codes "p"
 
 abbrev q : List ℕ
 q = codes "q"
+
+p_is_not_xml : p ≢ codes "xml"
+p_is_not_xml e = cc
 
 -- `element p:a { .. }`
 abbrev element_of : List ℕ → Pattern → Pattern
@@ -49,20 +52,39 @@ written_twice = namespace_prefix_twice (at_first here)
 
 -- `element p:a { empty }`
 pub of_an_element : BreaksDeclarationRule (file [] (element_of p empty))
-of_an_element = namespace_prefix_undeclared here differs (λ u a. elim a [ ]) where
-  differs : p ≢ codes "xml"
-  differs e = cc
+of_an_element = namespace_prefix_undeclared here p_is_not_xml (λ u a. elim a [ ])
 
--- `external "x" inherit = p`
-pub of_an_external : BreaksDeclarationRule (file [] (external (record { href = codes "x"; inherit = Some p; token = 1 })))
-of_an_external = namespace_prefix_undeclared here differs (λ u a. elim a [ ]) where
-  differs : p ≢ codes "xml"
-  differs e = cc
-
--- `namespace p = "u"`, and `include "x" inherit = p { start = element q:a { empty } }`
+-- `namespace p = "u"`
 abbrev declaring_p : List Declaration
 declaring_p = namespace p (literal (codes "u")) ∷ []
 
+-- `datatypes p = "u"`, and `element p:a { empty }`: a datatype prefix is no namespace prefix
+abbrev datatypes_p : List Declaration
+datatypes_p = datatypes p (codes "u") ∷ []
+
+pub of_another_table : BreaksDeclarationRule (file datatypes_p (element_of p empty))
+of_another_table = namespace_prefix_undeclared here p_is_not_xml none where
+  none : IsUndeclared (namespace_prefix p) datatypes_p
+  none u (there a) = elim a [ ]
+
+-- `namespace p = "u"`, and `p:integer`: nor is a namespace prefix a datatype prefix
+pub of_a_datatype : BreaksDeclarationRule (file declaring_p (data_of (prefixed_type p (codes "integer")) []))
+of_a_datatype = datatype_prefix_undeclared here differs none where
+  differs : p ≢ codes "xsd"
+  differs e = cc
+
+  none : IsUndeclared (datatype_prefix p) declaring_p
+  none u (there a) = elim a [ ]
+
+-- `element * - p:* { empty }`
+pub of_an_except : BreaksDeclarationRule (file [] (element (any_except (ns_name p)) empty))
+of_an_except = namespace_prefix_undeclared here p_is_not_xml (λ u a. elim a [ ])
+
+-- `external "x" inherit = p`
+pub of_an_external : BreaksDeclarationRule (file [] (external (record { href = codes "x"; inherit = Some p; token = 1 })))
+of_an_external = namespace_prefix_undeclared here p_is_not_xml (λ u a. elim a [ ])
+
+-- `namespace p = "u"`, and `include "x" inherit = p { start = element q:a { empty } }`
 pub in_braces : (m : _) → BreaksDeclarationRule (record {
   declarations = declaring_p;
   body = grammar_body (component_and (include (record { href = codes "x"; inherit = Some p; token = 5 })

@@ -2,6 +2,7 @@
 use Rattle.std.proofs.Common.{◌≡◌, ◌∙◌, ap, ap₂, sym, refl, ℕ, List, [], ◌∷◌, ◌++◌, Bool, true, false, ◌&&◌, Option, Some, None, is_some, inl, inr}
 use Rattle.std.proofs.lemmas.Bool.{and_cases, and_left, and_right, true≢false}
 use Rattle.std.proofs.lemmas.List.Folds.{list_all-append}
+use Rattle.std.proofs.Math.Bool.{and-true}
 use Rattle.std.specs.List.{list_all}
 use Rattle.rng_model.specs.Lists.{Among, here, there}
 use Rattle.rnc_syntax.specs.Syntax as syntax
@@ -23,10 +24,6 @@ two : {A B C : Type 0} (o : Option A) (q : Option B) (f : A → B → C) → is_
 two None q f = refl
 two (Some x) q f = one q (f x)
 
-alone : (b : Bool) → b ≡ (b && true)
-alone true = refl
-alone false = refl
-
 -- ---- each prefix is declared
 
 -- it is declared, or it is beforehand
@@ -44,15 +41,15 @@ joined s xs ys o q f d e = two o q f ∙ ap₂ (λ a b. a && b) d e ∙ sym (lis
 
 name_known : (s : Scope) (ns : Namespace) (n : syntax.Name) → is_some (name_in s ns n) ≡ are_known s (prefixes_of_name n)
 name_known s ns (syntax.unprefixed l) = refl
-name_known s ns (syntax.prefixed p l) = one (namespace_in s p) _ ∙ alone _
+name_known s ns (syntax.prefixed p l) = one (namespace_in s p) _ ∙ sym (and-true _)
 
 mutual
   class_known : (s : Scope) (ns : Namespace) (c : syntax.NameClass) → is_some (class_in s ns c) ≡ are_known s (prefixes_of_class c)
   class_known s ns syntax.any_name = refl
   class_known s ns (syntax.any_except c) = one (class_in s ns c) tree.any_except ∙ class_known s ns c
-  class_known s ns (syntax.ns_name p) = one (namespace_in s p) tree.ns_name ∙ alone _
+  class_known s ns (syntax.ns_name p) = one (namespace_in s p) tree.ns_name ∙ sym (and-true _)
   class_known s ns (syntax.ns_except p c) =
-      joined s (namespace_prefix p ∷ []) (prefixes_of_class c) (namespace_in s p) (class_in s ns c) tree.ns_except (alone _) (class_known s ns c)
+      joined s (namespace_prefix p ∷ []) (prefixes_of_class c) (namespace_in s p) (class_in s ns c) tree.ns_except (sym (and-true _)) (class_known s ns c)
   class_known s ns (syntax.name_is n) = one (name_in s ns n) tree.name_is ∙ name_known s ns n
   class_known s ns (syntax.one_of cs) = one (classes_in s ns cs) tree.one_of ∙ classes_known s ns cs
 
@@ -64,11 +61,11 @@ mutual
 type_known : (s : Scope) (d : syntax.DatatypeName) → is_some (type_in s d) ≡ are_known s (prefixes_of_type d)
 type_known s syntax.string_type = refl
 type_known s syntax.token_type = refl
-type_known s (syntax.prefixed_type p l) = one (library_in s p) _ ∙ alone _
+type_known s (syntax.prefixed_type p l) = one (library_in s p) _ ∙ sym (and-true _)
 
 inherit_known : (s : Scope) (p : Option (List ℕ)) → is_some (handed_on s p) ≡ are_known s (prefixes_of_inherit p)
 inherit_known s None = refl
-inherit_known s (Some p) = alone _
+inherit_known s (Some p) = sym (and-true _)
 
 mention_known : (s : Scope) (m : syntax.Mention) → is_some (mention_in s m) ≡ are_known s (prefixes_of_inherit m.inherit)
 mention_known s m = one (handed_on s m.inherit) _ ∙ inherit_known s m.inherit
