@@ -1,5 +1,5 @@
 -- `element a { (text & text), notAllowed }` breaks no clause: what would break S27 is gone once notAllowed is carried outward.
-use Rattle.std.proofs.Common.{◌≡◌, refl, sym, subst, ap, ◌∙◌, ◌⊎◌, inl, inr, arith, ℕ, suc, ◌<◌, List, [], ◌∷◌, Option, Some, None, codes, length, slice_get, Contains, zero}
+use Rattle.std.proofs.Common.{◌≡◌, refl, sym, subst, ap, ◌∙◌, ◌⊎◌, inl, inr, arith, ℕ, suc, ◌<◌, List, [], ◌∷◌, Option, Some, None, codes, length, slice_get, Contains, zero, Bool, true, false, true≢false}
 use Rattle.std.proofs.lemmas.List.Elements.{All-nil, All-cons, All-contains, Contains-push}
 use Rattle.rng_model.specs.Lists.{Among, here, there, HasTwo, first_and, both_later}
 use Rattle.rng_model.specs.Names.{Name, NameClass, name_is}
@@ -90,51 +90,34 @@ its_class (inr (inr (inl e))) = cc
 its_class (inr (inr (inr (inl e)))) = cc
 its_class (inr (inr (inr (inr e)))) = cc
 
--- what is none of the five
-abbrev IsNone : Pattern → Type 0
-IsNone q = ¬ (IsOneOf q)
+-- the kinds of which the clauses speak, beside elements
+abbrev is_judged : Pattern → Bool
+is_judged not_allowed = false
+is_judged in_pattern.empty = false
+is_judged text = false
+is_judged (element c p) = false
+is_judged (attribute c p) = true
+is_judged (in_pattern.list p) = false
+is_judged (data_of d) = true
+is_judged (data_except d p) = true
+is_judged (value library name v) = true
+is_judged (in_pattern.mixed p) = false
+is_judged (in_pattern.optional p) = false
+is_judged (in_pattern.zero_or_more p) = false
+is_judged (in_pattern.one_or_more p) = false
+is_judged (joined k p q ps) = false
+is_judged (ref y) = true
+is_judged (parent_ref y) = true
+is_judged (in_pattern.grammar x) = false
+is_judged (in_pattern.external p) = false
 
-no_attribute : {c : NameClass} {p : Pattern} → IsNone (attribute c p)
-no_attribute (inl e) = cc
-no_attribute (inr (inl e)) = cc
-no_attribute (inr (inr (inl e))) = cc
-no_attribute (inr (inr (inr (inl e)))) = cc
-no_attribute (inr (inr (inr (inr e)))) = cc
-
-no_data : {d : Datatype} → IsNone (data_of d)
-no_data (inl e) = cc
-no_data (inr (inl e)) = cc
-no_data (inr (inr (inl e))) = cc
-no_data (inr (inr (inr (inl e)))) = cc
-no_data (inr (inr (inr (inr e)))) = cc
-
-no_except : {d : Datatype} {p : Pattern} → IsNone (data_except d p)
-no_except (inl e) = cc
-no_except (inr (inl e)) = cc
-no_except (inr (inr (inl e))) = cc
-no_except (inr (inr (inr (inl e)))) = cc
-no_except (inr (inr (inr (inr e)))) = cc
-
-no_value : {library name v : List ℕ} → IsNone (value library name v)
-no_value (inl e) = cc
-no_value (inr (inl e)) = cc
-no_value (inr (inr (inl e))) = cc
-no_value (inr (inr (inr (inl e)))) = cc
-no_value (inr (inr (inr (inr e)))) = cc
-
-no_ref : {y : List ℕ} → IsNone (ref y)
-no_ref (inl e) = cc
-no_ref (inr (inl e)) = cc
-no_ref (inr (inr (inl e))) = cc
-no_ref (inr (inr (inr (inl e)))) = cc
-no_ref (inr (inr (inr (inr e)))) = cc
-
-no_parent_ref : {y : List ℕ} → IsNone (parent_ref y)
-no_parent_ref (inl e) = cc
-no_parent_ref (inr (inl e)) = cc
-no_parent_ref (inr (inr (inl e))) = cc
-no_parent_ref (inr (inr (inr (inl e)))) = cc
-no_parent_ref (inr (inr (inr (inr e)))) = cc
+-- none of the five is of one of them
+none_is_judged : {q : Pattern} → IsOneOf q → is_judged q ≡ true → ⊥
+none_is_judged (inl e) f = true≢false (sym f ∙ ap is_judged e)
+none_is_judged (inr (inl e)) f = true≢false (sym f ∙ ap is_judged e)
+none_is_judged (inr (inr (inl e))) f = true≢false (sym f ∙ ap is_judged e)
+none_is_judged (inr (inr (inr (inl e)))) f = true≢false (sym f ∙ ap is_judged e)
+none_is_judged (inr (inr (inr (inr e)))) f = true≢false (sym f ∙ ap is_judged e)
 
 a_name_has_no_except : (n : Name) → ¬ (clauses.BreaksClassExcept (name_is n))
 a_name_has_no_except n (clauses.any_in_any i j k) = elim i [ ]
@@ -143,13 +126,13 @@ a_name_has_no_except n (clauses.namespace_in_namespace i j k) = elim i [ ]
 
 keeps_s11 : ¬ (clauses.BreaksNameClass good)
 keeps_s11 (clauses.of_element w b) = a_name_has_no_except _ (subst clauses.BreaksClassExcept (its_class (written w)) b)
-keeps_s11 (clauses.of_attribute w b) = no_attribute (written w)
-keeps_s11 (clauses.of_declaration w i b) = no_attribute (written w)
+keeps_s11 (clauses.of_attribute w b) = none_is_judged (written w) refl
+keeps_s11 (clauses.of_declaration w i b) = none_is_judged (written w) refl
 
 keeps_s12 : ¬ (clauses.BreaksDatatype good)
-keeps_s12 (clauses.of_data w n) = no_data (written w)
-keeps_s12 (clauses.of_data_except w n) = no_except (written w)
-keeps_s12 (clauses.of_value w n) = no_value (written w)
+keeps_s12 (clauses.of_data w n) = none_is_judged (written w) refl
+keeps_s12 (clauses.of_data_except w n) = none_is_judged (written w) refl
+keeps_s12 (clauses.of_value w n) = none_is_judged (written w) refl
 
 no_two : {P : Component → Component → Type 0} → ¬ (HasTwo P (start whole ∷ []))
 no_two (first_and i p) = elim i [ ]
@@ -166,8 +149,8 @@ keeps_s14 : ¬ (clauses.HasNoStart good)
 keeps_s14 b = b.none (start whole) (subst (Among (start whole)) (sym (components_are b.place b.there)) here) refl
 
 keeps_s15 : ¬ (clauses.BreaksRef good)
-keeps_s15 (clauses.of_ref w n) = no_ref (written w)
-keeps_s15 (clauses.of_parent_ref w n) = no_parent_ref (written w)
+keeps_s15 (clauses.of_ref w n) = none_is_judged (written w) refl
+keeps_s15 (clauses.of_parent_ref w n) = none_is_judged (written w) refl
 
 -- ---- S16 and S17: the trees
 
