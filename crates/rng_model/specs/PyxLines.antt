@@ -59,7 +59,7 @@ pub record IsGoodLine (l : Line) (said : Said) : Type 0 where
   pub characters : All (λ c. is_xml_char c ≡ true) (chars l.bytes)
   pub says : Says l.bytes said
 
--- each line is good and says what stands at its place
+-- each line is good, and these are what they say, in order
 pub data AreGoodLines : List Line → List Said → Type 0 where
   no_lines : AreGoodLines [] []
   line_and : {l : Line} {ls : List Line} {said : Said} {more : List Said} → IsGoodLine l said → AreGoodLines ls more → AreGoodLines (l ∷ ls) (said ∷ more)

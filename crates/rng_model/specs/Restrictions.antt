@@ -63,7 +63,7 @@ module _ {L : Type 0} where
     inside_left : {k : Connector} {p r : Simple L} → StandsIn q p → Inside q (s_joined k p r)
     inside_right : {k : Connector} {p r : Simple L} → StandsIn q r → Inside q (s_joined k p r)
 
-  -- q stands in p at a place that is inside no oneOrMore
+  -- q stands in p, somewhere inside no oneOrMore
   pub data StandsUnrepeated (q : Simple L) : Simple L → Type 0 where
     unrepeated_itself : StandsUnrepeated q q
     unrepeated_in_attribute : {c : NameClass} {p : Simple L} → StandsUnrepeated q p → StandsUnrepeated q (s_attribute c p)
