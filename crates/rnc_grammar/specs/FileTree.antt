@@ -1,7 +1,7 @@
 -- The tree of a schema file with its declarations applied, apart from where it lies in memory.
 use Rattle.std.specs.Prelude.{ℕ, List, [], ◌∷◌, Bool, Option, Some, None, is_some}
 use Rattle.rng_model.specs.Tree.{Connector}
-use Rattle.rnc_syntax.specs.declared.syntax_tree.Method.{Method}
+use Rattle.rng_model.specs.declared.method.Method.{Method}
 
 -- the namespace that the file inherits, or a given one (RELAX NG Compact Syntax, "Syntax")
 pub data Namespace : Type 0 where

@@ -3,7 +3,7 @@ ghost use Rattle.std.specs.Prelude.{◌≡◌, map, option_map};
 ghost use Rattle.rnc_grammar.specs.FileTree.{components_of, grammar_of, is_grammar as is_grammar_tree};
 ghost use Rattle.rnc_grammar.specs.View.{component_of, file_of};
 
-use rnc_syntax::Method;
+use rng_model::Method;
 
 /// The namespace of a name: a given one, empty where the name has none, or the one that the file inherits from the file
 /// that mentions it.

@@ -17,4 +17,4 @@ pub use file_tree::{
     Component, DatatypeName, ExpandedName, FileTree, Mention, NameClass, Namespace, Pattern,
 };
 pub use parsing::parse;
-pub use rnc_syntax::Method;
+pub use rng_model::Method;

@@ -9,7 +9,7 @@ use Rattle.rnc_text.specs.declared.token.Keyword.TheVariants as keywords
 use Rattle.rnc_text.specs.declared.token.Sign.{Sign}
 use Rattle.rnc_text.specs.declared.token.Sign.TheVariants.{Equal, BarEqual, AndEqual, Comma, Bar, And, Question, Star, Plus, Minus, OpenBrace, CloseBrace}
 use Rattle.rnc_text.specs.declared.token.Sign.TheVariants.{OpenParenthesis, CloseParenthesis, OpenBracket, CloseBracket, Tilde}
-use Rattle.rnc_syntax.specs.declared.syntax_tree.Method.{Method}
+use Rattle.rng_model.specs.declared.method.Method.{Method}
 use Rattle.rnc_syntax.specs.Lexeme.{Lexeme, keyword, identifier, cname, ns_name, segment, sign}
 use Rattle.rnc_syntax.specs.Syntax.{NameClass, DatatypeName, Pattern, Component, Uri, Declaration}
 use Rattle.rnc_syntax.specs.Grammar as grammar

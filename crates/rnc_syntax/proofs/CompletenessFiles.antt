@@ -3,7 +3,7 @@ use Rattle.std.proofs.Common.{◌≡◌, ℕ, ◌<◌, Bool, true, false, List, 
 use Rattle.std.proofs.Common.{append_assoc, arith}
 use Rattle.std.proofs.lemmas.List.{length-append, append-nil}
 use Rattle.rnc_text.specs.declared.token.Keyword.TheVariants as keywords
-use Rattle.rnc_syntax.specs.declared.syntax_tree.Method.{Method}
+use Rattle.rng_model.specs.declared.method.Method.{Method}
 use Rattle.rnc_text.specs.declared.token.Sign.TheVariants.{Equal, BarEqual, AndEqual, Question, Star, Plus, Minus, OpenBracket, CloseBracket}
 use Rattle.rnc_text.specs.declared.token.Sign.TheVariants.{Tilde}
 use Rattle.rnc_syntax.specs.declared.fault.Stop.{Stop}

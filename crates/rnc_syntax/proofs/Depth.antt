@@ -9,7 +9,7 @@ use Rattle.rnc_text.specs.declared.token.Sign.TheVariants.{Equal, BarEqual, AndE
 use Rattle.rnc_text.specs.declared.token.Sign.TheVariants.{OpenParenthesis, CloseParenthesis, OpenBracket, Tilde}
 use Rattle.rnc_syntax.specs.declared.annotations.Role.{Role}
 use Rattle.rnc_syntax.specs.declared.annotations.Role.TheVariants as roles
-use Rattle.rnc_syntax.specs.declared.syntax_tree.Method.{Method}
+use Rattle.rng_model.specs.declared.method.Method.{Method}
 use Rattle.rnc_syntax.specs.declared.fault.Stop.{Stop}
 use Rattle.rnc_syntax.specs.declared.fault.Stop.TheVariants.{Unexpected, TooDeep}
 use Rattle.rnc_syntax.specs.Lexeme.{Lexeme, Spelling, keyword, identifier, cname, ns_name, segment, sign}

@@ -2,8 +2,8 @@
 use Rattle.std.proofs.Common.{ℕ, zero, suc, ◌≤◌, List, [], ◌∷◌, Option, Some, None, Ok, refl, arith}
 use Rattle.rnc_text.specs.declared.token.Keyword.TheVariants as keywords
 use Rattle.rnc_text.specs.declared.token.Sign.TheVariants.{Equal, BarEqual, AndEqual, OpenBrace, OpenBracket}
-use Rattle.rnc_syntax.specs.declared.syntax_tree.Method.{Method}
-use Rattle.rnc_syntax.specs.declared.syntax_tree.Method.TheVariants as methods
+use Rattle.rng_model.specs.declared.method.Method.{Method}
+use Rattle.rng_model.specs.declared.method.Method.TheVariants as methods
 use Rattle.rnc_syntax.specs.Lexeme.{Lexeme, keyword, identifier, sign}
 use Rattle.rnc_syntax.specs.Syntax as syntax
 use Rattle.rnc_syntax.specs.Syntax.{Mention, Component}

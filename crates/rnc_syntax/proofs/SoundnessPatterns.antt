@@ -6,8 +6,8 @@ use Rattle.rnc_text.specs.declared.token.Keyword.TheVariants as keywords
 use Rattle.rnc_text.specs.declared.token.Sign.{Sign}
 use Rattle.rnc_text.specs.declared.token.Sign.TheVariants.{Equal, BarEqual, AndEqual, Comma, Bar, And, Question, Star, Plus, Minus, OpenBrace, CloseBrace}
 use Rattle.rnc_text.specs.declared.token.Sign.TheVariants.{OpenParenthesis, CloseParenthesis}
-use Rattle.rnc_syntax.specs.declared.syntax_tree.Method.{Method}
-use Rattle.rnc_syntax.specs.declared.syntax_tree.Method.TheVariants as methods
+use Rattle.rng_model.specs.declared.method.Method.{Method}
+use Rattle.rng_model.specs.declared.method.Method.TheVariants as methods
 use Rattle.rnc_syntax.specs.Lexeme.{Lexeme, Spelling, keyword, identifier, cname, segment, sign}
 use Rattle.rnc_syntax.specs.Syntax as syntax
 use Rattle.rnc_syntax.specs.Syntax.{NameClass, DatatypeName, Mention, Pattern, Component}

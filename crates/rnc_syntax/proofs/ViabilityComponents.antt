@@ -3,8 +3,8 @@ use Rattle.std.proofs.Common.{◌≡◌, ℕ, zero, suc, List, [], ◌∷◌, �
 use Rattle.rnc_text.specs.declared.token.Keyword.TheVariants as keywords
 use Rattle.rnc_text.specs.declared.token.Sign.TheVariants.{Equal, BarEqual, AndEqual, OpenBrace, CloseBrace}
 use Rattle.rnc_syntax.specs.declared.fault.Stop.TheVariants.{Unexpected}
-use Rattle.rnc_syntax.specs.declared.syntax_tree.Method.{Method}
-use Rattle.rnc_syntax.specs.declared.syntax_tree.Method.TheVariants as methods
+use Rattle.rng_model.specs.declared.method.Method.{Method}
+use Rattle.rng_model.specs.declared.method.Method.TheVariants as methods
 use Rattle.rnc_syntax.specs.Lexeme.{Lexeme, Spelling, keyword, identifier, sign}
 use Rattle.rnc_syntax.specs.Syntax as syntax
 use Rattle.rnc_syntax.specs.Syntax.{Pattern, Component}

@@ -11,8 +11,8 @@ use Rattle.rnc_syntax.specs.declared.annotations.Role.{Role}
 use Rattle.rnc_syntax.specs.declared.annotations.Role.TheVariants as roles
 use Rattle.rnc_syntax.specs.declared.atoms.Opening.{Opening}
 use Rattle.rnc_syntax.specs.declared.atoms.Opening.TheVariants as openings
-use Rattle.rnc_syntax.specs.declared.syntax_tree.Method.{Method}
-use Rattle.rnc_syntax.specs.declared.syntax_tree.Method.TheVariants as methods
+use Rattle.rng_model.specs.declared.method.Method.{Method}
+use Rattle.rng_model.specs.declared.method.Method.TheVariants as methods
 use Rattle.rnc_syntax.specs.Lexeme.{Lexeme, keyword, identifier, cname, ns_name, segment, sign}
 use Rattle.rnc_syntax.specs.Syntax as syntax
 use Rattle.rnc_syntax.specs.Syntax.{joined_text, NameClass, DatatypeName, Mention, Pattern, Component, Uri, Declaration, Body, File}

@@ -1,7 +1,7 @@
 -- The syntax tree of a schema file: as it is written, with prefixes for namespaces (RELAX NG Compact Syntax, "Syntax").
 use Rattle.std.specs.Prelude.{ℕ, List, [], ◌∷◌, ◌++◌, Option}
 use Rattle.rng_model.specs.Tree.{Connector}
-use Rattle.rnc_syntax.specs.declared.syntax_tree.Method.{Method}
+use Rattle.rng_model.specs.declared.method.Method.{Method}
 
 -- the text of a literal: those of its segments, joined
 abbrev pub joined_text : List (List ℕ) → List ℕ

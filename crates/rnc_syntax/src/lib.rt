@@ -19,8 +19,9 @@ mod sentence;
 mod syntax_tree;
 
 pub use fault::SyntaxFault;
+pub use rng_model::Method;
 pub use sentence::read_syntax;
 pub use syntax_tree::{
-    Body, Component, DatatypeName, Declaration, File, Literal, Mention, Method, NameClass,
-    Parameter, Pattern, QualifiedName, Uri,
+    Body, Component, DatatypeName, Declaration, File, Literal, Mention, NameClass, Parameter,
+    Pattern, QualifiedName, Uri,
 };

@@ -1,4 +1,5 @@
 // The syntax tree of a schema file: as it is written, with prefixes and the segments of its literals.
+use rng_model::Method;
 
 /// A name, with its prefix if it is written with one.
 ///
@@ -63,19 +64,6 @@ pub struct Mention<'a> {
     pub href: Literal<'a>,
     pub inherit: Option<&'a str>,
     pub token: usize,
-}
-
-/// How a component is joined with others of its name.
-///
-/// RELAX NG Compact Syntax, "Syntax" (`assignMethod`).
-#[derive(Clone, Copy, Debug, PartialEq, Eq)]
-pub enum Method {
-    /// `=`
-    Plain,
-    /// `|=`
-    Choice,
-    /// `&=`
-    Interleave,
 }
 
 /// A pattern. Parentheses leave no trace.
