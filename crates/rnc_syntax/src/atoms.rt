@@ -37,8 +37,8 @@ ghost use Rattle.rnc_syntax.specs.SyntaxView.{component_of, pattern_of, setting_
 use crate::fault::ReadFault;
 use crate::reading::{Reader, split_name};
 use crate::syntax_tree::{Component, DatatypeName, Pattern};
-use rng_model::Method;
 use rnc_text::{Keyword, Sign, Token, TokenKind};
+use rng_model::Method;
 
 /// Where a component stands: in a grammar, or in the braces of an include.
 #[derive(Clone, Copy)]

@@ -8,7 +8,7 @@ use Rattle.rng_model.specs.declared.simple.PatternId.{PatternId}
 use Rattle.rng_model.specs.declared.simple.Simple.{Simple}
 use Rattle.rng_model.specs.declared.simple.Simple.TheVariants as simple
 use Rattle.rng_deriv.specs.Acceptance.{IsDerivable}
-use Rattle.rng_deriv.specs.PatternTable.{attribute_found, shape, tree_in, tree_of, trees, with_tree}
+use Rattle.rng_deriv.specs.PatternTable.{attribute_found, tree_over, tree_in, tree_of, trees, with_tree}
 use Rattle.rng_deriv.specs.declared.pattern_table.Node.{Node}
 use Rattle.rng_deriv.specs.declared.pattern_table.Node.TheVariants as node
 use Rattle.rng_deriv.specs.declared.pattern_table.TableEntry.{TableEntry}
@@ -25,18 +25,18 @@ derivable_push (y ∷ ts) x all h (suc i) = derivable_push ts x (λ k. all (suc 
 
 -- ---- of a grammar
 
-table_shape : (of : PatternId → tree.Simple ℕ) → ((k : PatternId) → IsDerivable (of k)) → (p : Simple) → IsDerivable (table.shape of p)
-table_shape of all simple.NotAllowed = tt
-table_shape of all simple.Empty = tt
-table_shape of all simple.Text = tt
-table_shape of all (simple.Element e) = tt
-table_shape of all (simple.Attribute class body) = all body
-table_shape of all (simple.Group a b) = (all a, all b)
-table_shape of all (simple.Choice a b) = (all a, all b)
+pattern_derivable : (of : PatternId → tree.Simple ℕ) → ((k : PatternId) → IsDerivable (of k)) → (p : Simple) → IsDerivable (table.tree_over of p)
+pattern_derivable of all simple.NotAllowed = tt
+pattern_derivable of all simple.Empty = tt
+pattern_derivable of all simple.Text = tt
+pattern_derivable of all (simple.Element e) = tt
+pattern_derivable of all (simple.Attribute class body) = all body
+pattern_derivable of all (simple.Group a b) = (all a, all b)
+pattern_derivable of all (simple.Choice a b) = (all a, all b)
 
 table_from : (ts : List (tree.Simple ℕ)) (ps : List Simple) → AllDerivable ts → AllDerivable (fold table.with_tree ts ps)
 table_from ts [] all = all
-table_from ts (p ∷ ps) all = table_from (table.with_tree ts p) ps (derivable_push ts _ all (table_shape (table.tree_in ts) (λ k. all k.0) p))
+table_from ts (p ∷ ps) all = table_from (table.with_tree ts p) ps (derivable_push ts _ all (pattern_derivable (table.tree_in ts) (λ k. all k.0) p))
 
 none_derivable : AllDerivable []
 none_derivable zero = tt
@@ -58,18 +58,18 @@ found_derivable t (Some (simple.Attribute class body)) = grammar_derivable t bod
 found_derivable t (Some (simple.Group a b)) = tt
 found_derivable t (Some (simple.Choice a b)) = tt
 
-shape_derivable : (t : Table) (of : ℕ → tree.Simple ℕ) → ((k : ℕ) → IsDerivable (of k)) → (n : Node) → IsDerivable (shape t of n)
-shape_derivable t of all node.NotAllowed = tt
-shape_derivable t of all node.Empty = tt
-shape_derivable t of all node.Text = tt
-shape_derivable t of all (node.Element e) = tt
-shape_derivable t of all (node.Attribute a) = found_derivable t (slice_get t.patterns a.0)
-shape_derivable t of all (node.Group a b) = (all a, all b)
-shape_derivable t of all (node.Choice a b) = (all a, all b)
+node_derivable : (t : Table) (of : ℕ → tree.Simple ℕ) → ((k : ℕ) → IsDerivable (of k)) → (n : Node) → IsDerivable (tree_over t of n)
+node_derivable t of all node.NotAllowed = tt
+node_derivable t of all node.Empty = tt
+node_derivable t of all node.Text = tt
+node_derivable t of all (node.Element e) = tt
+node_derivable t of all (node.Attribute a) = found_derivable t (slice_get t.patterns a.0)
+node_derivable t of all (node.Group a b) = (all a, all b)
+node_derivable t of all (node.Choice a b) = (all a, all b)
 
 entry_from : (t : Table) (ts : List (tree.Simple ℕ)) (rs : List TableEntry) → AllDerivable ts → AllDerivable (fold (with_tree t) ts rs)
 entry_from t ts [] all = all
-entry_from t ts (r ∷ rs) all = entry_from t (with_tree t ts r) rs (derivable_push ts _ all (shape_derivable t (tree_in ts) all r.node))
+entry_from t ts (r ∷ rs) all = entry_from t (with_tree t ts r) rs (derivable_push ts _ all (node_derivable t (tree_in ts) all r.node))
 
 pub entry_derivable : (t : Table) (rs : List TableEntry) (number : ℕ) → IsDerivable (tree_of t rs number)
 unfolding trees

@@ -20,7 +20,7 @@ use Rattle.rng_model.specs.declared.simple.Simple.{Simple}
 use Rattle.rng_model.specs.declared.simple.Simple.TheVariants as simple
 use Rattle.rng_model.specs.Texts.{TextTests, is_blank, texts_of}
 use Rattle.rng_deriv.specs.Acceptance.{Fits, IsAfterAttribute, IsAfterItem, IsDerivable, IsOf, TakesText, has_element}
-use Rattle.rng_deriv.specs.PatternTable.{AreCopied, Longer, attribute_found, is_nullable, shape, tree_of}
+use Rattle.rng_deriv.specs.PatternTable.{AreCopied, Longer, attribute_found, is_nullable, tree_over, tree_of}
 use Rattle.rng_deriv.specs.Derivative.{HasItsElements, IsAfter, IsDerivative, IsLeftOfLeaf, StandsForItem, first_side}
 use Rattle.rng_deriv.proofs.Steps.{IsAttribute}
 use Rattle.rng_deriv.specs.declared.pattern_table.Node.{Node}
@@ -182,7 +182,7 @@ element_kept g (symbol.Element fs) es k all is small = λ n stands tests. elemen
 
 pub other_leaf : (t : Table) (s : Symbol) (of : ℕ → tree.Simple ℕ) (n : Node) → first_side n ≡ None → (n ≡ node.Text → ⊥)
     → ((e : ElementId) → n ≡ node.Element e → ⊥) → ((a : PatternId) → n ≡ node.Attribute a → ⊥)
-    → IsDerivative (grammar_of t) s (shape t of n) tree.s_not_allowed
+    → IsDerivative (grammar_of t) s (tree_over t of n) tree.s_not_allowed
 other_leaf t s of node.NotAllowed leaf a b c = nothing_left (grammar_of t) s
 other_leaf t s of node.Empty leaf a b c = empty_left (grammar_of t) s
 other_leaf t s of node.Text leaf a b c = absurd (a refl)

@@ -9,7 +9,7 @@ use Rattle.rng_model.proofs.NumberedTrees as numbered
 use Rattle.rng_model.specs.Tree as tree
 use Rattle.rng_model.specs.Tree.{group, choice, s_not_allowed}
 use Rattle.rng_model.specs.Table.{Table}
-use Rattle.rng_deriv.specs.PatternTable.{attribute_found, AreSidesBelow, IsPatternTable, Longer, shape, tree_of, trees, is_nullable}
+use Rattle.rng_deriv.specs.PatternTable.{attribute_found, AreSidesBelow, IsPatternTable, Longer, tree_over, tree_of, trees, is_nullable}
 use Rattle.rng_model.specs.declared.simple.Simple.{Simple}
 use Rattle.rng_model.specs.declared.simple.Simple.TheVariants as simple
 use Rattle.rng_deriv.specs.declared.pattern_table.Node.{Node}
@@ -17,11 +17,11 @@ use Rattle.rng_deriv.specs.declared.pattern_table.Node.TheVariants as node
 use Rattle.rng_deriv.specs.declared.pattern_table.TableEntry.{TableEntry}
 
 -- the tree of an entry, given the trees by number
-abbrev entry_shape : Table → (ℕ → tree.Simple ℕ) → TableEntry → tree.Simple ℕ
-entry_shape t of r = shape t of r.node
+abbrev entry_over : Table → (ℕ → tree.Simple ℕ) → TableEntry → tree.Simple ℕ
+entry_over t of r = tree_over t of r.node
 
--- a pattern's shape reads the trees of its sides alone
-node_reads : (t : Table) (n : Node) (i : ℕ) → AreSidesBelow i n → (f g : ℕ → tree.Simple ℕ) → ((k : ℕ) → k < i → f k ≡ g k) → shape t f n ≡ shape t g n
+-- a pattern's tree reads those of its sides alone
+node_reads : (t : Table) (n : Node) (i : ℕ) → AreSidesBelow i n → (f g : ℕ → tree.Simple ℕ) → ((k : ℕ) → k < i → f k ≡ g k) → tree_over t f n ≡ tree_over t g n
 node_reads t (node.Group a b) i h f g same = ap₂ (tree.s_joined group) (same a h.0) (same b h.1)
 node_reads t (node.Choice a b) i h f g same = ap₂ (tree.s_joined choice) (same a h.0) (same b h.1)
 node_reads t _ i h f g same = refl
@@ -29,18 +29,18 @@ node_reads t _ i h f g same = refl
 -- patterns that were added change no tree
 pub tree_stays : (t : Table) (rs ss : List TableEntry) (i : ℕ) → Longer rs ss → i < length rs → tree_of t ss i ≡ tree_of t rs i
 unfolding trees
-tree_stays t rs ss i longer h = numbered.tree_stays s_not_allowed (entry_shape t) rs ss longer.0 i longer.1 h
+tree_stays t rs ss i longer h = numbered.tree_stays s_not_allowed (entry_over t) rs ss longer.0 i longer.1 h
 
--- a pattern's tree is its shape over the trees of its sides
-pub tree_of-shape : (t : Table) (rs : List TableEntry) (i : ℕ) (r : TableEntry) → AreSidesBelow i r.node → slice_get rs i ≡ Some r
-    → tree_of t rs i ≡ shape t (tree_of t rs) r.node
+-- a pattern's tree is the one over the trees of its sides
+pub tree_of-over_children : (t : Table) (rs : List TableEntry) (i : ℕ) (r : TableEntry) → AreSidesBelow i r.node → slice_get rs i ≡ Some r
+    → tree_of t rs i ≡ tree_over t (tree_of t rs) r.node
 unfolding trees
-tree_of-shape t rs i r below found = numbered.tree_of-shape s_not_allowed (entry_shape t) rs i r (node_reads t r.node i below) found
+tree_of-over_children t rs i r below found = numbered.tree_of-over_children s_not_allowed (entry_over t) rs i r (node_reads t r.node i below) found
 
--- a pattern that is added at the end stands for its shape over the trees so far
-pub tree_of_pushed : (t : Table) (rs : List TableEntry) (r : TableEntry) → tree_of t (rs ++ r ∷ []) (length rs) ≡ shape t (tree_of t rs) r.node
+-- a pattern that is added at the end stands for its tree over those so far
+pub tree_of_pushed : (t : Table) (rs : List TableEntry) (r : TableEntry) → tree_of t (rs ++ r ∷ []) (length rs) ≡ tree_over t (tree_of t rs) r.node
 unfolding trees
-tree_of_pushed t rs r = numbered.tree_of_pushed s_not_allowed (entry_shape t) rs (rs ++ r ∷ []) r (length rs) refl refl
+tree_of_pushed t rs r = numbered.tree_of_pushed s_not_allowed (entry_over t) rs (rs ++ r ∷ []) r (length rs) refl refl
 
 -- an attribute is never nullable
 pub attribute_is_not_nullable : (t : Table) (found : Option Simple) → is_nullable (attribute_found t found) ≡ false
@@ -55,7 +55,7 @@ attribute_is_not_nullable t (Some (simple.Choice a b)) = refl
 
 -- one more pattern, with its sides there and the right flag
 pub IsPatternTable-push : (rs : List TableEntry) (r : TableEntry) → IsPatternTable rs → AreSidesBelow (length rs) r.node
-    → ((t : Table) → r.nullable ≡ is_nullable (shape t (tree_of t rs) r.node)) → IsPatternTable (rs ++ r ∷ [])
+    → ((t : Table) → r.nullable ≡ is_nullable (tree_over t (tree_of t rs) r.node)) → IsPatternTable (rs ++ r ∷ [])
 IsPatternTable-push rs r kept below flag =
     let grown : Longer rs (rs ++ r ∷ []) = (r ∷ [], refl) in
     let long : length (rs ++ r ∷ []) ≡ length rs + 1 = length-append rs (r ∷ []) in

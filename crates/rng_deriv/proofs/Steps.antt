@@ -10,7 +10,7 @@ use Rattle.rng_model.specs.Table.{Table, Grammar, grammar_of}
 use Rattle.rng_model.specs.declared.document.Attr.{Attr}
 use Rattle.rng_model.specs.Texts.{TextTests}
 use Rattle.rng_deriv.specs.Acceptance.{Same, IsDerivable}
-use Rattle.rng_deriv.specs.PatternTable.{AreSidesBelow, AddsPattern, Longer, shape, tree_of, is_nullable}
+use Rattle.rng_deriv.specs.PatternTable.{AreSidesBelow, AddsPattern, Longer, tree_over, tree_of, is_nullable}
 use Rattle.rng_deriv.specs.Derivative.{IsAfter, IsDerivative, IsFirstAfter, IsLeftOfLeaf, first_side}
 use Rattle.rng_deriv.specs.declared.pattern_table.Node.{Node}
 use Rattle.rng_deriv.specs.declared.pattern_table.Node.TheVariants as node
@@ -98,7 +98,7 @@ module _ (t : Table) where
   parent_inside rs parent r found = slice_get_within rs parent r found
 
   pub choice_step : (rs ms ss : List TableEntry) (s : Symbol) (parent left right whole : ℕ) (r : TableEntry) (x y : ℕ) → slice_get rs parent ≡ Some r
-      → AreSidesBelow parent r.node → tree_of t rs parent ≡ shape t (tree_of t rs) r.node → r.node ≡ node.Choice x y →
+      → AreSidesBelow parent r.node → tree_of t rs parent ≡ tree_over t (tree_of t rs) r.node → r.node ≡ node.Choice x y →
       IsFirstAfter t rs s parent left → Longer rs ms → IsAfter t ms s y right
       → AddsPattern ms ss (λ u. tree.s_joined choice (tree_of u ms left) (tree_of u ms right)) whole → IsAfter t ss s parent whole
   choice_step rs ms ss s parent left right whole r x y found below at is first longer after built =
@@ -117,11 +117,11 @@ module _ (t : Table) where
         inside = omega arith;
         left_inside = built.inside;
         is = subst (λ p. IsDerivative (grammar_of t) s p (tree_of t ss whole))
-            (sides_stay rs ss parent x y (tree.s_joined choice) all inside x_in y_in (at ∙ ap (shape t (tree_of t rs)) is)) whole_is;
+            (sides_stay rs ss parent x y (tree.s_joined choice) all inside x_in y_in (at ∙ ap (tree_over t (tree_of t rs)) is)) whole_is;
       }
 
   pub first_step : (rs ss : List TableEntry) (s : Symbol) (parent left whole : ℕ) (r : TableEntry) (x y : ℕ) → slice_get rs parent ≡ Some r
-      → AreSidesBelow parent r.node → tree_of t rs parent ≡ shape t (tree_of t rs) r.node → r.node ≡ node.Group x y →
+      → AreSidesBelow parent r.node → tree_of t rs parent ≡ tree_over t (tree_of t rs) r.node → r.node ≡ node.Group x y →
       IsFirstAfter t rs s parent left → IsContent s → is_nullable (tree_of t ss x) ≡ false
       → AddsPattern rs ss (λ u. tree.s_joined group (tree_of u rs left) (tree_of u rs y)) whole → IsAfter t ss s parent whole
   first_step rs ss s parent left whole r x y found below at is first content null built =
@@ -138,11 +138,11 @@ module _ (t : Table) where
         inside = omega arith;
         left_inside = built.inside;
         is = subst (λ p. IsDerivative (grammar_of t) s p (tree_of t ss whole))
-            (sides_stay rs ss parent x y (tree.s_joined group) built.longer inside x_in y_in (at ∙ ap (shape t (tree_of t rs)) is)) whole_is;
+            (sides_stay rs ss parent x y (tree.s_joined group) built.longer inside x_in y_in (at ∙ ap (tree_over t (tree_of t rs)) is)) whole_is;
       }
 
   pub group_step : (rs ls ms ss : List TableEntry) (s : Symbol) (parent left front right whole : ℕ) (r : TableEntry) (x y : ℕ) → slice_get rs parent ≡ Some r
-      → AreSidesBelow parent r.node → tree_of t rs parent ≡ shape t (tree_of t rs) r.node → r.node ≡ node.Group x y →
+      → AreSidesBelow parent r.node → tree_of t rs parent ≡ tree_over t (tree_of t rs) r.node → r.node ≡ node.Group x y →
       IsFirstAfter t rs s parent left → IsContent s → IsDerivable (tree_of t ss x) → is_nullable (tree_of t ls x) ≡ true
       → AddsPattern rs ls (λ u. tree.s_joined group (tree_of u rs left) (tree_of u rs y)) front → Longer ls ms → IsAfter t ms s y right →
       AddsPattern ms ss (λ u. tree.s_joined choice (tree_of u ms front) (tree_of u ms right)) whole → IsAfter t ss s parent whole
@@ -172,11 +172,11 @@ module _ (t : Table) where
         inside = omega arith;
         left_inside = joined.inside;
         is = subst (λ p. IsDerivative (grammar_of t) s p (tree_of t ss whole))
-            (sides_stay rs ss parent x y (tree.s_joined group) all inside x_in y_in (at ∙ ap (shape t (tree_of t rs)) is)) whole_is;
+            (sides_stay rs ss parent x y (tree.s_joined group) all inside x_in y_in (at ∙ ap (tree_over t (tree_of t rs)) is)) whole_is;
       }
 
   pub attribute_step : (rs ls ms ns ss : List TableEntry) (s : Symbol) (parent left front right back whole : ℕ) (r : TableEntry) (x y : ℕ)
-      → slice_get rs parent ≡ Some r → AreSidesBelow parent r.node → tree_of t rs parent ≡ shape t (tree_of t rs) r.node → r.node ≡ node.Group x y →
+      → slice_get rs parent ≡ Some r → AreSidesBelow parent r.node → tree_of t rs parent ≡ tree_over t (tree_of t rs) r.node → r.node ≡ node.Group x y →
       IsFirstAfter t rs s parent left → IsAttribute s → AddsPattern rs ls (λ u. tree.s_joined group (tree_of u rs left) (tree_of u rs y)) front → Longer ls ms
       → IsAfter t ms s y right →
       AddsPattern ms ns (λ u. tree.s_joined group (tree_of u ms x) (tree_of u ms right)) back
@@ -208,7 +208,7 @@ module _ (t : Table) where
         inside = omega arith;
         left_inside = joined.inside;
         is = subst (λ p. IsDerivative (grammar_of t) s p (tree_of t ss whole))
-            (sides_stay rs ss parent x y (tree.s_joined group) all inside x_in y_in (at ∙ ap (shape t (tree_of t rs)) is)) whole_is;
+            (sides_stay rs ss parent x y (tree.s_joined group) all inside x_in y_in (at ∙ ap (tree_over t (tree_of t rs)) is)) whole_is;
       }
 
 -- a symbol that is no attribute
@@ -223,7 +223,7 @@ attribute_from s a e = subst IsAttribute (sym e) tt
 module _ (t : Table) where
   -- a node that is left, numbered
   pub leaf_step : (rs ms ss : List TableEntry) (s : Symbol) (number left : ℕ) (n : Node) → number < length rs → Longer rs ms → IsLeftOfLeaf t rs s number n
-      → AddsPattern ms ss (λ u. shape u (tree_of u ms) n) left → IsAfter t ss s number left
+      → AddsPattern ms ss (λ u. tree_over u (tree_of u ms) n) left → IsAfter t ss s number left
   leaf_step rs ms ss s number left n inside longer leaf built =
       let all = Longer-trans rs ms ss longer built.longer in
       let more = Longer-length rs ss all in

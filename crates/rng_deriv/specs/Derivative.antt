@@ -8,7 +8,7 @@ use Rattle.rng_model.specs.View.{attribute_of}
 use Rattle.rng_model.specs.Table.{Table, Grammar, grammar_of}
 use Rattle.rng_model.specs.Texts.{TextTests}
 use Rattle.rng_deriv.specs.Acceptance.{IsOf, IsAfterItem, IsAfterAttribute, has_element}
-use Rattle.rng_deriv.specs.PatternTable.{AreSidesBelow, shape, tree_of}
+use Rattle.rng_deriv.specs.PatternTable.{AreSidesBelow, tree_over, tree_of}
 use Rattle.rng_deriv.specs.declared.pattern_table.Node.{Node}
 use Rattle.rng_deriv.specs.declared.pattern_table.Node.TheVariants as node
 use Rattle.rng_deriv.specs.declared.pattern_table.TableEntry.{TableEntry}
@@ -88,6 +88,6 @@ pub record IsFirstAfter (t : Table) (rs : List TableEntry) (s : Symbol) (parent 
 -- the node is what is left of the leaf of this number after the symbol
 pub record IsLeftOfLeaf (t : Table) (rs : List TableEntry) (s : Symbol) (number : ℕ) (n : Node) : Type 0 where
   pub left : tree.Simple ℕ
-  pub tree : (of : ℕ → tree.Simple ℕ) → shape t of n ≡ left
+  pub tree : (of : ℕ → tree.Simple ℕ) → tree_over t of n ≡ left
   pub below : (k : ℕ) → AreSidesBelow k n
   pub is : IsDerivative (grammar_of t) s (tree_of t rs number) left

@@ -25,21 +25,21 @@ attribute_found t (Some (simple.Attribute class body)) = tree.s_attribute (class
 attribute_found t (Some (simple.Group a b)) = tree.s_not_allowed
 attribute_found t (Some (simple.Choice a b)) = tree.s_not_allowed
 
--- one pattern as a tree, given the trees of its sides
-abbrev pub shape : Table → (ℕ → tree.Simple ℕ) → Node → tree.Simple ℕ
-shape t of node.NotAllowed = tree.s_not_allowed
-shape t of node.Empty = tree.s_empty
-shape t of node.Text = tree.s_text
-shape t of (node.Element e) = tree.s_leaf e.0
-shape t of (node.Attribute a) = attribute_found t (slice_get t.patterns a.0)
-shape t of (node.Group a b) = tree.s_joined group (of a) (of b)
-shape t of (node.Choice a b) = tree.s_joined choice (of a) (of b)
+-- one pattern as a tree, over the trees of its sides
+abbrev pub tree_over : Table → (ℕ → tree.Simple ℕ) → Node → tree.Simple ℕ
+tree_over t of node.NotAllowed = tree.s_not_allowed
+tree_over t of node.Empty = tree.s_empty
+tree_over t of node.Text = tree.s_text
+tree_over t of (node.Element e) = tree.s_leaf e.0
+tree_over t of (node.Attribute a) = attribute_found t (slice_get t.patterns a.0)
+tree_over t of (node.Group a b) = tree.s_joined group (of a) (of b)
+tree_over t of (node.Choice a b) = tree.s_joined choice (of a) (of b)
 
 abbrev pub tree_in : List (tree.Simple ℕ) → ℕ → tree.Simple ℕ
 tree_in ts number = slice_index_or ts number tree.s_not_allowed
 
 abbrev pub with_tree : Table → List (tree.Simple ℕ) → TableEntry → List (tree.Simple ℕ)
-with_tree t ts r = ts ++ shape t (tree_in ts) r.node ∷ []
+with_tree t ts r = ts ++ tree_over t (tree_in ts) r.node ∷ []
 
 -- the tree of each pattern, made of those before it
 unfoldable pub trees : Table → List TableEntry → List (tree.Simple ℕ)

@@ -2,7 +2,7 @@
 ghost use Rattle.std.specs.Prelude.{◌≡◌, ◌+◌, ◌<◌, ℕ, List, length, slice_get, Some, IfSome, IfOk, OnOk};
 ghost use Rattle.rng_model.specs.Tree.{choice, group, s_joined};
 ghost use Rattle.rng_model.specs.Table.{Table, IsTable};
-ghost use Rattle.rng_deriv.specs.PatternTable.{AreSidesBelow, AreCopied, AddsPattern, Longer, node_for, tree_of, shape, is_nullable};
+ghost use Rattle.rng_deriv.specs.PatternTable.{AreSidesBelow, AreCopied, AddsPattern, Longer, node_for, tree_of, tree_over, is_nullable};
 
 use rng_model::{ElementId, OutOfMemory, PatternId, Simple, SimpleGrammar};
 use std::alloc::Global;
@@ -73,7 +73,7 @@ impl PatternTable {
         ensures found { slice_get self.now number ≡ Some result }
         ensures below { AreSidesBelow number result.node }
         ensures flag { (t : Table) → result.nullable ≡ is_nullable (tree_of t self.now number) }
-        ensures tree { (t : Table) → tree_of t self.now number ≡ shape t (tree_of t self.now) result.node }
+        ensures tree { (t : Table) → tree_of t self.now number ≡ tree_over t (tree_of t self.now) result.node }
     {
         self.patterns[number]
     }
@@ -81,7 +81,7 @@ impl PatternTable {
     /// Whether a pattern whose sides are there matches no attribute and no item.
     fn is_nullable(&self, node: Node) -> bool
         requires { AreSidesBelow (length self.now) node }
-        ensures { (t : Table) → result ≡ is_nullable (shape t (tree_of t self.now) node) }
+        ensures { (t : Table) → result ≡ is_nullable (tree_over t (tree_of t self.now) node) }
     {
         match node {
             Node::Empty | Node::Text => true,
@@ -97,7 +97,7 @@ impl PatternTable {
         ensures longer { OnOk result (Longer self.old self.new) }
         ensures number { IfOk result (λ number. number ≡ length self.old) }
         ensures len { OnOk result (length self.new ≡ length self.old + 1) }
-        ensures tree { IfOk result (λ number. (t : Table) → tree_of t self.new number ≡ shape t (tree_of t self.old) node) }
+        ensures tree { IfOk result (λ number. (t : Table) → tree_of t self.new number ≡ tree_over t (tree_of t self.old) node) }
     {
         let number = self.patterns.len();
         let nullable = self.is_nullable(node);
@@ -109,7 +109,7 @@ impl PatternTable {
     /// The number that a pattern has. What the map says is a hint, and is compared with the pattern itself.
     fn known(&self, node: Node) -> Option<usize>
         ensures inside { IfSome result (λ number. number < length self.now) }
-        ensures tree { IfSome result (λ number. (t : Table) → tree_of t self.now number ≡ shape t (tree_of t self.now) node) }
+        ensures tree { IfSome result (λ number. (t : Table) → tree_of t self.now number ≡ tree_over t (tree_of t self.now) node) }
     {
         let number = *self.numbers.get(&node)?;
         if number < self.len() && self.at(number).node == node {
@@ -122,7 +122,7 @@ impl PatternTable {
     /// The number of a pattern, a new one where it has none.
     pub fn number_of(&mut self, node: Node) -> Result<usize, OutOfMemory>
         requires { AreSidesBelow (length self.old) node }
-        ensures { IfOk result (AddsPattern self.old self.new (λ t. shape t (tree_of t self.old) node)) }
+        ensures { IfOk result (AddsPattern self.old self.new (λ t. tree_over t (tree_of t self.old) node)) }
     {
         match self.known(node) {
             Some(number) => Ok(number),

@@ -35,7 +35,7 @@ s11_xmlns = clauses.in_schema (clauses.in_name_class (clauses.of_declaration (st
 
 -- `element a { u:t }`, where `u` is a library that is not known
 abbrev unknown_type : Datatype
-unknown_type = record { lib = codes "u"; type_name = codes "t"; parameters = [] }
+unknown_type = record { library = codes "u"; name = codes "t"; parameters = [] }
 
 type_is_unknown : IsKnownDatatype unknown_type → ⊥
 type_is_unknown known = library_unknown (codes "t") [] (codes "t", known.0, known.1)

@@ -88,7 +88,7 @@ collapsed = refl
 
 -- a bound is a text that `integer` allows, a length is digits alone, and neither stands twice
 abbrev xsd : List ℕ → List Parameter → Datatype
-xsd name ps = record { lib = xsd_uri; type_name = name; parameters = ps }
+xsd name ps = record { library = xsd_uri; name = name; parameters = ps }
 
 pub bound_with_blanks : type_of (xsd (codes "integer") ((codes "minInclusive", codes " +1 ") ∷ []))
     ≡ Some (xsd_integer (record { least = Some (pos 1); greatest = None }))
@@ -108,7 +108,7 @@ unfolding type_named xsd_type_named written_bounds collapse pieces integer_of
 bound_twice = refl
 
 -- a literal without a type is a `token`, which takes no parameters
-pub parameter_of_token : type_of (record { lib = []; type_name = codes "token"; parameters = (codes "minLength", codes "1") ∷ [] }) ≡ None
+pub parameter_of_token : type_of (record { library = []; name = codes "token"; parameters = (codes "minLength", codes "1") ∷ [] }) ≡ None
 unfolding type_named plain_type_named
 parameter_of_token = refl
 
@@ -120,7 +120,7 @@ pub integer_from_one : HasType (xsd (codes "integer") ((codes "minInclusive", co
 integer_from_one = type_of-sound _ _ bound_with_blanks
 
 -- no library has the uri `u`, so that its types are not asked for
-pub library_unknown : (name : List ℕ) (ps : List Parameter) → HasUnknownLibrary (record { lib = codes "u"; type_name = name; parameters = ps })
+pub library_unknown : (name : List ℕ) (ps : List Parameter) → HasUnknownLibrary (record { library = codes "u"; name = name; parameters = ps })
 library_unknown name ps known =
     elim (library_is known.2) [ inl is ↦ differs (codes "u") [] refl is | inr is ↦ differs (codes "u") xsd_uri refl is ]
 

@@ -290,15 +290,15 @@ with_parameters-none (xsd_integer b) ps e takes = written_bounds-none ps (map_no
 
 -- ---- datatypes
 
-pub named_type : (d : Datatype) (t u : BuiltInType) → type_named d.lib d.type_name ≡ Some t → with_parameters t d.parameters ≡ Some u → HasType d u
+pub named_type : (d : Datatype) (t u : BuiltInType) → type_named d.library d.name ≡ Some t → with_parameters t d.parameters ≡ Some u → HasType d u
 named_type d t u e f =
     let is = with_parameters-sound t d.parameters u f in
-    record { named = is.named d.lib d.type_name (type_named-sound d.lib d.type_name t e); taken = is.taken; bounds = is.bounds }
+    record { named = is.named d.library d.name (type_named-sound d.library d.name t e); taken = is.taken; bounds = is.bounds }
 
 pub type_of-sound : (d : Datatype) (u : BuiltInType) → type_of d ≡ Some u → HasType d u
-type_of-sound d u e = by_name (type_named d.lib d.type_name) refl e
+type_of-sound d u e = by_name (type_named d.library d.name) refl e
   where
-    by_name : (o : Option BuiltInType) → type_named d.lib d.type_name ≡ o → if_named o d.parameters ≡ Some u → HasType d u
+    by_name : (o : Option BuiltInType) → type_named d.library d.name ≡ o → if_named o d.parameters ≡ Some u → HasType d u
     by_name None is e = no_row (HasType d) u e
     by_name (Some t) is e = named_type d t u is e
 

@@ -23,7 +23,7 @@ abbrev one_element : Simple ℕ → Grammar
 one_element body = record { start = s_leaf 0; elements = (named (codes "a"), body) ∷ [] }
 
 abbrev token_type : Datatype
-token_type = record { lib = []; type_name = codes "token"; parameters = [] }
+token_type = record { library = []; name = codes "token"; parameters = [] }
 
 abbrev attribute_x : Simple ℕ
 attribute_x = s_attribute (named (codes "x")) s_text

@@ -5,10 +5,10 @@ use Rattle.rng_model.specs.Simplification.{RuleGroup, propagation, Step, IsSimpl
 use Rattle.rng_model.specs.Simplification as steps
 
 abbrev plain : Datatype
-plain = record { lib = []; type_name = codes "string"; parameters = [] }
+plain = record { library = []; name = codes "string"; parameters = [] }
 
 abbrev token_x : {L : Type 0} → Tree L
-token_x = value (record { lib = []; type_name = codes "token"; parameters = [] }) (codes "x")
+token_x = value (record { library = []; name = codes "token"; parameters = [] }) (codes "x")
 
 module _ (L : Type 0) where
   data_stays : {g : RuleGroup} {c : Tree L} → ¬ (Step g (data_of plain) c)

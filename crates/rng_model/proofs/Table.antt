@@ -5,47 +5,47 @@ use Rattle.std.proofs.lemmas.List.{take-append-drop}
 use Rattle.rng_model.specs.Tree as tree
 use Rattle.rng_model.specs.Tree.{group, choice, s_not_allowed}
 use Rattle.rng_model.specs.View.{class_of}
-use Rattle.rng_model.specs.Table.{AreChildrenBelow, Falls, IsTable, Table, shape, tree_at, trees}
+use Rattle.rng_model.specs.Table.{AreChildrenBelow, Falls, IsTable, Table, tree_over, tree_at, trees}
 use Rattle.rng_model.specs.declared.simple.PatternId.{PatternId}
 use Rattle.rng_model.specs.declared.simple.Simple.{Simple}
 use Rattle.rng_model.specs.declared.simple.Simple.TheVariants as simple
 use Rattle.rng_model.proofs.NumberedTrees as numbered
 
 -- one pattern as a tree, given the trees by number
-abbrev shape_over : (ℕ → tree.Simple ℕ) → Simple → tree.Simple ℕ
-shape_over of = shape (λ id. of id.0)
+abbrev over_numbers : (ℕ → tree.Simple ℕ) → Simple → tree.Simple ℕ
+over_numbers of = tree_over (λ id. of id.0)
 
--- a pattern's shape reads the trees of its children alone
-reads_below : (p : Simple) (i : ℕ) → AreChildrenBelow i p → numbered.ReadsBelow s_not_allowed shape_over i p
+-- a pattern's tree reads those of its children alone
+reads_below : (p : Simple) (i : ℕ) → AreChildrenBelow i p → numbered.ReadsBelow s_not_allowed over_numbers i p
 reads_below (simple.Attribute class body) i h f g same = ap (tree.s_attribute (class_of class)) (same body.0 h)
 reads_below (simple.Group a b) i h f g same = ap₂ (tree.s_joined group) (same a.0 h.0) (same b.0 h.1)
 reads_below (simple.Choice a b) i h f g same = ap₂ (tree.s_joined choice) (same a.0 h.0) (same b.0 h.1)
 reads_below _ i h f g same = refl
 
--- a pattern's tree is its shape over the trees of its children
-pub tree_at-shape : (ps : List Simple) (id : PatternId) (p : Simple) → Falls ps → slice_get ps id.0 ≡ Some p → tree_at ps id ≡ shape (tree_at ps) p
+-- a pattern's tree is the one over the trees of its children
+pub tree_at-over_children : (ps : List Simple) (id : PatternId) (p : Simple) → Falls ps → slice_get ps id.0 ≡ Some p → tree_at ps id ≡ tree_over (tree_at ps) p
 unfolding trees
-tree_at-shape ps id p falls found = numbered.tree_of-shape s_not_allowed shape_over ps id.0 p (reads_below p id.0 (falls id.0 p found)) found
+tree_at-over_children ps id p falls found = numbered.tree_of-over_children s_not_allowed over_numbers ps id.0 p (reads_below p id.0 (falls id.0 p found)) found
 
 -- the same of a pattern that a look-up found
 pub tree_of_found : (t : Table) (id : PatternId) (found : Option (Bor Simple)) → IsTable t → option_copied found ≡ slice_get t.patterns id.0 →
-    IfSome found (λ p. tree_at t.patterns id ≡ shape (tree_at t.patterns) p.now)
+    IfSome found (λ p. tree_at t.patterns id ≡ tree_over (tree_at t.patterns) p.now)
 tree_of_found t id None valid e = tt
-tree_of_found t id (Some p) valid e = tree_at-shape t.patterns id p.now valid.falls (sym e)
+tree_of_found t id (Some p) valid e = tree_at-over_children t.patterns id p.now valid.falls (sym e)
 
--- a pattern that is added at the end stands for its shape over the trees so far
-pub tree_of_pushed : (ps qs : List Simple) (p : Simple) (id : PatternId) → qs ≡ ps ++ p ∷ [] → id.0 ≡ length ps → tree_at qs id ≡ shape (tree_at ps) p
+-- a pattern that is added at the end stands for its tree over those so far
+pub tree_of_pushed : (ps qs : List Simple) (p : Simple) (id : PatternId) → qs ≡ ps ++ p ∷ [] → id.0 ≡ length ps → tree_at qs id ≡ tree_over (tree_at ps) p
 unfolding trees
-tree_of_pushed ps qs p id more at = numbered.tree_of_pushed s_not_allowed shape_over ps qs p id.0 more at
+tree_of_pushed ps qs p id more at = numbered.tree_of_pushed s_not_allowed over_numbers ps qs p id.0 more at
 
 -- and changes no other tree
 pub tree_stays_after_push : (ps qs : List Simple) (p : Simple) (id : PatternId) → qs ≡ ps ++ p ∷ [] → id.0 < length ps → tree_at qs id ≡ tree_at ps id
 unfolding trees
-tree_stays_after_push ps qs p id more inside = numbered.tree_stays s_not_allowed shape_over ps qs (p ∷ []) id.0 more inside
+tree_stays_after_push ps qs p id more inside = numbered.tree_stays s_not_allowed over_numbers ps qs (p ∷ []) id.0 more inside
 
 -- tables that begin with others have the trees of those
 pub tree_stays : (ps qs : List Simple) (id : PatternId) → take (length ps) qs ≡ ps → id.0 < length ps → tree_at qs id ≡ tree_at ps id
 unfolding trees
 tree_stays ps qs id front inside =
     let split : qs ≡ ps ++ drop (length ps) qs = sym (take-append-drop (length ps) qs) ∙ ap (λ xs. xs ++ drop (length ps) qs) front in
-    numbered.tree_stays s_not_allowed shape_over ps qs (drop (length ps) qs) id.0 split inside
+    numbered.tree_stays s_not_allowed over_numbers ps qs (drop (length ps) qs) id.0 split inside

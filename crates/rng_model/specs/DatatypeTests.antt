@@ -110,7 +110,7 @@ if_named (Some t) ps = with_parameters t ps
 
 -- the type of a datatype, if it is known
 abbrev pub type_of : Datatype → Option BuiltInType
-type_of d = if_named (type_named d.lib d.type_name) d.parameters
+type_of d = if_named (type_named d.library d.name) d.parameters
 
 abbrev pub known_allows : Option BuiltInType → List ℕ → Bool
 known_allows None s = false

@@ -137,7 +137,7 @@ HasBoundsOf ps (xsd_integer b) = AreBoundsOf ps b
 
 -- the datatype is this type: by its library and name, with parameters that it takes, and with the bounds that these write
 pub record HasType (d : Datatype) (t : BuiltInType) : Type 0 where
-  pub named : IsType d.lib d.type_name t
+  pub named : IsType d.library d.name t
   pub taken : TakesAll t d.parameters
   pub bounds : HasBoundsOf d.parameters t
 
@@ -153,19 +153,19 @@ IsKnownType uri name = (t : BuiltInType) × IsType uri name t
 
 -- the datatype is one of the table, with parameters that it takes
 abbrev pub IsKnownDatatype : Datatype → Type 0
-IsKnownDatatype d = (t : BuiltInType) × IsType d.lib d.type_name t × TakesAll t d.parameters
+IsKnownDatatype d = (t : BuiltInType) × IsType d.library d.name t × TakesAll t d.parameters
 
 -- what is wrong with a datatype: no library has its uri
 abbrev pub HasUnknownLibrary : Datatype → Type 0
-HasUnknownLibrary d = ¬ (IsKnownLibrary d.lib)
+HasUnknownLibrary d = ¬ (IsKnownLibrary d.library)
 
 -- the library is known, and has no type of its name
 abbrev pub HasUnknownType : Datatype → Type 0
-HasUnknownType d = IsKnownLibrary d.lib × ¬ (IsKnownType d.lib d.type_name)
+HasUnknownType d = IsKnownLibrary d.library × ¬ (IsKnownType d.library d.name)
 
 -- the type is known, and does not take its parameters
 abbrev pub HasBadParameters : Datatype → Type 0
-HasBadParameters d = IsKnownType d.lib d.type_name × ¬ (IsKnownDatatype d)
+HasBadParameters d = IsKnownType d.library d.name × ¬ (IsKnownDatatype d)
 
 -- the datatype of a value: it is known, and has no parameters
 abbrev pub IsValueDatatype : Datatype → Type 0

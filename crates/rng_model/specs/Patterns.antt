@@ -47,7 +47,7 @@ mutual
 
 -- the datatype of this name in this library, with no parameters
 abbrev pub without_parameters : List ℕ → List ℕ → Datatype
-without_parameters library name = record { lib = library; type_name = name; parameters = [] }
+without_parameters library name = record { library = library; name = name; parameters = [] }
 
 -- where the tree of a pattern ends: an element, at its position, with its class and its body; or what is looked up
 pub data Point : Type 0 where

@@ -22,21 +22,21 @@ pub record Table : Type 0 where
   pub elements : List (NameClass × PatternId)
   pub start : PatternId
 
--- one pattern as a tree, given the trees of its children
-abbrev pub shape : (PatternId → tree.Simple ℕ) → Simple → tree.Simple ℕ
-shape of simple.NotAllowed = tree.s_not_allowed
-shape of simple.Empty = tree.s_empty
-shape of simple.Text = tree.s_text
-shape of (simple.Element e) = tree.s_leaf e.0
-shape of (simple.Attribute class body) = tree.s_attribute (class_of class) (of body)
-shape of (simple.Group a b) = tree.s_joined group (of a) (of b)
-shape of (simple.Choice a b) = tree.s_joined choice (of a) (of b)
+-- one pattern as a tree, over the trees of its children
+abbrev pub tree_over : (PatternId → tree.Simple ℕ) → Simple → tree.Simple ℕ
+tree_over of simple.NotAllowed = tree.s_not_allowed
+tree_over of simple.Empty = tree.s_empty
+tree_over of simple.Text = tree.s_text
+tree_over of (simple.Element e) = tree.s_leaf e.0
+tree_over of (simple.Attribute class body) = tree.s_attribute (class_of class) (of body)
+tree_over of (simple.Group a b) = tree.s_joined group (of a) (of b)
+tree_over of (simple.Choice a b) = tree.s_joined choice (of a) (of b)
 
 abbrev pub tree_in : List (tree.Simple ℕ) → PatternId → tree.Simple ℕ
 tree_in ts id = slice_index_or ts id.0 tree.s_not_allowed
 
 abbrev pub with_tree : List (tree.Simple ℕ) → Simple → List (tree.Simple ℕ)
-with_tree ts p = ts ++ shape (tree_in ts) p ∷ []
+with_tree ts p = ts ++ tree_over (tree_in ts) p ∷ []
 
 -- the tree of each pattern, made of those before it
 unfoldable pub trees : List Simple → List (tree.Simple ℕ)

@@ -5,8 +5,8 @@ use Rattle.rng_model.specs.Names.{NameClass}
 -- a datatype: its library, its name there, and its parameters in the order in which they are written
 -- (RELAX NG Specification, section 2)
 pub record Datatype : Type 0 where
-  pub lib : List ℕ
-  pub type_name : List ℕ
+  pub library : List ℕ
+  pub name : List ℕ
   pub parameters : List (List ℕ × List ℕ)
 
 -- what stands between members: `|`, `,` or `&`

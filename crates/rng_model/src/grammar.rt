@@ -1,6 +1,6 @@
 // A simple grammar in tables.
 ghost use Rattle.std.specs.Prelude.{◌≡◌, ◌<◌, length, slice_get, option_copied, IfSome};
-ghost use Rattle.rng_model.specs.Table.{IsTable, AreChildrenBelow, tree_at, shape};
+ghost use Rattle.rng_model.specs.Table.{IsTable, AreChildrenBelow, tree_at, tree_over};
 
 use crate::name::NameClass;
 use crate::simple::{ElementId, PatternId, Simple};
@@ -63,7 +63,7 @@ impl SimpleGrammar {
     pub fn pattern(&self, id: PatternId) -> Option<&Simple>
         ensures value { option_copied result ≡ slice_get self.now.patterns id.0 }
         ensures below { IfSome result (λ p. AreChildrenBelow id.0 p.now) }
-        ensures tree { IfSome result (λ p. tree_at self.now.patterns id ≡ shape (tree_at self.now.patterns) p.now) }
+        ensures tree { IfSome result (λ p. tree_at self.now.patterns id ≡ tree_over (tree_at self.now.patterns) p.now) }
     {
         found_at(self.patterns.as_slice(), id.0)
     }

@@ -7,6 +7,7 @@
 
 mod blanks;
 mod character;
+mod datatype;
 mod device;
 mod document;
 mod fault;
@@ -15,10 +16,10 @@ mod method;
 mod name;
 mod pattern;
 mod simple;
-mod type_use;
 
 pub use blanks::{Pieces, collapse, split_blanks};
 pub use character::{is_name_char, is_name_start, is_ncname, is_xml_char};
+pub use datatype::{Datatype, datatype_laws};
 pub use device::{Device, DeviceFault};
 pub use document::{Attr, Item};
 pub use fault::{OutOfMemory, SchemaFault};
@@ -27,4 +28,3 @@ pub use method::Method;
 pub use name::{Name, NameClass};
 pub use pattern::Pattern;
 pub use simple::{ElementId, PatternId, Simple};
-pub use type_use::{TypeUse, datatype_laws};

@@ -1,6 +1,6 @@
 // The tables of a grammar that is being built.
 ghost use Rattle.std.specs.Prelude.{◌≡◌, ◌<◌, ◌≤◌, [], ◌∷◌, ◌++◌, length, All, IfOk, OnErr, OnOk};
-ghost use Rattle.rng_model.specs.Table.{AreChildrenBelow, IsClassPaired, IsLeafListed, IsPaired, shape, tree_at};
+ghost use Rattle.rng_model.specs.Table.{AreChildrenBelow, IsClassPaired, IsLeafListed, IsPaired, tree_over, tree_at};
 ghost use Rattle.rng_model.specs.Tree.{IsSimpleBody};
 ghost use Rattle.rng_simple.specs.GrammarBuilder.{AreTables, cut};
 
@@ -67,7 +67,7 @@ impl GrammarBuilder {
         ensures id { IfOk result (λ id. id.0 ≡ length self.old.patterns) }
         ensures there { IfOk result (λ id. id.0 < length self.new.patterns) }
         ensures ok { OnOk result (self.new ≡ record self.old { patterns = self.old.patterns ++ pattern ∷ [] }) }
-        ensures tree { IfOk result (λ id. tree_at self.new.patterns id ≡ shape (tree_at self.old.patterns) pattern) }
+        ensures tree { IfOk result (λ id. tree_at self.new.patterns id ≡ tree_over (tree_at self.old.patterns) pattern) }
         ensures err { OnErr result (self.new ≡ self.old) }
     {
         let id = PatternId(self.patterns.len());

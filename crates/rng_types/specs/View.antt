@@ -28,7 +28,7 @@ built_in_type_of (types.Integer d) = xsd_integer (bounds_of d.bounds)
 
 -- the datatype of this library and name, with these parameters
 abbrev pub datatype_at : {Z : Type 0} → List ℕ → List ℕ → List (String Z × String Z) → Datatype
-datatype_at lib name params = record { lib = lib; type_name = name; parameters = map parameter_of params }
+datatype_at library name parameters = record { library = library; name = name; parameters = map parameter_of parameters }
 
 -- an answer, seen through the view of what it is
 abbrev pub seen : {X Y : Type 0} → (X → Y) → Result X TypeFault → Result Y TypeFault

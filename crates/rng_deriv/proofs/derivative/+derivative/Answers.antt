@@ -2,7 +2,7 @@ use Rattle.std.proofs.Common.{◌∙◌, ◌<◌, ◌≤◌, ◌^◌, arith, rul
 use Rattle.std.proofs.lemmas.Bool.{not-false, not-true}
 use Rattle.std.proofs.lemmas.Result.{IfOk-weaker}
 use Rattle.std.proofs.lemmas.Option.{slice_get_within}
-use Rattle.rng_deriv.specs.PatternTable.{attribute_found, shape, tree_of}
+use Rattle.rng_deriv.specs.PatternTable.{attribute_found, tree_over, tree_of}
 use Rattle.rng_deriv.specs.Derivative.{IsAfter, IsDerivative, IsLeftOfLeaf, StandsForItem}
 use Rattle.rng_model.specs.Table.{AreChildrenBelow, grammar_of}
 use Rattle.rng_model.specs.Tree.{s_leaf, s_empty, s_not_allowed}
@@ -157,14 +157,14 @@ after_parent-returns-in_ok-whole-in-Group-2 t c = record {
 pub leaf_after-returns-in-Text-symbol-clause-left : goal.leaf_after-returns-in-Text-symbol-clause-left
 leaf_after-returns-in-Text-symbol-clause-left t c =
     left_text c.args.grammar.now c.args.table.now _ _ _
-    (c.at.ensures.tree c.args.grammar.now ∙ ap (shape c.args.grammar.now (tree_of c.args.grammar.now c.args.table.now)) c.in-Text.is)
+    (c.at.ensures.tree c.args.grammar.now ∙ ap (tree_over c.args.grammar.now (tree_of c.args.grammar.now c.args.table.now)) c.in-Text.is)
     (text_kept _ _ _ c.in-Text-symbol.is)
 
 pub leaf_after-returns-in_default-symbol : goal.leaf_after-returns-in_default-symbol
 leaf_after-returns-in_default-symbol t c = record {
   longer = Longer-refl _;
   left = left_none c.args.grammar.now c.args.table.now _ _ _
-      (c.at.ensures.tree c.args.grammar.now ∙ ap (shape c.args.grammar.now (tree_of c.args.grammar.now c.args.table.now)) c.in-Text.is)
+      (c.at.ensures.tree c.args.grammar.now ∙ ap (tree_over c.args.grammar.now (tree_of c.args.grammar.now c.args.table.now)) c.in-Text.is)
       (text_left _ _ (not_text _ c.in_default-symbol.not-Text));
 }
 
@@ -180,13 +180,13 @@ leaf_after-returns-in-Element-symbol-clause-left t c =
     (subst IsNode (sym is) tt) small in
     let tested = subst (λ b. IsDerivative (grammar_of g) s (s_leaf c.in-Element.element.0) (cond b s_empty s_not_allowed)) (sym c.contains.ensures) taken in
     subst (λ n. IsLeftOfLeaf g rs s c.args.number n) (sym c.empty_if.ensures)
-    (left_empty_if g rs s _ c.contains.result _ (c.at.ensures.tree g ∙ ap (shape g (tree_of g rs)) c.in-Element.is) tested)
+    (left_empty_if g rs s _ c.contains.result _ (c.at.ensures.tree g ∙ ap (tree_over g (tree_of g rs)) c.in-Element.is) tested)
 
 pub leaf_after-returns-in_default-symbol-2 : goal.leaf_after-returns-in_default-symbol-2
 leaf_after-returns-in_default-symbol-2 t c = record {
   longer = Longer-refl _;
   left = left_none c.args.grammar.now c.args.table.now _ _ _
-      (c.at.ensures.tree c.args.grammar.now ∙ ap (shape c.args.grammar.now (tree_of c.args.grammar.now c.args.table.now)) c.in-Element.is)
+      (c.at.ensures.tree c.args.grammar.now ∙ ap (tree_over c.args.grammar.now (tree_of c.args.grammar.now c.args.table.now)) c.in-Element.is)
       (leaf_left _ _ _ (not_node _ c.in_default-symbol-2.not-Element));
 }
 
@@ -194,7 +194,7 @@ pub leaf_after-returns-in_default-symbol-3 : goal.leaf_after-returns-in_default-
 leaf_after-returns-in_default-symbol-3 t c = record {
   longer = Longer-refl _;
   left = left_none c.args.grammar.now c.args.table.now _ _ _
-      (c.at.ensures.tree c.args.grammar.now ∙ ap (shape c.args.grammar.now (tree_of c.args.grammar.now c.args.table.now)) c.in-Attribute.is)
+      (c.at.ensures.tree c.args.grammar.now ∙ ap (tree_over c.args.grammar.now (tree_of c.args.grammar.now c.args.table.now)) c.in-Attribute.is)
       (found_left c.args.grammar.now _ _ (not_attribute _ c.in_default-symbol-3.not-Attribute));
 }
 
@@ -217,7 +217,7 @@ leaf_after-returns-in_ok-takes-in-Attribute-symbol-clause-left t c =
     subst (λ u. IsDerivative (grammar_of g) u found (cond takes s_empty s_not_allowed))
     (sym c.in-Attribute-symbol.is) c.in_ok-takes-in-Attribute-symbol.ensures.left in
     subst (λ n. IsLeftOfLeaf g rs s c.args.number n) (sym c.empty_if-in-Attribute-symbol.ensures)
-    (left_empty_if g rs s _ takes _ (c.at.ensures.tree g ∙ ap (shape g (tree_of g rs)) c.in-Attribute.is) taken)
+    (left_empty_if g rs s _ takes _ (c.at.ensures.tree g ∙ ap (tree_over g (tree_of g rs)) c.in-Attribute.is) taken)
 
 pub takes_attribute-returns-else-not-contains-clause-left : goal.takes_attribute-returns-else-not-contains-clause-left
 takes_attribute-returns-else-not-contains-clause-left t c =

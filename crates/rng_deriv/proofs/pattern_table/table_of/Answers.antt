@@ -1,6 +1,6 @@
 use Rattle.std.proofs.Common.{◌<◌, length, sym, ap, ◌∙◌, arith}
 use Rattle.std.proofs.lemmas.Option.{slice_get_within}
-use Rattle.rng_deriv.specs.PatternTable.{tree_of, shape}
+use Rattle.rng_deriv.specs.PatternTable.{tree_of, tree_over}
 use Rattle.rng_deriv.proofs.Copied.{agrees_more, past_from_none}
 use Rattle.rng_deriv.proofs.pattern_table.table_of.Goals as goal
 
@@ -16,7 +16,7 @@ patterns-preserved c =
       trees = agrees_more t c.patterns.table c.push.new.self c.in-Some.pattern.now
           (record { 0 = c.len.result }) at long c.in_ok-push.ensures.longer found c.in-Some.ensures.below c.in-Some.ensures.tree
           (ap (λ k. tree_of t c.push.new.self k) (sym c.in_ok-push.ensures.number) ∙ c.in_ok-push.ensures.tree t
-          ∙ ap (shape t (tree_of t c.patterns.table)) c.node_of.ensures)
+          ∙ ap (tree_over t (tree_of t c.patterns.table)) c.node_of.ensures)
           c.patterns.invariant.trees;
     }
 

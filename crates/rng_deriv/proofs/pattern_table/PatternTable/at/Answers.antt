@@ -2,7 +2,7 @@ use Rattle.std.proofs.Common.{◌≡◌, ◌<◌, ◌∙◌, ap, sym, slice_get,
 use Rattle.std.proofs.lemmas.Option.{slice_get-get_or}
 use Rattle.rng_deriv.specs.PatternTable.{IsPatternTable}
 use Rattle.rng_deriv.specs.declared.pattern_table.TableEntry.{TableEntry}
-use Rattle.rng_deriv.proofs.PatternTable.{tree_of-shape}
+use Rattle.rng_deriv.proofs.PatternTable.{tree_of-over_children}
 use Rattle.rng_deriv.proofs.pattern_table.PatternTable.at.Goals as goal
 
 pub returns-clause-tree : goal.returns-clause-tree
@@ -12,4 +12,4 @@ returns-clause-tree c =
     let inside = subst Inside (sym c.self.view_is) c.requires in
     let found = subst Found c.self.view_is (slice_get-get_or _ _ c.index.result.now inside ∙ ap Some (sym c.index.ensures)) in
     let kept : IsPatternTable c.args.self.now = subst IsPatternTable c.self.view_is c.self.invariant in
-    λ t. tree_of-shape t _ _ _ (kept.falls _ _ found) found
+    λ t. tree_of-over_children t _ _ _ (kept.falls _ _ found) found

@@ -1,5 +1,5 @@
 use Rattle.std.proofs.Common.{ap, ◌∙◌}
-use Rattle.rng_deriv.specs.PatternTable.{shape, tree_of}
+use Rattle.rng_deriv.specs.PatternTable.{tree_over, tree_of}
 use Rattle.rng_deriv.proofs.Acceptance.{group_first_empty, group_second_empty}
 use Rattle.rng_deriv.proofs.Follows.{Longer-refl}
 use Rattle.rng_deriv.proofs.pattern_table.PatternTable.group.Goals as goal
@@ -10,7 +10,7 @@ returns-in-Empty c =
     record {
       longer = Longer-refl rs;
       inside = c.requires.second;
-      same = λ t g tests. group_first_empty g tests _ _ (c.at.ensures.tree t ∙ ap (λ n. shape t (tree_of t rs) n) c.in-Empty.is);
+      same = λ t g tests. group_first_empty g tests _ _ (c.at.ensures.tree t ∙ ap (λ n. tree_over t (tree_of t rs) n) c.in-Empty.is);
     }
 
 pub returns-in-Empty-node : goal.returns-in-Empty-node
@@ -19,5 +19,5 @@ returns-in-Empty-node c =
     record {
       longer = Longer-refl rs;
       inside = c.requires.first;
-      same = λ t g tests. group_second_empty g tests _ _ (c.at-2.ensures.tree t ∙ ap (λ n. shape t (tree_of t rs) n) c.in-Empty-node.is);
+      same = λ t g tests. group_second_empty g tests _ _ (c.at-2.ensures.tree t ∙ ap (λ n. tree_over t (tree_of t rs) n) c.in-Empty-node.is);
     }

@@ -1,5 +1,5 @@
 use Rattle.rng_model.proofs.DatatypeTests.{type_unique, known_type, allowed_decided, equal_decided}
-use Rattle.rng_model.proofs.type_use.datatype_laws.Goals as goal
+use Rattle.rng_model.proofs.datatype.datatype_laws.Goals as goal
 
 pub returns-clause-one : goal.returns-clause-one
 returns-clause-one c = type_unique

@@ -1,0 +1,26 @@
+// Datatypes as a schema names them.
+ghost use Rattle.std.specs.Prelude.{◌≡◌, ◌↔◌, ℕ, List, IsTrue};
+ghost use Rattle.rng_model.specs.Tree as tree;
+ghost use Rattle.rng_model.specs.Datatypes.{BuiltInType, HasType, IsKnownDatatype, IsAllowed, AreEqual};
+ghost use Rattle.rng_model.specs.DatatypeTests.{text_tests};
+
+/// A datatype: its library's uri, its name there, and its parameters in the order in which they are written.
+///
+/// RELAX NG Specification, section 2.
+#[derive(Debug, Drop)]
+pub struct Datatype {
+    pub library: String,
+    pub name: String,
+    pub parameters: Vec<(String, String)>,
+}
+
+/// The laws of the definitions of datatypes. It does nothing: its contract is what it is for.
+///
+/// A datatype has one type at most, and one where it is known. The tests of texts that other contracts cite
+/// (`text_tests`) answer what the definitions say.
+pub fn datatype_laws()
+    ensures one { (d : tree.Datatype) (t u : BuiltInType) → HasType d t → HasType d u → t ≡ u }
+    ensures some { (d : tree.Datatype) → IsKnownDatatype d → (t : BuiltInType) × HasType d t }
+    ensures allowed { (d : tree.Datatype) (s : List ℕ) → IsTrue (text_tests.allows d s) ↔ IsAllowed d s }
+    ensures equal { (d : tree.Datatype) (v w : List ℕ) → IsTrue (text_tests.equals d v w) ↔ AreEqual d v w }
+{}
