@@ -2,7 +2,8 @@
 ghost use Rattle.std.specs.Prelude.{◌≡◌, ℕ, List, [], IfOk, IfErr};
 ghost use Rattle.rnc_text.specs.Held.{characters_of};
 ghost use Rattle.rnc_text.specs.Tokens.{Piece};
-ghost use Rattle.rnc_text.specs.Cut.{AreInOrder, Cuts, Lexeme, HasTokens, BreaksTokensAt, lexemes_of};
+ghost use Rattle.rnc_text.specs.Cut as cut;
+ghost use Rattle.rnc_text.specs.Cut.{AreInOrder, Cuts, HasTokens, BreaksTokensAt, tokens_of};
 ghost use Rattle.rnc_text.specs.Answers.{IfBroken, GivesOk, GivesFault};
 
 use crate::cursor::Cursor;
@@ -14,7 +15,7 @@ use std::alloc::Global;
 
 /// The tokens of a text, each the longest that begins at its place.
 fn cut(alloc: Global, text: &Text) -> Result<Vec<Token<'_>>, TextFault>
-    ensures found { IfOk result (λ v. HasTokens (characters_of text.now) (lexemes_of v.items)) }
+    ensures found { IfOk result (λ v. HasTokens (characters_of text.now) (tokens_of v.items)) }
     ensures fault { IfErr result (IfBroken (λ clause place. (clause ≡ 5) × BreaksTokensAt (characters_of text.now) place)) }
 {
     let mut tokens = Vec::new(alloc);
@@ -46,11 +47,11 @@ fn cut(alloc: Global, text: &Text) -> Result<Vec<Token<'_>>, TextFault>
 /// RELAX NG Compact Syntax, "Lexical structure".
 pub fn tokens(alloc: Global, text: &Text) -> Result<Vec<Token<'_>>, TextFault>
     // What is answered are the tokens of a cut of the whole text.
-    ensures found { IfOk result (λ v. HasTokens (characters_of text.now) (lexemes_of v.items)) }
+    ensures found { IfOk result (λ v. HasTokens (characters_of text.now) (tokens_of v.items)) }
     // The spans are in order and share no byte.
-    ensures order { IfOk result (λ v. AreInOrder 0 (lexemes_of v.items)) }
+    ensures order { IfOk result (λ v. AreInOrder 0 (tokens_of v.items)) }
     // The tokens of a cut are answered, so there are no others.
-    ensures only { (ts : List Lexeme) → HasTokens (characters_of text.now) ts → GivesOk (λ v. lexemes_of v.items) result ts }
+    ensures only { (ts : List cut.Token) → HasTokens (characters_of text.now) ts → GivesOk (λ v. tokens_of v.items) result ts }
     // There is no other cut.
     ensures one { (pieces others : List Piece) → Cuts (characters_of text.now) pieces [] → Cuts (characters_of text.now) others [] → pieces ≡ others }
     // A fault has its clause broken at its place.

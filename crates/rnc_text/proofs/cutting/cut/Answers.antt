@@ -1,7 +1,7 @@
 use Rattle.std.proofs.Common.{◌≡◌, ◌∙◌, Some, sym, ap, refl}
 use Rattle.std.proofs.lemmas.Bool.{eqb-true}
 use Rattle.std.proofs.lemmas.List.{map-append}
-use Rattle.rnc_text.specs.Cut.{lexeme_of, lexemes_of}
+use Rattle.rnc_text.specs.Cut.{token_of, tokens_of}
 use Rattle.rnc_text.specs.Cursors.{told}
 use Rattle.rnc_text.proofs.Decoded.{not_empty}
 use Rattle.rnc_text.proofs.Cuts.{cut_none, cut_gap, cut_token, cut_done, cut_stops, shorter_rest}
@@ -23,7 +23,7 @@ places-preserved-in_ok-push c =
     let said : told c.in-Some.part ≡ Some (c.in-Token.kind, c.in-Token.says.now) = ap told c.in-Token.is in
     cut_token _ _ _ _ c.in-Some.after c.in-Some.part c.in-Token.kind c.in-Token.says.now
     c.place-in-Token.result c.place-in-Token-2.result c.places.invariant said c.in-Some.ensures c.place-in-Token.ensures c.place-in-Token-2.ensures
-    (ap lexemes_of c.in_ok-push.ensures.items ∙ map-append lexeme_of c.places.tokens.items _)
+    (ap tokens_of c.in_ok-push.ensures.items ∙ map-append token_of c.places.tokens.items _)
 
 pub places-smaller : goal.places-smaller
 places-smaller c = shorter_rest _ _ _ c.in-Some.ensures
