@@ -105,15 +105,15 @@ whole_cut cs ps qs c d = (one_cut c nothing_in_none qs [] d nothing_in_none).0
 tokens_one : (cs : List Character) (ts us : List Token) → HasTokens cs ts → HasTokens cs us → ts ≡ us
 tokens_one cs ts us p q = p.are ∙ ap (tokens_at 0) (whole_cut cs p.pieces q.pieces p.cut q.cut) ∙ sym q.are
 
-not_both : (cs : List Character) (ts : List Token) (place : ℕ) → HasTokens cs ts → BreaksTokensAt cs place → ⊥
-not_both cs ts place p q = absurd (omega (arith, q.some, ap length (one_cut p.cut nothing_in_none q.pieces q.rest q.cut q.nothing).1))
+not_both : (cs : List Character) (ts : List Token) (offset : ℕ) → HasTokens cs ts → BreaksTokensAt cs offset → ⊥
+not_both cs ts offset p q = absurd (omega (arith, q.some, ap length (one_cut p.cut nothing_in_none q.pieces q.rest q.cut q.nothing).1))
 
-one_place : (cs : List Character) (place next : ℕ) → BreaksTokensAt cs place → BreaksTokensAt cs next → place ≡ next
-one_place cs place next p q = omega (arith, p.place_is, q.place_is, ap byte_length (one_cut p.cut p.nothing q.pieces q.rest q.cut q.nothing).1)
+one_offset : (cs : List Character) (offset next : ℕ) → BreaksTokensAt cs offset → BreaksTokensAt cs next → offset ≡ next
+one_offset cs offset next p q = omega (arith, p.offset_is, q.offset_is, ap byte_length (one_cut p.cut p.nothing q.pieces q.rest q.cut q.nothing).1)
 
 -- the clause that the characters break
 abbrev pub BreaksFive : List Character → ℕ → ℕ → Type 0
-BreaksFive cs clause place = (clause ≡ 5) × BreaksTokensAt cs place
+BreaksFive cs clause offset = (clause ≡ 5) × BreaksTokensAt cs offset
 
 pub gives_tokens : {X : Type 0} (view : X → List Token) (cs : List Character) (r : Result X TextFault) → IfOk r (λ v. HasTokens cs (view v))
     → IfErr r (IfBroken (BreaksFive cs)) → (ts : List Token) → HasTokens cs ts → GivesOk view r ts
@@ -122,10 +122,10 @@ gives_tokens view cs (Err Memory) found fault ts is = tt
 gives_tokens view cs (Err (At c p)) found fault ts is = not_both cs ts p is fault.1
 
 pub gives_five : {X : Type 0} (view : X → List Token) (cs : List Character) (r : Result X TextFault) → IfOk r (λ v. HasTokens cs (view v))
-    → IfErr r (IfBroken (BreaksFive cs)) → (place : ℕ) → BreaksTokensAt cs place → GivesFault r 5 place
-gives_five view cs (Ok v) found fault place is = not_both cs (view v) place found is
-gives_five view cs (Err Memory) found fault place is = tt
-gives_five view cs (Err (At c p)) found fault place is = (fault.0, one_place cs p place fault.1 is)
+    → IfErr r (IfBroken (BreaksFive cs)) → (offset : ℕ) → BreaksTokensAt cs offset → GivesFault r 5 offset
+gives_five view cs (Ok v) found fault offset is = not_both cs (view v) offset found is
+gives_five view cs (Err Memory) found fault offset is = tt
+gives_five view cs (Err (At c p)) found fault offset is = (fault.0, one_offset cs p offset fault.1 is)
 
 -- ---- the loop
 
@@ -144,18 +144,18 @@ tokens_push start (token kind says all ∷ ps) p =
     ap (λ (x : List Token). record { kind = kind; text = bytes_of says; starts = start; ends = start + byte_length all } ∷ x)
     (tokens_push (start + byte_length all) ps p)
 
--- the characters before a place are cut, and these are their tokens
-pub record HasCut (cs : List Character) (tokens : List Token) (place : Cursor) : Type 0 where
+-- the characters before a cursor are cut, and these are their tokens
+pub record HasCut (cs : List Character) (tokens : List Token) (cursor : Cursor) : Type 0 where
   pub pieces : List Piece
-  pub cut : Cuts cs pieces (remaining place)
+  pub cut : Cuts cs pieces (remaining cursor)
   pub are : tokens ≡ tokens_at 0 pieces
-  pub at : ends_at 0 pieces + length place.rest.now ≡ place.length
-  pub left : byte_length (remaining place) ≡ length place.rest.now
-  pub whole : place.length ≡ byte_length cs
+  pub at : ends_at 0 pieces + length cursor.rest.now ≡ cursor.length
+  pub left : byte_length (remaining cursor) ≡ length cursor.rest.now
+  pub whole : cursor.length ≡ byte_length cs
 
-pub cut_none : (cs : List Character) (place : Cursor) → remaining place ≡ cs → place.rest.now ≡ bytes_of cs → place.length ≡ length place.rest.now
-    → HasCut cs [] place
-cut_none cs place rest bytes whole = record {
+pub cut_none : (cs : List Character) (cursor : Cursor) → remaining cursor ≡ cs → cursor.rest.now ≡ bytes_of cs → cursor.length ≡ length cursor.rest.now
+    → HasCut cs [] cursor
+cut_none cs cursor rest bytes whole = record {
   pieces = [];
   cut = here (sym rest);
   are = refl;
@@ -232,23 +232,23 @@ cut_token cs ts us from to part kind text start end h is f s e new =
     ∙ ap (λ (n : ℕ). ts ++ record { kind = kind; text = text; starts = from.length - length from.rest.now; ends = n } ∷ []) end-is
     ∙ ap (λ (x : List Token). ts ++ x) (sym (token_gives f.piece _ kind text (sym is ∙ f.says))))
 
-pub cut_done : (cs : List Character) (ts : List Token) (place : Cursor) → HasCut cs ts place → length place.rest.now ≡ 0 → HasTokens cs ts
-cut_done cs ts place h e =
-    record { pieces = h.pieces; cut = subst (λ (x : List Character). Cuts cs h.pieces x) (no_characters (remaining place) (h.left ∙ e)) h.cut; are = h.are }
+pub cut_done : (cs : List Character) (ts : List Token) (cursor : Cursor) → HasCut cs ts cursor → length cursor.rest.now ≡ 0 → HasTokens cs ts
+cut_done cs ts cursor h e =
+    record { pieces = h.pieces; cut = subst (λ (x : List Character). Cuts cs h.pieces x) (no_characters (remaining cursor) (h.left ∙ e)) h.cut; are = h.are }
   where
     no_characters : (cs : List Character) → byte_length cs ≡ 0 → cs ≡ []
     no_characters [] e = refl
     no_characters (c ∷ cs) e = absurd (omega (arith, e, some_bytes (c ∷ cs) (omega arith)))
 
-pub cut_stops : (cs : List Character) (ts : List Token) (place : Cursor) → HasCut cs ts place → 0 < length place.rest.now → piece_of (remaining place) ≡ None
-    → BreaksTokensAt cs (place.length - length place.rest.now)
-cut_stops cs ts place h lt none = record {
+pub cut_stops : (cs : List Character) (ts : List Token) (cursor : Cursor) → HasCut cs ts cursor → 0 < length cursor.rest.now
+    → piece_of (remaining cursor) ≡ None → BreaksTokensAt cs (cursor.length - length cursor.rest.now)
+cut_stops cs ts cursor h lt none = record {
   pieces = h.pieces;
-  rest = remaining place;
+  rest = remaining cursor;
   cut = h.cut;
-  some = some_characters (remaining place) (omega (arith, lt, h.left));
-  nothing = none_begins (remaining place) none;
-  place_is = omega (arith, h.left, h.at, h.whole);
+  some = some_characters (remaining cursor) (omega (arith, lt, h.left));
+  nothing = none_begins (remaining cursor) none;
+  offset_is = omega (arith, h.left, h.at, h.whole);
 }
   where
     some_characters : (cs : List Character) → 0 < byte_length cs → 0 < length cs

@@ -1,4 +1,4 @@
--- The cut of a text into blanks, comments and tokens, each the longest that begins at its place
+-- The cut of a text into blanks, comments and tokens, each the longest that begins at its offset
 -- (RELAX NG Compact Syntax, "Lexical structure").
 use Rattle.std.specs.Prelude.{◌≡◌, ℕ, ◌+◌, ◌<◌, ◌≤◌, List, [], ◌∷◌, ◌++◌, length, map}
 use Rattle.rnc_text.specs.Characters.{bytes_of, byte_length}
@@ -51,14 +51,14 @@ pub record HasTokens (cs : List Character) (tokens : List Token) : Type 0 where
   pub cut : Cuts cs pieces []
   pub are : tokens ≡ tokens_at 0 pieces
 
--- clause S5: the characters up to the place are cut, and there nothing begins
-pub record BreaksTokensAt (cs : List Character) (place : ℕ) : Type 0 where
+-- clause S5: the characters up to the offset are cut, and there nothing begins
+pub record BreaksTokensAt (cs : List Character) (offset : ℕ) : Type 0 where
   pub pieces : List Piece
   pub rest : List Character
   pub cut : Cuts cs pieces rest
   pub some : 0 < length rest
   pub nothing : NothingBegins rest
-  pub place_is : place + byte_length rest ≡ byte_length cs
+  pub offset_is : offset + byte_length rest ≡ byte_length cs
 
 -- each token starts no earlier than the one before it ends, and has some bytes
 abbrev pub AreInOrder : ℕ → List Token → Type 0

@@ -32,7 +32,7 @@ characters_of t = marked (length (string_bytes t.text)) t.escaped.items (chars (
 abbrev pub AllMarksUsed : Text → Type 0
 AllMarksUsed t = unused (length (string_bytes t.text)) t.escaped.items (chars (string_bytes t.text)) ≡ []
 
--- the marks behind a place, if it is marked
+-- the marks behind an offset, if it is marked
 abbrev pub next_marks : ℕ → List ℕ → Option (List ℕ)
-next_marks place [] = None
-next_marks place (m ∷ marks) = if m == place then Some marks else None
+next_marks offset [] = None
+next_marks offset (m ∷ marks) = if m == offset then Some marks else None

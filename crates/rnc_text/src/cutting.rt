@@ -13,36 +13,36 @@ use crate::text::Text;
 use crate::token::Token;
 use std::alloc::Global;
 
-/// The tokens of a text, each the longest that begins at its place.
+/// The tokens of a text, each the longest that begins at its offset.
 fn cut(alloc: Global, text: &Text) -> Result<Vec<Token<'_>>, TextFault>
     ensures found { IfOk result (λ v. HasTokens (characters_of text.now) (tokens_of v.items)) }
-    ensures fault { IfErr result (IfBroken (λ clause place. (clause ≡ 5) × BreaksTokensAt (characters_of text.now) place)) }
+    ensures fault { IfErr result (IfBroken (λ clause offset. (clause ≡ 5) × BreaksTokensAt (characters_of text.now) offset)) }
 {
     let mut tokens = Vec::new(alloc);
-    let mut place = Cursor::new(text);
-    'places: while !place.is_at_end() {
-        let Some((part, after)) = piece(place) else {
+    let mut cursor = Cursor::new(text);
+    'pieces: while !cursor.is_at_end() {
+        let Some((part, after)) = piece(cursor) else {
             return Err(TextFault::At {
                 clause: 5,
-                place: place.place() as u64,
+                offset: cursor.offset() as u64,
             });
         };
         if let Part::Token(kind, says) = part {
             tokens.push(Token {
                 kind,
                 text: says,
-                start: place.place(),
-                end: after.place(),
+                start: cursor.offset(),
+                end: after.offset(),
             })?;
         }
-        place = after;
+        cursor = after;
     }
     Ok(tokens)
 }
 
 /// The tokens of a text, in order.
 ///
-/// Where at some place neither a blank, a comment nor a token begins, clause 5 is broken, and the fault tells the first
+/// Where at some offset neither a blank, a comment nor a token begins, clause 5 is broken, and the fault tells the first
 /// such offset in the decoded text, in bytes. `Memory` answers that there was no memory for the tokens. Linear.
 /// RELAX NG Compact Syntax, "Lexical structure".
 pub fn tokens(alloc: Global, text: &Text) -> Result<Vec<Token<'_>>, TextFault>
@@ -54,10 +54,10 @@ pub fn tokens(alloc: Global, text: &Text) -> Result<Vec<Token<'_>>, TextFault>
     ensures only { (ts : List cut.Token) → HasTokens (characters_of text.now) ts → GivesOk (λ v. tokens_of v.items) result ts }
     // There is no other cut.
     ensures one { (pieces others : List Piece) → Cuts (characters_of text.now) pieces [] → Cuts (characters_of text.now) others [] → pieces ≡ others }
-    // A fault has its clause broken at its place.
-    ensures fault { IfErr result (IfBroken (λ clause place. (clause ≡ 5) × BreaksTokensAt (characters_of text.now) place)) }
-    // A broken clause is answered, with its place.
-    ensures broken { (place : ℕ) → BreaksTokensAt (characters_of text.now) place → GivesFault result 5 place }
+    // A fault has its clause broken at its offset.
+    ensures fault { IfErr result (IfBroken (λ clause offset. (clause ≡ 5) × BreaksTokensAt (characters_of text.now) offset)) }
+    // A broken clause is answered, with its offset.
+    ensures broken { (offset : ℕ) → BreaksTokensAt (characters_of text.now) offset → GivesFault result 5 offset }
 {
     cut(alloc, text)
 }

@@ -28,15 +28,15 @@ use Rattle.rng_run.specs.SchemaFile.{IsTheFileVerdict, size_limit}
 pub record Decoded (bytes : List ℕ) (cs : List Character) : Type 0 where
   pub is : IsDecoded bytes cs
   pub one : (other : List Character) → IsDecoded bytes other → cs ≡ other
-  pub sound : (clause place : ℕ) → BreaksTextAt bytes clause place → ⊥
+  pub sound : (clause offset : ℕ) → BreaksTextAt bytes clause offset → ⊥
 
 -- bytes that break a clause of characters break it alone
-text_breaks : (bytes : List ℕ) (k place : ℕ) → BreaksTextAt bytes k place → ((cs : List Character) → IsDecoded bytes cs → ⊥) →
-    ((j at : ℕ) → BreaksTextAt bytes j at → (k ≡ j) × (place ≡ at)) → IsTheContentVerdict bytes (breaks k)
-text_breaks bytes k place b none one = record { is = found b; only = only } where
-  found : BreaksTextAt bytes k place → BreaksClause bytes k
-  found (inl (e, b)) = not_utf8 place b e
-  found (inr (e, b)) = bad_characters place b e
+text_breaks : (bytes : List ℕ) (k offset : ℕ) → BreaksTextAt bytes k offset → ((cs : List Character) → IsDecoded bytes cs → ⊥) →
+    ((j at : ℕ) → BreaksTextAt bytes j at → (k ≡ j) × (offset ≡ at)) → IsTheContentVerdict bytes (breaks k)
+text_breaks bytes k offset b none one = record { is = found b; only = only } where
+  found : BreaksTextAt bytes k offset → BreaksClause bytes k
+  found (inl (e, b)) = not_utf8 offset b e
+  found (inr (e, b)) = bad_characters offset b e
 
   clause : (j : ℕ) → BreaksClause bytes j → k ≡ j
   clause j (not_utf8 at b e) = (one 3 at (inl (refl, b))).0 ∙ sym e
@@ -53,14 +53,14 @@ text_breaks bytes k place b none one = record { is = found b; only = only } wher
 
 -- a fault of the text is a broken clause, unless memory ran out
 pub text_fault : {X : Type 0} (view : X → List Character) (bytes : List ℕ) (x : TextFault) → IfBroken (BreaksTextAt bytes) x →
-    ((cs : List Character) → IsDecoded bytes cs → GivesOk view (Err x) cs) → ((k place : ℕ) → BreaksTextAt bytes k place → GivesFault {X = X} (Err x) k place) →
+    ((cs : List Character) → IsDecoded bytes cs → GivesOk view (Err x) cs) → ((k offset : ℕ) → BreaksTextAt bytes k offset → GivesFault {X = X} (Err x) k offset) →
     IfSome (verdict_of (Err (fault_of_text x))) (IsTheContentVerdict bytes)
 text_fault view bytes texts.Memory b none one = tt
-text_fault view bytes (texts.At k place) b none one = text_breaks bytes k place b none one
+text_fault view bytes (texts.At k offset) b none one = text_breaks bytes k offset b none one
 
 -- a text that was read
 pub decoded : {X : Type 0} (view : X → List Character) (bytes : List ℕ) (x : X) → IsDecoded bytes (view x) →
-    ((cs : List Character) → IsDecoded bytes cs → GivesOk view (Ok x) cs) → ((k place : ℕ) → BreaksTextAt bytes k place → GivesFault {X = X} (Ok x) k place) →
+    ((cs : List Character) → IsDecoded bytes cs → GivesOk view (Ok x) cs) → ((k offset : ℕ) → BreaksTextAt bytes k offset → GivesFault {X = X} (Ok x) k offset) →
     Decoded bytes (view x)
 decoded view bytes x is only broken = record { is = is; one = only; sound = broken }
 
@@ -70,12 +70,12 @@ decoded view bytes x is only broken = record { is = is; one = only; sound = brok
 pub record Tokenized (cs : List Character) (ts : List Token) : Type 0 where
   pub is : HasTokens cs ts
   pub one : (other : List Token) → HasTokens cs other → ts ≡ other
-  pub sound : (place : ℕ) → BreaksTokensAt cs place → ⊥
+  pub sound : (offset : ℕ) → BreaksTokensAt cs offset → ⊥
 
--- characters that begin nothing at a place break this clause alone
-tokens_break : (bytes : List ℕ) (cs : List Character) (k place : ℕ) → Decoded bytes cs → k ≡ 5 → BreaksTokensAt cs place →
+-- characters that begin nothing at a offset break this clause alone
+tokens_break : (bytes : List ℕ) (cs : List Character) (k offset : ℕ) → Decoded bytes cs → k ≡ 5 → BreaksTokensAt cs offset →
     ((ts : List Token) → HasTokens cs ts → ⊥) → IsTheContentVerdict bytes (breaks k)
-tokens_break bytes cs k place d five b none = record { is = bad_tokens cs place d.is b five; only = only } where
+tokens_break bytes cs k offset d five b none = record { is = bad_tokens cs offset d.is b five; only = only } where
   no_other : (other : List Character) (ts : List Token) → IsDecoded bytes other → HasTokens other ts → ⊥
   no_other other ts is has = none ts (subst (λ cs. HasTokens cs ts) (sym (d.one other is)) has)
 
@@ -94,14 +94,14 @@ tokens_break bytes cs k place d five b none = record { is = bad_tokens cs place 
 
 -- a fault of the tokens is a broken clause, unless memory ran out
 pub tokens_fault : {X : Type 0} (view : X → List Token) (bytes : List ℕ) (cs : List Character) (x : TextFault) → Decoded bytes cs →
-    IfBroken (λ k place. (k ≡ 5) × BreaksTokensAt cs place) x → ((ts : List Token) → HasTokens cs ts → GivesOk view (Err x) ts) →
+    IfBroken (λ k offset. (k ≡ 5) × BreaksTokensAt cs offset) x → ((ts : List Token) → HasTokens cs ts → GivesOk view (Err x) ts) →
     IfSome (verdict_of (Err (fault_of_text x))) (IsTheContentVerdict bytes)
 tokens_fault view bytes cs texts.Memory d b none = tt
-tokens_fault view bytes cs (texts.At k place) d b none = tokens_break bytes cs k place d b.0 b.1 none
+tokens_fault view bytes cs (texts.At k offset) d b none = tokens_break bytes cs k offset d b.0 b.1 none
 
 -- tokens that were cut
 pub tokenized : {X : Type 0} (view : X → List Token) (cs : List Character) (x : X) → HasTokens cs (view x) →
-    ((ts : List Token) → HasTokens cs ts → GivesOk view (Ok x) ts) → ((place : ℕ) → BreaksTokensAt cs place → GivesFault {X = X} (Ok x) 5 place) →
+    ((ts : List Token) → HasTokens cs ts → GivesOk view (Ok x) ts) → ((offset : ℕ) → BreaksTokensAt cs offset → GivesFault {X = X} (Ok x) 5 offset) →
     Tokenized cs (view x)
 tokenized view cs x is only broken = record { is = is; one = only; sound = broken }
 

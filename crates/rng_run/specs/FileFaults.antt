@@ -12,7 +12,7 @@ use Rattle.rng_run.specs.declared.fault.FileFault.TheVariants.{Clause, TooLong, 
 
 -- where a fault stands is not told
 abbrev pub fault_of_text : TextFault → FileFault
-fault_of_text (texts.At clause place) = Clause clause
+fault_of_text (texts.At clause offset) = Clause clause
 fault_of_text texts.Memory = Memory
 
 abbrev pub fault_of_parse : ParseFault → FileFault

@@ -22,11 +22,11 @@ pub record AreTokensOf (bytes : List ℕ) (ts : List Token) : Type 0 where
 -- where these are a sentence. Too many open brackets (7) come before the grammar (6), so that not both are broken.
 pub data BreaksClause : List ℕ → ℕ → Type 0 where
   -- they are not UTF-8
-  not_utf8 : {bytes : List ℕ} {k : ℕ} (place : ℕ) → BreaksUtf8At bytes place → k ≡ 3 → BreaksClause bytes k
+  not_utf8 : {bytes : List ℕ} {k : ℕ} (offset : ℕ) → BreaksUtf8At bytes offset → k ≡ 3 → BreaksClause bytes k
   -- a character is none of XML's, or an escape is bad
-  bad_characters : {bytes : List ℕ} {k : ℕ} (place : ℕ) → BreaksCharactersAt bytes place → k ≡ 4 → BreaksClause bytes k
+  bad_characters : {bytes : List ℕ} {k : ℕ} (offset : ℕ) → BreaksCharactersAt bytes offset → k ≡ 4 → BreaksClause bytes k
   -- neither a blank, a comment nor a token begins
-  bad_tokens : {bytes : List ℕ} {k : ℕ} (characters : List Character) (place : ℕ) → IsDecoded bytes characters → BreaksTokensAt characters place → k ≡ 5 →
+  bad_tokens : {bytes : List ℕ} {k : ℕ} (characters : List Character) (offset : ℕ) → IsDecoded bytes characters → BreaksTokensAt characters offset → k ≡ 5 →
       BreaksClause bytes k
   -- the tokens are no sentence
   no_sentence : {bytes : List ℕ} {k : ℕ} (ts : List Token) (number : ℕ) → AreTokensOf bytes ts → BreaksGrammarAt (lexemes ts) number → k ≡ 6 →
