@@ -8,10 +8,8 @@ use Rattle.std.proofs.lemmas.Str.{encodes-chars, scalars-chars, encodes_same, ut
 use Rattle.rnc_text.specs.Decoding.{Begins, carriage_return_line_feed, carriage_return, line_feed, escape, other, Decodes, here, next_is, IsSpelling, IsDecoded}
 use Rattle.rnc_text.specs.Decoding.{BreaksCharactersAt, BreaksTextAt}
 use Rattle.rnc_text.specs.Answers.{GivesOk, GivesFault, IfBroken}
-use Rattle.rnc_text.specs.Held.{characters_of}
 use Rattle.rnc_text.proofs.Fronts.{begins_one, begins_none}
 use Rattle.rnc_text.specs.declared.character.Character.{Character}
-use Rattle.rnc_text.specs.declared.text.Text.{Text}
 use Rattle.rnc_text.specs.declared.fault.TextFault.{TextFault}
 use Rattle.rnc_text.specs.declared.fault.TextFault.TheVariants.{At, Memory}
 
@@ -71,15 +69,15 @@ fault_one bytes c p d q (inr a) (inl b) = absurd (b.1.0 (spelling_utf8 bytes a.1
 fault_one bytes c p d q (inr a) (inr b) = (a.0 ∙ sym b.0, one_offset bytes p q a.1 b.1)
 
 -- what a call answers, by what it found
-pub gives_text : (bytes : List ℕ) (r : Result Text TextFault) → IfOk r (λ t. IsDecoded bytes (characters_of t)) → IfErr r (IfBroken (BreaksTextAt bytes))
-    → (cs : List Character) → IsDecoded bytes cs → GivesOk characters_of r cs
-gives_text bytes (Ok t) found fault cs is = decoded_one bytes (characters_of t) cs found is
+pub gives_text : (bytes : List ℕ) (r : Result (List Character) TextFault) → IfOk r (IsDecoded bytes) → IfErr r (IfBroken (BreaksTextAt bytes))
+    → (cs : List Character) → IsDecoded bytes cs → GivesOk (λ t. t) r cs
+gives_text bytes (Ok t) found fault cs is = decoded_one bytes t cs found is
 gives_text bytes (Err Memory) found fault cs is = tt
 gives_text bytes (Err (At c p)) found fault cs is = not_decoded bytes cs c p is fault
 
-pub gives_fault : (bytes : List ℕ) (r : Result Text TextFault) → IfOk r (λ t. IsDecoded bytes (characters_of t)) → IfErr r (IfBroken (BreaksTextAt bytes))
+pub gives_fault : (bytes : List ℕ) (r : Result (List Character) TextFault) → IfOk r (IsDecoded bytes) → IfErr r (IfBroken (BreaksTextAt bytes))
     → (clause offset : ℕ) → BreaksTextAt bytes clause offset → GivesFault r clause offset
-gives_fault bytes (Ok t) found fault clause offset is = not_decoded bytes (characters_of t) clause offset found is
+gives_fault bytes (Ok t) found fault clause offset is = not_decoded bytes t clause offset found is
 gives_fault bytes (Err Memory) found fault clause offset is = tt
 gives_fault bytes (Err (At c p)) found fault clause offset is = fault_one bytes c p clause offset fault is
 

@@ -1,7 +1,7 @@
 // Cursors in a decoded text.
 ghost use Rattle.std.specs.Prelude.{◌≡◌, ◌-◌, ◌==◌, ◌∷◌, [], List, MatchOption, option_map, length};
 ghost use Rattle.rnc_text.specs.Characters.{bytes_of};
-ghost use Rattle.rnc_text.specs.Held.{characters_of, unmarked, next_marks};
+ghost use Rattle.rnc_text.specs.Held.{unmarked, next_marks};
 ghost use Rattle.rnc_text.specs.Cursors.{remaining, IsPast, IsBefore};
 ghost use Rattle.rnc_text.specs.declared.character.Character.{Character};
 
@@ -33,8 +33,8 @@ pub struct Cursor<'a> {
 impl<'a> Cursor<'a> {
     /// The beginning of a text.
     pub fn new(text: &'a Text) -> Cursor<'a>
-        ensures characters { remaining result ≡ characters_of text.now }
-        ensures bytes { result.rest.now ≡ bytes_of (characters_of text.now) }
+        ensures characters { remaining result ≡ text.now }
+        ensures bytes { result.rest.now ≡ bytes_of text.now }
         ensures whole { result.length ≡ length result.rest.now }
     {
         let rest = text.as_str();

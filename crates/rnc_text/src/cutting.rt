@@ -1,6 +1,5 @@
 // From characters to tokens.
 ghost use Rattle.std.specs.Prelude.{◌≡◌, ℕ, List, [], IfOk, IfErr};
-ghost use Rattle.rnc_text.specs.Held.{characters_of};
 ghost use Rattle.rnc_text.specs.Tokens.{Piece};
 ghost use Rattle.rnc_text.specs.Cut as cut;
 ghost use Rattle.rnc_text.specs.Cut.{AreInOrder, Cuts, HasTokens, BreaksTokensAt, tokens_of};
@@ -15,8 +14,8 @@ use std::alloc::Global;
 
 /// The tokens of a text, each the longest that begins at its offset.
 fn cut(alloc: Global, text: &Text) -> Result<Vec<Token<'_>>, TextFault>
-    ensures found { IfOk result (λ v. HasTokens (characters_of text.now) (tokens_of v.items)) }
-    ensures fault { IfErr result (IfBroken (λ clause offset. (clause ≡ 5) × BreaksTokensAt (characters_of text.now) offset)) }
+    ensures found { IfOk result (λ v. HasTokens text.now (tokens_of v.items)) }
+    ensures fault { IfErr result (IfBroken (λ clause offset. (clause ≡ 5) × BreaksTokensAt text.now offset)) }
 {
     let mut tokens = Vec::new(alloc);
     let mut cursor = Cursor::new(text);
@@ -47,17 +46,17 @@ fn cut(alloc: Global, text: &Text) -> Result<Vec<Token<'_>>, TextFault>
 /// RELAX NG Compact Syntax, "Lexical structure".
 pub fn tokens(alloc: Global, text: &Text) -> Result<Vec<Token<'_>>, TextFault>
     // What is answered are the tokens of a cut of the whole text.
-    ensures found { IfOk result (λ v. HasTokens (characters_of text.now) (tokens_of v.items)) }
+    ensures found { IfOk result (λ v. HasTokens text.now (tokens_of v.items)) }
     // The spans are in order and share no byte.
     ensures order { IfOk result (λ v. AreInOrder 0 (tokens_of v.items)) }
     // The tokens of a cut are answered, so there are no others.
-    ensures only { (ts : List cut.Token) → HasTokens (characters_of text.now) ts → GivesOk (λ v. tokens_of v.items) result ts }
+    ensures only { (ts : List cut.Token) → HasTokens text.now ts → GivesOk (λ v. tokens_of v.items) result ts }
     // There is no other cut.
-    ensures one { (pieces others : List Piece) → Cuts (characters_of text.now) pieces [] → Cuts (characters_of text.now) others [] → pieces ≡ others }
+    ensures one { (pieces others : List Piece) → Cuts text.now pieces [] → Cuts text.now others [] → pieces ≡ others }
     // A fault has its clause broken at its offset.
-    ensures fault { IfErr result (IfBroken (λ clause offset. (clause ≡ 5) × BreaksTokensAt (characters_of text.now) offset)) }
+    ensures fault { IfErr result (IfBroken (λ clause offset. (clause ≡ 5) × BreaksTokensAt text.now offset)) }
     // A broken clause is answered, with its offset.
-    ensures broken { (offset : ℕ) → BreaksTokensAt (characters_of text.now) offset → GivesFault result 5 offset }
+    ensures broken { (offset : ℕ) → BreaksTokensAt text.now offset → GivesFault result 5 offset }
 {
     cut(alloc, text)
 }

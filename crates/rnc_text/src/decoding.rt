@@ -4,7 +4,6 @@ ghost use Rattle.std.specs.Str.{chars};
 ghost use Rattle.rng_model.specs.Characters.{is_xml_char};
 ghost use Rattle.rnc_text.specs.Decoding.{IsDecoded, BreaksCharactersAt, BreaksTextAt};
 ghost use Rattle.rnc_text.specs.Answers.{IfBroken, GivesOk, GivesFault};
-ghost use Rattle.rnc_text.specs.Held.{characters_of};
 ghost use Rattle.rnc_text.specs.DecodingSteps.{without_line_feed, opens_from, escape_front, front_of};
 ghost use Rattle.rnc_text.specs.declared.character.Character.{Character};
 
@@ -80,7 +79,7 @@ fn front(text: &str) -> Option<(Character, &str)>
 
 /// The characters of a text in which escapes are not yet replaced.
 fn decode(alloc: Global, text: &str) -> Result<Text, TextFault>
-    ensures found { IfOk result (λ t. IsDecoded text.now (characters_of t)) }
+    ensures found { IfOk result (λ t. IsDecoded text.now t) }
     ensures fault { IfErr result (IfBroken (λ clause offset. (clause ≡ 4) × BreaksCharactersAt text.now offset)) }
 {
     let mut decoded = Text::new(alloc);
@@ -105,9 +104,9 @@ fn decode(alloc: Global, text: &str) -> Result<Text, TextFault>
 /// the text. Linear. RELAX NG Compact Syntax, "Lexical structure".
 pub fn read_text(alloc: Global, bytes: &[u8]) -> Result<Text, TextFault>
     // What is answered is what the bytes stand for.
-    ensures found { IfOk result (λ t. IsDecoded bytes.now (characters_of t)) }
+    ensures found { IfOk result (λ t. IsDecoded bytes.now t) }
     // What the bytes stand for is answered, so there is no other.
-    ensures only { (cs : List Character) → IsDecoded bytes.now cs → GivesOk characters_of result cs }
+    ensures only { (cs : List Character) → IsDecoded bytes.now cs → GivesOk (λ t. t) result cs }
     // There is no other decoding.
     ensures one { (cs ds : List Character) → IsDecoded bytes.now cs → IsDecoded bytes.now ds → cs ≡ ds }
     // A fault has its clause broken at its offset.

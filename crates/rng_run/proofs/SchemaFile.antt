@@ -52,17 +52,18 @@ text_breaks bytes k offset b none one = record { is = found b; only = only } whe
   only (has_tree t) h = absurd (none h.are.characters h.are.decoded)
 
 -- a fault of the text is a broken clause, unless memory ran out
-pub text_fault : {X : Type 0} (view : X → List Character) (bytes : List ℕ) (x : TextFault) → IfBroken (BreaksTextAt bytes) x →
-    ((cs : List Character) → IsDecoded bytes cs → GivesOk view (Err x) cs) → ((k offset : ℕ) → BreaksTextAt bytes k offset → GivesFault {X = X} (Err x) k offset) →
+pub text_fault : (bytes : List ℕ) (x : TextFault) → IfBroken (BreaksTextAt bytes) x →
+    ((cs : List Character) → IsDecoded bytes cs → GivesOk {X = List Character} (λ t. t) (Err x) cs) →
+    ((k offset : ℕ) → BreaksTextAt bytes k offset → GivesFault {X = List Character} (Err x) k offset) →
     IfSome (verdict_of (Err (fault_of_text x))) (IsTheContentVerdict bytes)
-text_fault view bytes texts.Memory b none one = tt
-text_fault view bytes (texts.At k offset) b none one = text_breaks bytes k offset b none one
+text_fault bytes texts.Memory b none one = tt
+text_fault bytes (texts.At k offset) b none one = text_breaks bytes k offset b none one
 
 -- a text that was read
-pub decoded : {X : Type 0} (view : X → List Character) (bytes : List ℕ) (x : X) → IsDecoded bytes (view x) →
-    ((cs : List Character) → IsDecoded bytes cs → GivesOk view (Ok x) cs) → ((k offset : ℕ) → BreaksTextAt bytes k offset → GivesFault {X = X} (Ok x) k offset) →
-    Decoded bytes (view x)
-decoded view bytes x is only broken = record { is = is; one = only; sound = broken }
+pub decoded : (bytes : List ℕ) (cs : List Character) → IsDecoded bytes cs →
+    ((other : List Character) → IsDecoded bytes other → GivesOk (λ t. t) (Ok cs) other) →
+    ((k offset : ℕ) → BreaksTextAt bytes k offset → GivesFault {X = List Character} (Ok cs) k offset) → Decoded bytes cs
+decoded bytes cs is only broken = record { is = is; one = only; sound = broken }
 
 -- ---- tokens
 
@@ -133,9 +134,9 @@ lexed bytes cs ts d t = record { is = record { characters = cs; decoded = d.is; 
   sound k (bad_declarations us are b e) = declarations (subst (λ ts. BreaksDeclarations (lexemes ts)) (sym (one us are)) b) e
 
 -- what is known of the tokens of the code
-pub tokens_known : {T : Type 0} (view : T → List Character) (bytes : List ℕ) (text : T) (ts slice : List declared_tokens.Token) → slice ≡ ts →
-    Decoded bytes (view text) → Tokenized (view text) (tokens_of ts) → Lexed bytes (tokens_of slice)
-tokens_known view bytes text ts slice e d t = subst (Lexed bytes) (sym (ap tokens_of e)) (lexed bytes (view text) (tokens_of ts) d t)
+pub tokens_known : (bytes : List ℕ) (cs : List Character) (ts slice : List declared_tokens.Token) → slice ≡ ts → Decoded bytes cs →
+    Tokenized cs (tokens_of ts) → Lexed bytes (tokens_of slice)
+tokens_known bytes cs ts slice e d t = subst (Lexed bytes) (sym (ap tokens_of e)) (lexed bytes cs (tokens_of ts) d t)
 
 -- the tokens do not nest both within the limit and beyond it
 not_both : (ts : List Lexeme) → NestsWithin nesting_limit ts → BreaksNesting ts → ⊥
