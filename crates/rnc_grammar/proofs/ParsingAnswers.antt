@@ -42,24 +42,24 @@ GivesTree r answer = Gives unless_memory file_of r answer
 pub fault_told : (ts : List Lexeme) (e : SyntaxFault) → sentence.IsFaultOf ts e → IsFaultOf ts (fault_of e)
 fault_told ts syntax_faults.Memory is = tt
 fault_told ts syntax_faults.TooDeep is = inl (refl, is)
-fault_told ts (syntax_faults.Unexpected place) is = (refl, is)
+fault_told ts (syntax_faults.Unexpected number) is = (refl, is)
 
 -- they have no file tree
 pub no_tree : (e : SyntaxFault) (answer : Result FileTree ParseFault) (f : File) → GivesFile (Err e) (Ok f) → GivesTree (Err (fault_of e)) answer
 no_tree syntax_faults.Memory answer f reads = tt
 no_tree syntax_faults.TooDeep answer f reads = absurd (cc)
-no_tree (syntax_faults.Unexpected place) answer f reads = absurd (cc)
+no_tree (syntax_faults.Unexpected number) answer f reads = absurd (cc)
 
 pub nesting_told : (e : SyntaxFault) → GivesFile (Err e) (Err syntax_faults.TooDeep) → GivesTree (Err (fault_of e)) (Err (faults.Clause 7))
 nesting_told syntax_faults.Memory reads = tt
 nesting_told syntax_faults.TooDeep reads = refl
-nesting_told (syntax_faults.Unexpected place) reads = absurd (cc)
+nesting_told (syntax_faults.Unexpected number) reads = absurd (cc)
 
-pub grammar_told : (e : SyntaxFault) (place : ℕ) → GivesFile (Err e) (Err (syntax_faults.Unexpected place))
-    → GivesTree (Err (fault_of e)) (Err (faults.At 6 place))
-grammar_told syntax_faults.Memory place reads = tt
-grammar_told syntax_faults.TooDeep place reads = absurd (cc)
-grammar_told (syntax_faults.Unexpected other) place reads = let same : place ≡ other = cc in ap (λ (n : ℕ). Err (faults.At 6 n)) same
+pub grammar_told : (e : SyntaxFault) (number : ℕ) → GivesFile (Err e) (Err (syntax_faults.Unexpected number))
+    → GivesTree (Err (fault_of e)) (Err (faults.At 6 number))
+grammar_told syntax_faults.Memory number reads = tt
+grammar_told syntax_faults.TooDeep number reads = absurd (cc)
+grammar_told (syntax_faults.Unexpected other) number reads = let same : number ≡ other = cc in ap (λ (n : ℕ). Err (faults.At 6 n)) same
 
 -- ---- tokens that have this syntax tree
 
@@ -91,7 +91,7 @@ module _ (ts : List Lexeme) (file : written.File) (is : IsSyntaxTree ts (syntax.
   pub fault_given : (r : Result declared.FileTree ParseFault) → GivesTree r (answer_of f) → IfErr r (IsFaultOf ts)
   fault_given (Ok t) given = tt
   fault_given (Err faults.Memory) given = tt
-  fault_given (Err (faults.At clause place)) given = fault_from (file_tree f) (faults.At clause place) refl given
+  fault_given (Err (faults.At clause number)) given = fault_from (file_tree f) (faults.At clause number) refl given
   fault_given (Err (faults.Clause clause)) given = fault_from (file_tree f) (faults.Clause clause) refl given
 
 module _ (ts : List Lexeme) (file : written.File) (only : (g : File) → IsSyntaxTree ts g → GivesFile (Ok file) (Ok g)) where

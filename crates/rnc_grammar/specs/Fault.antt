@@ -9,7 +9,7 @@ use Rattle.rnc_grammar.specs.FileTree.{FileTree}
 -- of tokens without a syntax tree
 abbrev pub fault_of : SyntaxFault → ParseFault
 fault_of syntax_faults.TooDeep = faults.Clause 7
-fault_of (syntax_faults.Unexpected place) = faults.At 6 place
+fault_of (syntax_faults.Unexpected number) = faults.At 6 number
 fault_of syntax_faults.Memory = faults.Memory
 
 -- the file tree of a syntax tree, or the fault where it has none

@@ -40,7 +40,7 @@ pub record DatatypeName : Type 0 where
   pub library : List ℕ
   pub name : List ℕ
 
--- another file: its name as it is written, the namespace that it inherits, and the place of the word that mentions it
+-- another file: its name as it is written, the namespace that it inherits, and the number of the word that mentions it
 pub record Mention : Type 0 where
   pub href : List ℕ
   pub namespace : Namespace

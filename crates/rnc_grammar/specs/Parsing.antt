@@ -29,11 +29,11 @@ pub record IsFileTree (ts : List Lexeme) (t : FileTree) : Type 0 where
 -- this fault, unless memory ran out
 abbrev pub IsFaultOf : List Lexeme → ParseFault → Type 0
 IsFaultOf ts faults.Memory = Unit {0}
-IsFaultOf ts (faults.At c place) = (c ≡ 6) × BreaksGrammarAt ts place
+IsFaultOf ts (faults.At c number) = (c ≡ 6) × BreaksGrammarAt ts number
 IsFaultOf ts (faults.Clause c) = ((c ≡ 7) × BreaksNesting ts) ⊎ ((c ≡ 8) × BreaksDeclarations ts)
 
 -- what a fault says of the tokens: nothing, where memory ran out
 abbrev pub unless_memory : ParseFault → Option ParseFault
 unless_memory faults.Memory = None
-unless_memory (faults.At c place) = Some (faults.At c place)
+unless_memory (faults.At c number) = Some (faults.At c number)
 unless_memory (faults.Clause c) = Some (faults.Clause c)

@@ -6,11 +6,11 @@ use rnc_syntax::SyntaxFault;
 
 /// Why tokens have no file tree.
 ///
-/// Clause 6 comes with a place among the tokens, from 1; clauses 7 and 8 have none.
+/// Clause 6 comes with the number of a token, from 1; clauses 7 and 8 have none.
 #[derive(Clone, Copy)]
 pub enum ParseFault {
-    /// This clause is broken, at this place.
-    At { clause: u8, place: u64 },
+    /// This clause is broken, at the token with this number.
+    At { clause: u8, number: u64 },
     /// This clause is broken.
     Clause(u8),
     /// Memory ran out, which says nothing about the tokens.
@@ -23,7 +23,7 @@ impl From<SyntaxFault> for ParseFault {
     fn from(fault: SyntaxFault) -> ParseFault {
         match fault {
             SyntaxFault::TooDeep => ParseFault::Clause(7),
-            SyntaxFault::Unexpected { place } => ParseFault::At { clause: 6, place },
+            SyntaxFault::Unexpected { number } => ParseFault::At { clause: 6, number },
             SyntaxFault::Memory => ParseFault::Memory,
         }
     }

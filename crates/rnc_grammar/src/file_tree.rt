@@ -53,7 +53,7 @@ pub struct DatatypeName {
 
 /// A mention of another file.
 ///
-/// `href` is that file's name as it is written, `namespace` what the file inherits, and `token` the place, from 1, of
+/// `href` is that file's name as it is written, `namespace` what the file inherits, and `token` the number, from 1, of
 /// the word `include` or `external` among the tokens of the file that mentions.
 #[derive(Debug, Drop)]
 pub struct Mention {

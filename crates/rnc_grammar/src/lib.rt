@@ -2,7 +2,7 @@
 //!
 //! `parse` answers the tree exactly where the tokens are a sentence of the grammar of the compact syntax, nest within 128
 //! brackets, and declare and use their prefixes by the rules; such tokens have one tree. Of other tokens it names the
-//! clause that they break, 7 before 6 before 8, and of 6 the place. `FileTree::grammar` tells which files are grammars, and
+//! clause that they break, 7 before 6 before 8, and of 6 the token. `FileTree::grammar` tells which files are grammars, and
 //! only want of memory keeps an answer back.
 #![tactic(auto)]
 

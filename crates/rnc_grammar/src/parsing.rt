@@ -16,6 +16,7 @@ ghost use Rattle.rnc_grammar.specs.View.{file_of};
 ghost use Rattle.rnc_grammar.specs.declared.fault.ParseFault.TheVariants as faults;
 ghost use Rattle.rnc_syntax.specs.Lexeme.{lexemes};
 ghost use Rattle.rnc_syntax.specs.SyntaxView as syntax;
+ghost use Rattle.rnc_text.specs.Cut.{tokens_of};
 
 use crate::fault::ParseFault;
 use crate::file_tree::FileTree;
@@ -38,14 +39,14 @@ fn resolved(alloc: Global, file: &File<'_>) -> Result<FileTree, ParseFault>
 
 /// The tree of the schema file that has these tokens, with its declarations applied.
 ///
-/// The tokens are all of the file's, in order. Of each its kind and its text count, and of the word `include` or
-/// `external` its place too, which the tree tells; where a token lies in the text does not matter. Tokens that break no
-/// clause have one tree, and it is answered; of those that break one, the clause is told:
+/// The tokens are all of the file's, in order, and numbered from 1. Of each its kind and its text count, and of the word
+/// `include` or `external` its number too, which the tree tells; where a token lies in the text does not matter. Tokens
+/// that break no clause have one tree, and it is answered; of those that break one, the clause is told:
 ///
-/// - 7, with no place, where at some token the `{` and `(` up to it exceed the `}` and `)` up to it by more than 128;
-/// - 6, where the tokens break not 7 and are no sentence of the grammar, with the place of the first token, from 1, such
-///   that no sentence begins with the tokens up to and with it, or with the number of tokens plus one;
-/// - 8, with no place, where they break neither and a prefix or the default namespace is declared twice, `xml`, `xmlns`
+/// - 7, with no number, where at some token the `{` and `(` up to it exceed the `}` and `)` up to it by more than 128;
+/// - 6, where the tokens break not 7 and are no sentence of the grammar, with the number of the first token such that no
+///   sentence begins with the tokens up to and with it, or with one more than there are tokens;
+/// - 8, with no number, where they break neither and a prefix or the default namespace is declared twice, `xml`, `xmlns`
 ///   or `xsd` is declared as what it may not stand for, or a prefix is not declared.
 ///
 /// `Memory` answers that there was no memory for the tree, and says nothing about the tokens.
@@ -56,13 +57,13 @@ fn resolved(alloc: Global, file: &File<'_>) -> Result<FileTree, ParseFault>
 ///
 /// RELAX NG Compact Syntax, "Syntax".
 pub fn parse(alloc: Global, tokens: &[Token<'_>]) -> Result<FileTree, ParseFault>
-    ensures tree { IfOk result (λ t. IsFileTree (lexemes tokens.now) (file_of t)) }
-    ensures fault { IfErr result (IsFaultOf (lexemes tokens.now)) }
-    ensures only { (t : tree.FileTree) → IsFileTree (lexemes tokens.now) t → Gives unless_memory file_of result (Ok t) }
-    ensures nesting { BreaksNesting (lexemes tokens.now) → Gives unless_memory file_of result (Err (faults.Clause 7)) }
-    ensures grammar { BreaksGrammar (lexemes tokens.now) → (place : ℕ) × Gives unless_memory file_of result (Err (faults.At 6 place)) }
-    ensures declarations { BreaksDeclarations (lexemes tokens.now) → Gives unless_memory file_of result (Err (faults.Clause 8)) }
-    ensures one { (t u : tree.FileTree) → IsFileTree (lexemes tokens.now) t → IsFileTree (lexemes tokens.now) u → t ≡ u }
+    ensures tree { IfOk result (λ t. IsFileTree (lexemes (tokens_of tokens.now)) (file_of t)) }
+    ensures fault { IfErr result (IsFaultOf (lexemes (tokens_of tokens.now))) }
+    ensures only { (t : tree.FileTree) → IsFileTree (lexemes (tokens_of tokens.now)) t → Gives unless_memory file_of result (Ok t) }
+    ensures nesting { BreaksNesting (lexemes (tokens_of tokens.now)) → Gives unless_memory file_of result (Err (faults.Clause 7)) }
+    ensures grammar { BreaksGrammar (lexemes (tokens_of tokens.now)) → (number : ℕ) × Gives unless_memory file_of result (Err (faults.At 6 number)) }
+    ensures declarations { BreaksDeclarations (lexemes (tokens_of tokens.now)) → Gives unless_memory file_of result (Err (faults.Clause 8)) }
+    ensures one { (t u : tree.FileTree) → IsFileTree (lexemes (tokens_of tokens.now)) t → IsFileTree (lexemes (tokens_of tokens.now)) u → t ≡ u }
 {
     let file = read_syntax(alloc, tokens)?;
     resolved(alloc, &file)

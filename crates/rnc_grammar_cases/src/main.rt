@@ -29,7 +29,7 @@ fn tree_of(alloc: Global, bytes: &[u8]) -> Result<FileTree, ParseFault> {
 /// A fault as it is printed.
 fn fault_line(alloc: Global, fault: ParseFault) -> Result<String, AllocError> {
     match fault {
-        ParseFault::At { clause, place } => format!(in alloc; "clause {clause} at token {place}"),
+        ParseFault::At { clause, number } => format!(in alloc; "clause {clause} at token {number}"),
         ParseFault::Clause(clause) => format!(in alloc; "clause {clause}"),
         ParseFault::Memory => String::from_str(alloc, "out of memory"),
     }

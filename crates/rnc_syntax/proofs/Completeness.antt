@@ -200,13 +200,13 @@ inherit_no_tilde : {ts : List Lexeme} {p : Option (List ℕ)} → MayInherit ts 
 inherit_no_tilde (grammar.without_inherit e) rest is = rw e is
 inherit_no_tilde (grammar.with_inherit w-is e) rest is = rw e refl
 
-mention_read : (place : ℕ) (a b rest : List Lexeme) (v : List ℕ) (p : Option (List ℕ)) → literal_at (a ++ (b ++ rest)) ≡ Ok (v, b ++ rest)
-    → inherit_at (b ++ rest) ≡ Ok (p, rest) → mention_at place (a ++ (b ++ rest)) ≡ Ok (record { href = v; inherit = p; token = place }, rest)
+mention_read : (number : ℕ) (a b rest : List Lexeme) (v : List ℕ) (p : Option (List ℕ)) → literal_at (a ++ (b ++ rest)) ≡ Ok (v, b ++ rest)
+    → inherit_at (b ++ rest) ≡ Ok (p, rest) → mention_at number (a ++ (b ++ rest)) ≡ Ok (record { href = v; inherit = p; token = number }, rest)
 unfolding mention_at
-mention_read place a b rest v p href prefix = rw (href, prefix) refl
+mention_read number a b rest v p href prefix = rw (href, prefix) refl
 
-pub mention_complete : {a b : List Lexeme} {v : List ℕ} {p : Option (List ℕ)} → (place : ℕ) → IsLiteral a v → MayInherit b p → (rest : List Lexeme)
-    → follow Tilde rest ≡ None → follow_keyword keywords.Inherit rest ≡ None → mention_at place (a ++ (b ++ rest)) ≡ Ok
-    (record { href = v; inherit = p; token = place }, rest)
-mention_complete {a} {b} {v} {p} place q r rest tilde inherits =
-    mention_read place a b rest v p (literal_complete q (b ++ rest) (inherit_no_tilde r rest tilde)) (inherit_complete r rest inherits)
+pub mention_complete : {a b : List Lexeme} {v : List ℕ} {p : Option (List ℕ)} → (number : ℕ) → IsLiteral a v → MayInherit b p → (rest : List Lexeme)
+    → follow Tilde rest ≡ None → follow_keyword keywords.Inherit rest ≡ None → mention_at number (a ++ (b ++ rest)) ≡ Ok
+    (record { href = v; inherit = p; token = number }, rest)
+mention_complete {a} {b} {v} {p} number q r rest tilde inherits =
+    mention_read number a b rest v p (literal_complete q (b ++ rest) (inherit_no_tilde r rest tilde)) (inherit_complete r rest inherits)

@@ -411,7 +411,7 @@ not_allowed_read : (n : ℕ) (s : Spelling) (rest : List Lexeme) → bare_primar
 unfolding bare_primary_with atom_at
 not_allowed_read n s rest = refl
 
-external_read : (n : ℕ) (s : Spelling) (a b rest : List Lexeme) (m : Mention) → mention_at s.place (a ++ (b ++ rest)) ≡ Ok (m, rest)
+external_read : (n : ℕ) (s : Spelling) (a b rest : List Lexeme) (m : Mention) → mention_at s.number (a ++ (b ++ rest)) ≡ Ok (m, rest)
     → bare_primary_with (inside_at n) ((keyword keywords.External s ∷ (a ++ b)) ++ rest) ≡ Ok (syntax.external m, rest)
 unfolding bare_primary_with atom_at other_at
 external_read n s a b rest m e = rw (append_assoc a b rest, e) refl
@@ -471,7 +471,7 @@ unfolding bare_component_with
 div_read n w s ts rest cs e = rw e refl
 
 include_read : (n : ℕ) (s : Spelling) (a b o rest : List Lexeme) (m : Mention) (cs : List Component)
-    → mention_at s.place (a ++ (b ++ (o ++ rest))) ≡ Ok (m, o ++ rest) → overrides_with (inside_at n) (o ++ rest) ≡ Ok (cs, rest)
+    → mention_at s.number (a ++ (b ++ (o ++ rest))) ≡ Ok (m, o ++ rest) → overrides_with (inside_at n) (o ++ rest) ≡ Ok (cs, rest)
     → bare_component_with (inside_at n) content ((keyword keywords.Include s ∷ (a ++ (b ++ o))) ++ rest) ≡ Ok (syntax.include m (syntax.components_of cs), rest)
 unfolding bare_component_with
 include_read n s a b o rest m cs e f = rw (append_assoc a (b ++ o) rest, append_assoc b o rest, e, f) refl
@@ -697,7 +697,7 @@ mutual
       rw e (typed_read n x d (a ++ rest) rest (syntax.data_of d ps) is (type_read d (a ++ rest) rest ps (may_no_segment p rest f.no_segment)
       (parameters_complete p rest f.brace)))
   bare_primary_complete {ts} (grammar.external {a = a} {b = b} {v = v} {p = x} {s = s} p q e g) n nest rest f =
-      rw (g, e) (external_read n s a b rest (record { href = v; inherit = x; token = s.place }) (mention_complete s.place p q rest f.tilde f.inherits))
+      rw (g, e) (external_read n s a b rest (record { href = v; inherit = x; token = s.number }) (mention_complete s.number p q rest f.tilde f.inherits))
   bare_primary_complete {ts} (grammar.grammar {a = a} {s = s} p e g) zero nest rest f =
       absurd (none_in_braces ts (keyword keywords.Grammar s) a e (plain _ refl refl) nest)
   bare_primary_complete {ts} (grammar.grammar {a = a} {cs = cs} {s = s} p e g) (suc n) nest rest f =
@@ -748,7 +748,7 @@ mutual
       let inner = behind_within n ts (keyword keywords.Include s) (a ++ (b ++ o)) e (plain _ refl refl) nest in
       let last = second_within n (b ++ o) b o refl (may_inherit_even q) (second_within n (a ++ (b ++ o)) a (b ++ o) refl (literal_even p) inner) in
       let h = may_override_follows r rest f.particle.primary in
-      rw (w-is, g, e) (include_read n s a b o rest (record { href = v; inherit = x; token = s.place }) cs (mention_complete s.place p q (o ++ rest) h.0 h.1)
+      rw (w-is, g, e) (include_read n s a b o rest (record { href = v; inherit = x; token = s.number }) cs (mention_complete s.number p q (o ++ rest) h.0 h.1)
       (overrides_complete r n last rest f.particle.primary.brace))
 
   overrides_complete : {ts : List Lexeme} {cs : List Component} → MayOverride ts cs → (n : ℕ) → NestsWithin n ts → (rest : List Lexeme)

@@ -171,9 +171,9 @@ unfolding inherit_at word_after_equal
 inherit_calm ts = either_calm (follow_keyword keywords.Inherit ts) (Ok (None, ts)) word_after_equal (λ _. ok_calm _)
     (λ us _. bind_calm (after Equal us) _ (after_calm Equal us) (λ x _. bind_calm (word_at x.1) _ (word_calm x.1) (λ y _. ok_calm _)))
 
-mention_calm : (place : ℕ) (ts : List Lexeme) → NotDeep (mention_at place ts)
+mention_calm : (number : ℕ) (ts : List Lexeme) → NotDeep (mention_at number ts)
 unfolding mention_at
-mention_calm place ts = bind_calm (literal_at ts) _ (literal_calm ts) (λ x _. bind_calm (inherit_at x.1) _ (inherit_calm x.1) (λ y _. ok_calm _))
+mention_calm number ts = bind_calm (literal_at ts) _ (literal_calm ts) (λ x _. bind_calm (inherit_at x.1) _ (inherit_calm x.1) (λ y _. ok_calm _))
 
 -- ---- with brackets
 
@@ -323,7 +323,7 @@ module _ (n : ℕ) (inner : InsideCalm n) where
   bare_primary_calm (keyword keywords.Parent s ∷ ts) nest = bind_calm (identifier_at ts) _ (identifier_calm ts) (λ y _. ok_calm _)
   bare_primary_calm (keyword keywords.String s ∷ ts) nest = typed_calm syntax.string_type ts
   bare_primary_calm (keyword keywords.Token s ∷ ts) nest = typed_calm syntax.token_type ts
-  bare_primary_calm (keyword keywords.External s ∷ ts) nest = bind_calm (mention_at s.place ts) _ (mention_calm s.place ts) (λ y _. ok_calm _)
+  bare_primary_calm (keyword keywords.External s ∷ ts) nest = bind_calm (mention_at s.number ts) _ (mention_calm s.number ts) (λ y _. ok_calm _)
   bare_primary_calm (keyword keywords.Grammar s ∷ ts) nest = bind_calm (contents_with (inside_at n) content ts) _
       (contents_calm content ts (keyword_within keywords.Grammar s ts nest)) (λ y _. ok_calm _)
   bare_primary_calm (cname p l ∷ ts) nest = typed_calm (syntax.prefixed_type p l) ts
@@ -425,9 +425,9 @@ module _ (n : ℕ) (inner : InsideCalm n) where
       (contents_calm w ts (keyword_within keywords.Div s ts nest)) (λ y _. ok_calm _)
   bare_component_calm content (keyword keywords.Include s ∷ ts) nest =
       let inner = keyword_within keywords.Include s ts nest in
-      bind_calm (mention_at s.place ts) _ (mention_calm s.place ts)
+      bind_calm (mention_at s.number ts) _ (mention_calm s.number ts)
       (λ x e. bind_calm (overrides_with (inside_at n) x.1) _
-      (overrides_calm x.1 (after_reads n (IsMention s.place) ts x (mention_sound s.place ts x e)
+      (overrides_calm x.1 (after_reads n (IsMention s.number) ts x (mention_sound s.number ts x e)
       (λ front m p. join_even p.first p.second front p.parts (literal_even p.literal) (may_inherit_even p.inherits)) inner)) (λ y _. ok_calm _))
   bare_component_calm w _ nest = λ e. absurd cc
 

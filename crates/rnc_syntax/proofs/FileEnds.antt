@@ -5,7 +5,8 @@ use Rattle.rnc_text.specs.declared.token.Token.{Token}
 use Rattle.rnc_syntax.specs.declared.fault.Stop.TheVariants.{Unexpected}
 use Rattle.rnc_syntax.specs.declared.fault.ReadFault.{ReadFault}
 use Rattle.rnc_syntax.specs.declared.fault.ReadFault.TheVariants as read_faults
-use Rattle.rnc_syntax.specs.Lexeme.{Lexeme, lexemes_in}
+use Rattle.rnc_syntax.specs.Lexeme.{Lexeme}
+use Rattle.rnc_syntax.specs.Reading.{lexemes_in}
 use Rattle.rnc_syntax.specs.Fault.{Refuses, stop_of}
 use Rattle.rnc_syntax.specs.Productions.{Inside, declarations_at, body_with, file_with}
 use Rattle.rnc_syntax.specs.Syntax.{Declaration, Body}

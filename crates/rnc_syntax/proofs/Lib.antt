@@ -35,7 +35,7 @@ pub mod ViabilityPrimaries
 pub mod ViabilityPatterns
 pub mod ViabilityComponents
 pub mod ViabilityFiles
-pub mod FaultPlace
-pub mod FaultPlaceFiles
+pub mod FaultNumber
+pub mod FaultNumberFiles
 pub mod NestingSteps
 pub mod SyntaxTrees

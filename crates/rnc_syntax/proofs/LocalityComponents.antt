@@ -35,7 +35,7 @@ behind_name inner n us = ◌>>=◌ {A = (Option (List ℕ) × Method) × List Le
 
 -- an include, behind its keyword
 abbrev behind_include : Inside → ℕ → List Lexeme → Outcome Component
-behind_include inner place us = mention_at place us >>= λ m. overrides_with inner m.1 >>= λ cs. Ok (syntax.include m.0 (syntax.components_of cs.0), cs.1)
+behind_include inner number us = mention_at number us >>= λ m. overrides_with inner m.1 >>= λ cs. Ok (syntax.include m.0 (syntax.components_of cs.0), cs.1)
 
 module _ (inside deeper : Inside) (l : Locals inside deeper) (self : Locals deeper deeper) where
   name_local : (n : Option (List ℕ)) → IsLocal (behind_name inside n) (behind_name deeper n)
@@ -52,11 +52,11 @@ module _ (inside deeper : Inside) (l : Locals inside deeper) (self : Locals deep
       kept_local (follow OpenBrace) (follow_heads OpenBrace) (λ us. Ok ([], us)) (λ us. Ok ([], us)) (contents_with inside override)
       (contents_with deeper override) ts (ok_local [] ts) (contents_local inside deeper l self override ts)
 
-  include_local : (place : ℕ) → IsLocal (behind_include inside place) (behind_include deeper place)
-  include_local place ts =
-      bind_local (mention_at place) (mention_at place) (λ m us. overrides_with inside us >>= λ cs. Ok (syntax.include m (syntax.components_of cs.0), cs.1))
+  include_local : (number : ℕ) → IsLocal (behind_include inside number) (behind_include deeper number)
+  include_local number ts =
+      bind_local (mention_at number) (mention_at number) (λ m us. overrides_with inside us >>= λ cs. Ok (syntax.include m (syntax.components_of cs.0), cs.1))
       (λ m us. overrides_with deeper us >>= λ cs. Ok (syntax.include m (syntax.components_of cs.0), cs.1)) ts
-      (mention_local place ts) (λ m rest e. made_local (overrides_with inside) (overrides_with deeper) (λ cs. syntax.include m (syntax.components_of cs))
+      (mention_local number ts) (λ m rest e. made_local (overrides_with inside) (overrides_with deeper) (λ cs. syntax.include m (syntax.components_of cs))
       overrides_local rest)
 
   div_local : (w : Setting) → IsLocal (λ us. contents_with inside w us >>= λ cs. Ok (syntax.div (syntax.components_of cs.0), cs.1))
@@ -74,7 +74,7 @@ module _ (inside deeper : Inside) (l : Locals inside deeper) (self : Locals deep
   bare_component_local w (keyword keywords.Div s ∷ ts) = cons_local (bare_component_with inside w) (bare_component_with deeper w) _ _
       (keyword keywords.Div s) ts (λ us. refl) (λ us. refl) (div_local w ts)
   bare_component_local content (keyword keywords.Include s ∷ ts) = cons_local (bare_component_with inside content) (bare_component_with deeper content) _ _
-      (keyword keywords.Include s) ts (λ us. refl) (λ us. refl) (include_local s.place ts)
+      (keyword keywords.Include s) ts (λ us. refl) (λ us. refl) (include_local s.number ts)
   bare_component_local w (t ∷ ts) = stuck_front (bare_component_with inside w) (bare_component_with deeper w) t ts (λ us. refl) (λ us. refl)
 
   -- the same behind an identifier
@@ -88,7 +88,7 @@ module _ (inside deeper : Inside) (l : Locals inside deeper) (self : Locals deep
   component_part w (identifier n) = opens (λ us. identifier n ∷ us) (λ us. refl) (name_local (Some n))
   component_part w (keyword keywords.Start s) = opens (λ us. keyword keywords.Start s ∷ us) (λ us. refl) (name_local None)
   component_part w (keyword keywords.Div s) = opens (λ us. keyword keywords.Div s ∷ us) (λ us. refl) (div_local w)
-  component_part content (keyword keywords.Include s) = opens (λ us. keyword keywords.Include s ∷ us) (λ us. refl) (include_local s.place)
+  component_part content (keyword keywords.Include s) = opens (λ us. keyword keywords.Include s ∷ us) (λ us. refl) (include_local s.number)
   component_part override (keyword keywords.Include s) = closes (λ us. refl)
   component_part w (sign OpenBracket) = opens (λ us. sign OpenBracket ∷ us) (λ us. refl)
       (opened_local (bare_component_with inside w) (bare_component_with deeper w) (bare_component_local w))

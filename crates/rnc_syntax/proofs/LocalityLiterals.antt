@@ -86,9 +86,9 @@ unfolding inherit_at
 inherit_local ts = either_local (follow_keyword keywords.Inherit) refl word_after_equal word_after_equal
     (follow_keyword_front word_after_equal word_after_equal word_after_local keywords.Inherit) (λ us. Ok (None, us)) (λ us. Ok (None, us)) ts (ok_local None ts)
 
-pub mention_local : (place : ℕ) → IsLocal (mention_at place) (mention_at place)
+pub mention_local : (number : ℕ) → IsLocal (mention_at number) (mention_at number)
 unfolding mention_at
-mention_local place ts =
-    let f = λ (href : List ℕ) (us : List Lexeme). inherit_at us >>= λ prefix. Ok (record { href = href; inherit = prefix.0; token = place }, prefix.1) in
+mention_local number ts =
+    let f = λ (href : List ℕ) (us : List Lexeme). inherit_at us >>= λ prefix. Ok (record { href = href; inherit = prefix.0; token = number }, prefix.1) in
     bind_local literal_at literal_at f f ts (literal_local ts)
-    (λ href rest e. made_local inherit_at inherit_at (λ prefix. record { href = href; inherit = prefix; token = place }) inherit_local rest)
+    (λ href rest e. made_local inherit_at inherit_at (λ prefix. record { href = href; inherit = prefix; token = number }) inherit_local rest)

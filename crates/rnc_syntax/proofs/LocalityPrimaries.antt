@@ -44,7 +44,7 @@ other_local [] = stuck_end other_at other_at refl refl
 other_local (keyword keywords.Parent s ∷ ts) = cons_local other_at other_at _ _ (keyword keywords.Parent s) ts (λ us. refl) (λ us. refl)
     (made_local identifier_at identifier_at syntax.parent_ref identifier_local ts)
 other_local (keyword keywords.External s ∷ ts) = cons_local other_at other_at _ _ (keyword keywords.External s) ts (λ us. refl) (λ us. refl)
-    (made_local (mention_at s.place) (mention_at s.place) syntax.external (mention_local s.place) ts)
+    (made_local (mention_at s.number) (mention_at s.number) syntax.external (mention_local s.number) ts)
 other_local (segment w ∷ ts) = token_local other_at other_at _ _ (segment w) ts (λ us. refl) (λ us. refl)
     (made_local literal_at literal_at (syntax.value syntax.token_type) literal_local (segment w ∷ ts))
 other_local (t ∷ ts) = stuck_front other_at other_at t ts (λ us. refl) (λ us. refl)

@@ -6,7 +6,8 @@ use Rattle.std.proofs.Math.Seq.{drop-cons}
 use Rattle.rnc_text.specs.declared.token.Token.{Token}
 use Rattle.rnc_text.specs.declared.token.TokenKind.{TokenKind}
 use Rattle.rnc_text.specs.declared.token.TokenKind.TheVariants as kinds
-use Rattle.rnc_syntax.specs.Lexeme.{Lexeme, lexeme_at, lexemes_in}
+use Rattle.rnc_syntax.specs.Lexeme.{Lexeme, lexeme_at}
+use Rattle.rnc_syntax.specs.Reading.{lexemes_in}
 use Rattle.rnc_syntax.specs.Sentence.{is_opening, is_closing, openings, closings, nesting_limit, NestsWithin, BreaksNesting}
 use Rattle.rnc_syntax.proofs.Balance.{counts, discounts, openings-cons, closings-cons}
 
@@ -84,7 +85,7 @@ weighs_one false = omega arith
 pub stays_few : (b : Bool) (o i m : ℕ) → m ≡ bool_byte b → o ≤ i → o + m ≤ i + 1
 stays_few b o i m e few = let one = weighs_one b in omega (arith, e, few, one)
 
--- a token at its place from 0, so many opening and closing brackets before it, and what the token adds to each
+-- a token at its index, so many opening and closing brackets before it, and what the token adds to each
 module _ (ts : List Token) (i : ℕ) (d : Token) (inside : i < length ts) (o c : ℕ) (opens closes : Bool) (m n : ℕ)
     (e : opens ≡ is_opening (lexeme_at (get_or ts i d).kind [] 0)) (f : closes ≡ is_closing (lexeme_at (get_or ts i d).kind [] 0)) (g : m ≡ bool_byte opens)
     (h : n ≡ bool_byte closes) where

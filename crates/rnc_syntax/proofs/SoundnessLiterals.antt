@@ -120,17 +120,17 @@ unfolding inherit_at
 inherit_sound ts x e = inherit_step ts x (follow_keyword keywords.Inherit ts) refl e
 
 -- a literal, and what is handed on
-pub record IsMention (place : ℕ) (ts : List Lexeme) (m : Mention) : Type 0 where
+pub record IsMention (number : ℕ) (ts : List Lexeme) (m : Mention) : Type 0 where
   pub first : List Lexeme
   pub second : List Lexeme
   pub literal : IsLiteral first m.href
   pub inherits : MayInherit second m.inherit
-  pub standing : m ≡ record { href = m.href; inherit = m.inherit; token = place }
+  pub standing : m ≡ record { href = m.href; inherit = m.inherit; token = number }
   pub parts : ts ≡ first ++ second
 
-pub mention_sound : (place : ℕ) → Sound (mention_at place) (IsMention place)
+pub mention_sound : (number : ℕ) → Sound (mention_at number) (IsMention number)
 unfolding mention_at
-mention_sound place ts x e =
-    both_sound IsLiteral MayInherit (IsMention place) (λ href prefix. record { href = href; inherit = prefix; token = place }) literal_at inherit_at
+mention_sound number ts x e =
+    both_sound IsLiteral MayInherit (IsMention number) (λ href prefix. record { href = href; inherit = prefix; token = number }) literal_at inherit_at
     literal_sound inherit_sound
     (λ first second a b p q. record { first = first; second = second; literal = p; inherits = q; standing = refl; parts = refl }) ts x e

@@ -159,7 +159,7 @@ assignment_is inside o ts = sym (bind_bind {B = (Option (List ℕ) × Method) ×
     >>= λ t. Ok (assigned x.0.0 x.0.1 t.0, t.1)))
 
 -- a mention, and the components that override what it mentions
-pub include_is : (s : Spelling) (first second : List Lexeme) (m : Mention) (cs : List Component) → IsMention s.place first m → MayOverride second cs
+pub include_is : (s : Spelling) (first second : List Lexeme) (m : Mention) (cs : List Component) → IsMention s.number first m → MayOverride second cs
     → IsBareComponent content (keyword keywords.Include s ∷ (first ++ second)) (syntax.include m (syntax.components_of cs))
 include_is s first second m cs p q =
     grammar.include refl p.literal p.inherits q (ap (λ (r : List Lexeme). keyword keywords.Include s ∷ r) (ap (λ (r : List Lexeme). r ++ second) p.parts
@@ -239,8 +239,8 @@ module _ (inside : Inside) (sound : InsideSound inside) where
   bare_primary_sound (keyword keywords.String s ∷ ts) x e = typed_sound syntax.string_type (keyword keywords.String s) ts x refl e
   bare_primary_sound (keyword keywords.Token s ∷ ts) x e = typed_sound syntax.token_type (keyword keywords.Token s) ts x refl e
   bare_primary_sound (keyword keywords.External s ∷ ts) x e =
-      behind IsBarePrimary (keyword keywords.External s) ts x (mapped_sound (IsMention s.place) (Behind (keyword keywords.External s) IsBarePrimary)
-      syntax.external (mention_at s.place) (mention_sound s.place)
+      behind IsBarePrimary (keyword keywords.External s) ts x (mapped_sound (IsMention s.number) (Behind (keyword keywords.External s) IsBarePrimary)
+      syntax.external (mention_at s.number) (mention_sound s.number)
       (λ ts a p. grammar.external p.literal p.inherits (ap (λ (ts : List Lexeme). keyword keywords.External s ∷ ts) p.parts) (ap syntax.external p.standing)) ts
       x e)
   bare_primary_sound (keyword keywords.Grammar s ∷ ts) x e =
@@ -382,8 +382,8 @@ module _ (inside : Inside) (sound : InsideSound inside) where
       (λ ts a p. grammar.div p.is (ap (λ (r : List Lexeme). keyword keywords.Div s ∷ r) p.parts) refl) ts x e)
   bare_component_sound content (keyword keywords.Include s ∷ ts) x e =
       behind (IsBareComponent content) (keyword keywords.Include s) ts x
-      (both_sound (IsMention s.place) MayOverride (Behind (keyword keywords.Include s) (IsBareComponent content))
-      (λ m cs. syntax.include m (syntax.components_of cs)) (mention_at s.place) (overrides_with inside) (mention_sound s.place) overrides_sound (include_is s)
+      (both_sound (IsMention s.number) MayOverride (Behind (keyword keywords.Include s) (IsBareComponent content))
+      (λ m cs. syntax.include m (syntax.components_of cs)) (mention_at s.number) (overrides_with inside) (mention_sound s.number) overrides_sound (include_is s)
       ts x e)
   bare_component_sound w _ x e = absurd cc
 

@@ -5,7 +5,7 @@ use Rattle.rnc_syntax.specs.declared.fault.Stop.TheVariants.{Unexpected, TooDeep
 use Rattle.rnc_syntax.specs.declared.fault.SyntaxFault.{SyntaxFault}
 use Rattle.rnc_syntax.specs.declared.fault.SyntaxFault.TheVariants as faults
 use Rattle.rnc_syntax.specs.declared.syntax_tree.File as declared
-use Rattle.rnc_syntax.specs.Fault.{Gives, told, unless_memory}
+use Rattle.rnc_syntax.specs.Fault.{Gives, Refuses, fault_at, told, unless_memory}
 use Rattle.rnc_syntax.specs.Lexeme.{Lexeme}
 use Rattle.rnc_syntax.specs.Syntax.{File}
 use Rattle.rnc_syntax.specs.SyntaxView.{file_of}
@@ -34,14 +34,14 @@ module _ (ts : List Lexeme) (nests : NestsWithin nesting_limit ts) where
   pub only_tree : (f : File) → IsSyntaxTree ts f → answer ≡ Ok f
   only_tree f is = ap (told (length ts)) (file_complete nesting_limit is.sentence nests)
 
-  no_sentence_read : (r : Result File Stop) → file_with (inside_at nesting_limit) ts ≡ r → BreaksGrammar ts → (place : ℕ)
-      × (told (length ts) r ≡ Err (faults.Unexpected place))
+  no_sentence_read : (r : Result File Stop) → file_with (inside_at nesting_limit) ts ≡ r → BreaksGrammar ts → (number : ℕ)
+      × (told (length ts) r ≡ Err (faults.Unexpected number))
   no_sentence_read (Err TooDeep) read is = absurd (file_not_deep nesting_limit ts nests read)
   no_sentence_read (Err (Unexpected left)) read is = (length ts - left + 1, refl)
   no_sentence_read (Ok f) read is = absurd (is.1 (f, file_sound nesting_limit ts f read))
 
-  -- of tokens that are no sentence this is told, with a place
-  pub only_grammar : BreaksGrammar ts → (place : ℕ) × (answer ≡ Err (faults.Unexpected place))
+  -- of tokens that are no sentence this is told, with a number
+  pub only_grammar : BreaksGrammar ts → (number : ℕ) × (answer ≡ Err (faults.Unexpected number))
   only_grammar is = no_sentence_read (file_with (inside_at nesting_limit) ts) refl is
 
   module _ (stuck : (left : ℕ) → file_with (inside_at nesting_limit) ts ≡ Err (Unexpected left) → IsStuckAt ts (length ts - left + 1)) where
@@ -58,6 +58,14 @@ module _ (ts : List Lexeme) (nests : NestsWithin nesting_limit ts) where
 
 -- ---- what a call returned
 
+refused : (n : ℕ) (stop : Stop) → Refuses (unless_memory (fault_at n stop)) (told {Y = File} n (Err stop))
+refused n TooDeep = refl
+refused n (Unexpected left) = refl
+
+-- the fault of a reading that stopped
+pub stop_told : (n : ℕ) (stop : Stop) (r : Result File Stop) (e : SyntaxFault) → r ≡ Err stop → e ≡ fault_at n stop → Refuses (unless_memory e) (told n r)
+stop_told n stop r e is fault = rw (is, fault) (refused n stop)
+
 -- a tree
 pub tree_given : (ts : List Lexeme) (r : Result declared.File SyntaxFault) (w : Result File SyntaxFault) → ((f : File) → w ≡ Ok f → IsSyntaxTree ts f)
     → Gives unless_memory file_of r w → IfOk r (λ f. IsSyntaxTree ts (file_of f))
@@ -70,4 +78,4 @@ pub fault_given : (ts : List Lexeme) (r : Result declared.File SyntaxFault) (w :
 fault_given ts (Ok f) w is given = tt
 fault_given ts (Err faults.Memory) w is given = tt
 fault_given ts (Err faults.TooDeep) w is given = is faults.TooDeep given
-fault_given ts (Err (faults.Unexpected place)) w is given = is (faults.Unexpected place) given
+fault_given ts (Err (faults.Unexpected number)) w is given = is (faults.Unexpected number) given

@@ -38,7 +38,7 @@ overrides_begin ts cs p = exactly MayOverride ts cs (grammar.with_overrides p.is
 
 -- a spelling
 abbrev plain : Spelling
-plain = record { text = []; place = 0 }
+plain = record { text = []; number = 0 }
 
 component_some : (w : Setting) → Begins (IsBareComponent w) []
 component_some w = record {
@@ -86,8 +86,8 @@ module _ (inside : Inside) (sound : InsideSound inside) (viable : InsideViable i
   bare_component_viable content (keyword keywords.Include s ∷ ts) left e =
       let t = keyword keywords.Include s in
       behind_token (IsBareComponent content) t ts left
-      (both_viable (IsMention s.place) MayOverride (Behind t (IsBareComponent content)) (λ m cs. syntax.include m (syntax.components_of cs))
-      (mention_at s.place) (overrides_with inside) (mention_sound s.place) (mention_viable s.place) overrides_viable
+      (both_viable (IsMention s.number) MayOverride (Behind t (IsBareComponent content)) (λ m cs. syntax.include m (syntax.components_of cs))
+      (mention_at s.number) (overrides_with inside) (mention_sound s.number) (mention_viable s.number) overrides_viable
       (record { behind = []; value = []; is = grammar.without_overrides refl }) (include_is s) ts left e)
   bare_component_viable w ts left e = nothing_taken (IsBareComponent w) ts left (left_is ts left e) (component_some w)
 

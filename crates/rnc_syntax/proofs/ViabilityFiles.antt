@@ -70,7 +70,7 @@ module _ {A : Type 0} (P : List Lexeme → A → Type 0) (t : Lexeme) (f : A →
 
 -- a spelling
 abbrev plain : Spelling
-plain = record { text = []; place = 0 }
+plain = record { text = []; number = 0 }
 
 -- behind `default`
 defaults_some : (r : Spelling) → Begins (Behind (keyword keywords.Default r) IsDeclaration) []

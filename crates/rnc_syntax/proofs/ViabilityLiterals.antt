@@ -188,10 +188,10 @@ inherit_viable : IsViable inherit_at MayInherit
 unfolding inherit_at
 inherit_viable ts left e = inherit_step ts left (follow_keyword keywords.Inherit ts) refl e
 
-pub mention_viable : (place : ℕ) → IsViable (mention_at place) (IsMention place)
+pub mention_viable : (number : ℕ) → IsViable (mention_at number) (IsMention number)
 unfolding mention_at
-mention_viable place =
-    both_viable IsLiteral MayInherit (IsMention place) (λ href prefix. record { href = href; inherit = prefix; token = place }) literal_at inherit_at
+mention_viable number =
+    both_viable IsLiteral MayInherit (IsMention number) (λ href prefix. record { href = href; inherit = prefix; token = number }) literal_at inherit_at
     literal_sound literal_viable inherit_viable
     (record { behind = []; value = None; is = grammar.without_inherit refl })
     (λ first second a b p q. record { first = first; second = second; literal = p; inherits = q; standing = refl; parts = refl })

@@ -135,7 +135,7 @@ module _ (inside : Inside) (sound : InsideSound inside) (viable : InsideViable i
   bare_primary_viable (keyword keywords.Token s ∷ ts) left e = typed_viable syntax.token_type (keyword keywords.Token s) ts left refl e
   bare_primary_viable (keyword keywords.External s ∷ ts) left e =
       let t = keyword keywords.External s in
-      primary_behind (IsMention s.place) t syntax.external (mention_at s.place) (mention_viable s.place)
+      primary_behind (IsMention s.number) t syntax.external (mention_at s.number) (mention_viable s.number)
       (λ us m p. grammar.external p.literal p.inherits (ap (λ (r : List Lexeme). t ∷ r) p.parts) (ap syntax.external p.standing)) ts left e
   bare_primary_viable (keyword keywords.Grammar s ∷ ts) left e =
       let t = keyword keywords.Grammar s in

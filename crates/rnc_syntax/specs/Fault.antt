@@ -12,7 +12,7 @@ use Rattle.rnc_syntax.specs.declared.fault.SyntaxFault.TheVariants as faults
 abbrev pub unless_memory : SyntaxFault → Option SyntaxFault
 unless_memory faults.Memory = None
 unless_memory faults.TooDeep = Some faults.TooDeep
-unless_memory (faults.Unexpected place) = Some (faults.Unexpected place)
+unless_memory (faults.Unexpected number) = Some (faults.Unexpected number)
 
 -- what stopped the reading, unless memory ran out
 abbrev pub stop_of : ReadFault → Option Stop

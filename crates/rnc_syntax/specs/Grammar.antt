@@ -182,7 +182,7 @@ mutual
     data_of : {ts : List Lexeme} {a : List Lexeme} {x : Lexeme} {d : DatatypeName} {ps : List (List ℕ × List ℕ)} → type_of x ≡ Some d → MayBeParameters a ps
         → ts ≡ x ∷ a → IsBarePrimary ts (syntax.data_of d ps)
     external : {ts : List Lexeme} {t : Pattern} {a b : List Lexeme} {v : List ℕ} {p : Option (List ℕ)} {s : Spelling} → IsLiteral a v → MayInherit b p
-        → ts ≡ keyword keywords.External s ∷ (a ++ b) → t ≡ syntax.external (record { href = v; inherit = p; token = s.place }) → IsBarePrimary ts t
+        → ts ≡ keyword keywords.External s ∷ (a ++ b) → t ≡ syntax.external (record { href = v; inherit = p; token = s.number }) → IsBarePrimary ts t
     grammar : {ts : List Lexeme} {t : Pattern} {a : List Lexeme} {cs : List Component} {s : Spelling} → AreComponents content a cs
         → ts ≡ keyword keywords.Grammar s ∷ sign OpenBrace ∷ (a ++ sign CloseBrace ∷ []) → t ≡ syntax.grammar (syntax.components_of cs) → IsBarePrimary ts t
     in_parens : {ts : List Lexeme} {a : List Lexeme} {t : Pattern} → IsPattern a t → ts ≡ sign OpenParenthesis ∷ (a ++ sign CloseParenthesis ∷ [])
@@ -215,7 +215,7 @@ mutual
         → ts ≡ keyword keywords.Div s ∷ sign OpenBrace ∷ (a ++ sign CloseBrace ∷ []) → c ≡ syntax.div (syntax.components_of cs) → IsBareComponent w ts c
     include : {w : Setting} {ts : List Lexeme} {c : Component} {a b o : List Lexeme} {v : List ℕ} {p : Option (List ℕ)} {cs : List Component} {s : Spelling}
         → w ≡ content → IsLiteral a v → MayInherit b p → MayOverride o cs → ts ≡ keyword keywords.Include s ∷ (a ++ (b ++ o))
-        → c ≡ syntax.include (record { href = v; inherit = p; token = s.place }) (syntax.components_of cs) → IsBareComponent w ts c
+        → c ≡ syntax.include (record { href = v; inherit = p; token = s.number }) (syntax.components_of cs) → IsBareComponent w ts c
 
   -- [ "{" over* "}" ]
   pub data MayOverride : List Lexeme → List Component → Type 0 where

@@ -5,4 +5,5 @@ pub mod Sentence
 pub mod SyntaxView
 pub mod Fault
 pub mod Combinators
+pub mod Reading
 pub mod Productions

@@ -107,12 +107,12 @@ word_after_equal ts = do
 unfoldable pub inherit_at : List Lexeme → Outcome (Option (List ℕ))
 inherit_at ts = either_way (follow_keyword keywords.Inherit ts) (Ok (None, ts)) word_after_equal
 
--- a mention whose keyword stands at this place
+-- a mention whose keyword has this number
 unfoldable pub mention_at : ℕ → List Lexeme → Outcome Mention
-mention_at place ts = do
+mention_at number ts = do
   href ← literal_at ts
   prefix ← inherit_at href.1
-  Ok (record { href = href.0; inherit = prefix.0; token = place }, prefix.1)
+  Ok (record { href = href.0; inherit = prefix.0; token = number }, prefix.1)
 
 -- ---- name classes
 
@@ -213,7 +213,7 @@ lone_front _ = None
 -- a primary that begins otherwise and holds no other pattern
 unfoldable pub other_at : List Lexeme → Outcome Pattern
 other_at (keyword keywords.Parent s ∷ ts) = identifier_at ts >>= λ x. Ok (syntax.parent_ref x.0, x.1)
-other_at (keyword keywords.External s ∷ ts) = mention_at s.place ts >>= λ m. Ok (syntax.external m.0, m.1)
+other_at (keyword keywords.External s ∷ ts) = mention_at s.number ts >>= λ m. Ok (syntax.external m.0, m.1)
 other_at (segment w ∷ ts) = literal_at (segment w ∷ ts) >>= λ v. Ok (syntax.value syntax.token_type v.0, v.1)
 other_at ts = unexpected ts
 
@@ -312,9 +312,9 @@ abbrev pub in_content : {A : Type 0} → Setting → Option A → Option A
 in_content content o = o
 in_content override o = None
 
--- the place of `include`, if it stands in front and may, and the tokens after it
+-- the number of `include`, if it stands in front and may, and the tokens after it
 abbrev pub include_front : Setting → List Lexeme → Option (ℕ × List Lexeme)
-include_front w (keyword keywords.Include s ∷ ts) = in_content w (Some (s.place, ts))
+include_front w (keyword keywords.Include s ∷ ts) = in_content w (Some (s.number, ts))
 include_front w _ = None
 
 unfoldable pub overrides_with : Inside → List Lexeme → Outcome (List Component)

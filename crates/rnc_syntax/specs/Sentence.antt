@@ -48,30 +48,30 @@ BreaksNesting ts = (k : ℕ) × (closings (take k ts) + nesting_limit < openings
 abbrev pub IsSentence : List Lexeme → Type 0
 IsSentence ts = (f : File) × IsFile ts f
 
--- a list begins as this one does, up to and with the token at this place; where the place is past the end, it is this one
+-- a list begins as this one does, up to and with the token with this number; where that is past the last, it is this one
 abbrev pub BeginsAlike : ℕ → List Lexeme → List Lexeme → Type 0
-BeginsAlike place ts us = (place ≤ length ts → take place us ≡ take place ts) × (length ts < place → us ≡ ts)
+BeginsAlike number ts us = (number ≤ length ts → take number us ≡ take number ts) × (length ts < number → us ≡ ts)
 
 -- some sentence begins with so many of the tokens
 abbrev pub BeginsSentence : ℕ → List Lexeme → Type 0
 BeginsSentence count ts = (us : List Lexeme) × (take count us ≡ take count ts) × IsSentence us
 
--- Some sentence begins with the tokens before this place, from 1, and none with the tokens up to and with the one at it; or the
--- place is the one after the last token, and they are no sentence.
-pub record IsStuckAt (ts : List Lexeme) (place : ℕ) : Type 0 where
-  pub positive : 0 < place
-  pub within : place ≤ length ts + 1
-  pub begins : BeginsSentence (place - 1) ts
-  pub stuck : (us : List Lexeme) → BeginsAlike place ts us → ¬ IsSentence us
+-- The tokens are numbered from 1. Some sentence begins with those before the one with this number, and none with those up to
+-- and with it; or the number is one more than there are tokens, and they are no sentence.
+pub record IsStuckAt (ts : List Lexeme) (number : ℕ) : Type 0 where
+  pub positive : 0 < number
+  pub within : number ≤ length ts + 1
+  pub begins : BeginsSentence (number - 1) ts
+  pub stuck : (us : List Lexeme) → BeginsAlike number ts us → ¬ IsSentence us
 
 -- the tokens nest within the limit and are no sentence (clause 6)
 abbrev pub BreaksGrammar : List Lexeme → Type 0
 BreaksGrammar ts = NestsWithin nesting_limit ts × ¬ IsSentence ts
 
--- the same, at this place
-pub record BreaksGrammarAt (ts : List Lexeme) (place : ℕ) : Type 0 where
+-- the same, at the token with this number
+pub record BreaksGrammarAt (ts : List Lexeme) (number : ℕ) : Type 0 where
   pub nesting : NestsWithin nesting_limit ts
-  pub stuck : IsStuckAt ts place
+  pub stuck : IsStuckAt ts number
 
 -- they nest within the limit, and this is their syntax tree
 pub record IsSyntaxTree (ts : List Lexeme) (f : File) : Type 0 where
@@ -82,4 +82,4 @@ pub record IsSyntaxTree (ts : List Lexeme) (f : File) : Type 0 where
 abbrev pub IsFaultOf : List Lexeme → SyntaxFault → Type 0
 IsFaultOf ts faults.Memory = Unit {0}
 IsFaultOf ts faults.TooDeep = BreaksNesting ts
-IsFaultOf ts (faults.Unexpected place) = BreaksGrammarAt ts place
+IsFaultOf ts (faults.Unexpected number) = BreaksGrammarAt ts number

@@ -41,7 +41,7 @@ pub data DatatypeName : Type 0 where
   token_type : DatatypeName
   prefixed_type : List ℕ → List ℕ → DatatypeName
 
--- another file: its name, the prefix of the namespace that it inherits, and the place of the word that mentions it
+-- another file: its name, the prefix of the namespace that it inherits, and the number of the word that mentions it
 pub record Mention : Type 0 where
   pub href : List ℕ
   pub inherit : Option (List ℕ)

@@ -1,6 +1,6 @@
 // Reading annotations, which leave no trace in the tree.
 ghost use Rattle.std.specs.Prelude.{◌≡◌, ◌<◌, ◌≤◌, option_map, length, IfOk, IfSome};
-ghost use Rattle.rnc_syntax.specs.Lexeme.{lexemes_in};
+ghost use Rattle.rnc_syntax.specs.Reading.{lexemes_in};
 ghost use Rattle.rnc_syntax.specs.Fault.{Gives, stop_of};
 ghost use Rattle.rnc_syntax.specs.Productions.{annotation_at, annotation_end, role_front};
 

@@ -12,7 +12,8 @@ ghost use Rattle.std.specs.Prelude.{
   IfOk,
   IfSome,
 };
-ghost use Rattle.rnc_syntax.specs.Lexeme.{lexemes_in, local_in, prefix_in};
+ghost use Rattle.rnc_syntax.specs.Lexeme.{local_in, prefix_in};
+ghost use Rattle.rnc_syntax.specs.Reading.{lexemes_in};
 ghost use Rattle.rnc_syntax.specs.Fault.{Gives, stop_of};
 ghost use Rattle.rnc_syntax.specs.Productions.{
   atom_at,
@@ -165,7 +166,7 @@ impl Reader {
         }
     }
 
-    /// The place of `include`, if it stands in front and may, and the tokens after it.
+    /// The number of `include`, if it stands in front and may, and the tokens after it.
     pub fn find_include<'t, 'a>(
         self,
         setting: Setting,
@@ -297,8 +298,8 @@ impl Reader {
                     Ok((Pattern::ParentRef(name), rest))
                 }
                 TokenKind::Keyword(Keyword::External) => {
-                    let place = self.count.saturating_sub(rest.len());
-                    let (mention, rest) = self.mention(place, rest)?;
+                    let number = self.count.saturating_sub(rest.len());
+                    let (mention, rest) = self.mention(number, rest)?;
                     Ok((Pattern::External(mention), rest))
                 }
                 TokenKind::Segment | TokenKind::TripleSegment => {

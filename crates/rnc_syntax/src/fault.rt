@@ -9,9 +9,9 @@ use rng_model::OutOfMemory;
 pub enum SyntaxFault {
     /// At some token the brackets open up to it are more than 128.
     TooDeep,
-    /// The tokens are no sentence: some sentence begins with the tokens before this place, from 1, and none with the
-    /// tokens up to and with the one at it. The place after the last token stands for their end.
-    Unexpected { place: u64 },
+    /// The tokens, which are numbered from 1, are no sentence: some sentence begins with those before the one with this
+    /// number, and none with those up to and with it. One more than there are tokens stands for their end.
+    Unexpected { number: u64 },
     /// Memory ran out, which says nothing about the tokens.
     Memory,
 }

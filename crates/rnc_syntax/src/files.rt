@@ -1,6 +1,6 @@
 // Reading files: declarations, and what follows them.
 ghost use Rattle.std.specs.Prelude.{◌≡◌, ◌<◌, ◌≤◌, map, length, IfOk};
-ghost use Rattle.rnc_syntax.specs.Lexeme.{lexemes_in};
+ghost use Rattle.rnc_syntax.specs.Reading.{lexemes_in};
 ghost use Rattle.rnc_syntax.specs.Fault.{Gives, stop_of};
 ghost use Rattle.rnc_syntax.specs.Productions.{
   annotated_body_with,

@@ -2,8 +2,8 @@
 //!
 //! `read_syntax` answers the tree exactly where the tokens are a sentence of the grammar of the compact syntax that nests
 //! within 128 brackets, and a sentence has one tree. Other tokens get the fault that they have, and where they are no
-//! sentence its place: some sentence begins with the tokens before it, and none with those up to and with it. Declarations
-//! and prefixes are not looked at, annotations are skipped, and only want of memory keeps the answer back.
+//! sentence the number of a token: some sentence begins with the tokens before it, and none with those up to and with it.
+//! Declarations and prefixes are not looked at, annotations are skipped, and only want of memory keeps the answer back.
 #![tactic(auto)]
 
 mod annotations;

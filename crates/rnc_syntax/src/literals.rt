@@ -1,6 +1,6 @@
 // Reading literals, parameters of datatypes, and mentions.
 ghost use Rattle.std.specs.Prelude.{◌≡◌, ◌<◌, ◌≤◌, ℕ, ◌-◌, Some, None, if◌then◌else◌, map, option_map, length, IfOk};
-ghost use Rattle.rnc_syntax.specs.Lexeme.{lexemes_in};
+ghost use Rattle.rnc_syntax.specs.Reading.{lexemes_in};
 ghost use Rattle.rnc_syntax.specs.Combinators.{follow, many, segment_at, with_front};
 ghost use Rattle.rnc_syntax.specs.Fault.{Gives, stop_of};
 ghost use Rattle.rnc_syntax.specs.Productions.{annotated_parameter_at, inherit_at, literal_at, mention_at, parameter_at, parameter_front, parameters_at};
@@ -131,7 +131,7 @@ impl Reader {
         }
     }
 
-    /// A mention, after its keyword, which stands at this place: `literal [inherit]`.
+    /// A mention, after its keyword, which has this number: `literal [inherit]`.
     #[tactic(auto, unfolding(crate::specs::Productions::mention_at))]
     pub fn mention<'t, 'a>(
         self,

@@ -1,6 +1,7 @@
 // Reading name classes.
 ghost use Rattle.std.specs.Prelude.{◌≡◌, ◌<◌, ◌≤◌, map, option_map, length, IfOk, IfSome};
-ghost use Rattle.rnc_syntax.specs.Lexeme.{lexemes_in, prefix_in, local_in};
+ghost use Rattle.rnc_syntax.specs.Lexeme.{prefix_in, local_in};
+ghost use Rattle.rnc_syntax.specs.Reading.{lexemes_in};
 ghost use Rattle.rnc_syntax.specs.Combinators.{follow, many, with_front};
 ghost use Rattle.rnc_syntax.specs.Fault.{Gives, stop_of};
 ghost use Rattle.rnc_syntax.specs.Productions.{

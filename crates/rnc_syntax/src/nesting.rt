@@ -8,6 +8,7 @@ ghost use Rattle.rnc_syntax.specs.Sentence.{
   is_opening,
   nesting_limit,
 };
+ghost use Rattle.rnc_text.specs.Cut.{tokens_of};
 
 use rnc_text::{Sign, Token, TokenKind};
 
@@ -36,7 +37,7 @@ fn closes(kind: TokenKind) -> bool
 
 /// Whether at no token the opening brackets up to it exceed the closing ones up to it by more than the limit.
 pub fn nests_within_limit(tokens: &[Token<'_>]) -> bool
-    ensures { MatchBool result (NestsWithin nesting_limit (lexemes tokens.now)) (BreaksNesting (lexemes tokens.now)) }
+    ensures { MatchBool result (NestsWithin nesting_limit (lexemes (tokens_of tokens.now))) (BreaksNesting (lexemes (tokens_of tokens.now))) }
 {
     let mut opened = 0usize;
     let mut closed = 0usize;

@@ -1,6 +1,6 @@
 // Reading patterns and the components of grammars.
 ghost use Rattle.std.specs.Prelude.{◌≡◌, ◌<◌, ◌≤◌, map, length, IfOk};
-ghost use Rattle.rnc_syntax.specs.Lexeme.{lexemes_in};
+ghost use Rattle.rnc_syntax.specs.Reading.{lexemes_in};
 ghost use Rattle.rnc_syntax.specs.Combinators.{follow, many, with_front};
 ghost use Rattle.rnc_syntax.specs.Fault.{Gives, stop_of};
 ghost use Rattle.rnc_syntax.specs.Productions.{
@@ -359,8 +359,8 @@ impl Reader {
             let (components, rest) = self.contents(levels, setting, rest)?;
             return Ok((Component::Div(components), rest));
         }
-        if let Some((place, rest)) = self.find_include(setting, tokens) {
-            let (mention, rest) = self.mention(place, rest)?;
+        if let Some((number, rest)) = self.find_include(setting, tokens) {
+            let (mention, rest) = self.mention(number, rest)?;
             let (components, rest) = self.overrides(levels, rest)?;
             return Ok((Component::Include(mention, components), rest));
         }

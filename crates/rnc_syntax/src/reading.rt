@@ -1,6 +1,7 @@
 // Reading tokens from left to right.
 ghost use Rattle.std.specs.Prelude.{◌≡◌, ◌<◌, option_map, length, IfOk, IfSome};
-ghost use Rattle.rnc_syntax.specs.Lexeme.{lexemes_in, local_in, prefix_in};
+ghost use Rattle.rnc_syntax.specs.Lexeme.{local_in, prefix_in};
+ghost use Rattle.rnc_syntax.specs.Reading.{lexemes_in};
 ghost use Rattle.rnc_syntax.specs.Combinators.{after, after_keyword, follow, follow_keyword, word_at, identifier_at, segment_at};
 ghost use Rattle.rnc_syntax.specs.Fault.{Gives, stop_of};
 ghost use Rattle.rnc_syntax.specs.declared.fault.Stop.TheVariants.{Unexpected};

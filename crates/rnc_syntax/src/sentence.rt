@@ -14,6 +14,7 @@ ghost use Rattle.rnc_syntax.specs.Sentence.{
 ghost use Rattle.rnc_syntax.specs.Syntax as syntax;
 ghost use Rattle.rnc_syntax.specs.SyntaxView.{file_of};
 ghost use Rattle.rnc_syntax.specs.declared.fault.SyntaxFault.TheVariants as faults;
+ghost use Rattle.rnc_text.specs.Cut.{tokens_of};
 
 use crate::fault::{ReadFault, Stop, SyntaxFault};
 use crate::nesting::{NESTING_LIMIT, nests_within_limit};
@@ -23,21 +24,21 @@ use rnc_text::Token;
 use std::alloc::Global;
 
 /// The fault of tokens whose reading stopped so.
-#[tactic(auto, using(crate::proofs::Lexemes::length_of_lexemes))]
+#[tactic(auto, using(crate::proofs::Lexemes::count_of_lexemes))]
 fn fault_of(tokens: &[Token<'_>], stop: Stop) -> SyntaxFault
-    ensures { result ≡ fault_at (length (lexemes tokens.now)) stop }
+    ensures { result ≡ fault_at (length (lexemes (tokens_of tokens.now))) stop }
 {
     match stop {
         Stop::TooDeep => SyntaxFault::TooDeep,
         Stop::Unexpected(left) => SyntaxFault::Unexpected {
-            place: tokens.len().saturating_sub(left) as u64 + 1,
+            number: tokens.len().saturating_sub(left) as u64 + 1,
         },
     }
 }
 
 /// The syntax tree of these tokens, or the fault where their reading stops.
 fn read<'a>(alloc: Global, tokens: &[Token<'a>]) -> Result<File<'a>, SyntaxFault>
-    ensures { Gives unless_memory file_of result (told (length (lexemes tokens.now)) (file_with (inside_at nesting_limit) (lexemes tokens.now))) }
+    ensures { Gives unless_memory file_of result (told (length (lexemes (tokens_of tokens.now))) (file_with (inside_at nesting_limit) (lexemes (tokens_of tokens.now)))) }
 {
     let reader = Reader {
         alloc,
@@ -52,29 +53,29 @@ fn read<'a>(alloc: Global, tokens: &[Token<'a>]) -> Result<File<'a>, SyntaxFault
 
 /// The syntax tree of the schema file that has these tokens.
 ///
-/// The tokens are all of the file's, in order. Of each its kind and its text count, and of the word `include` or
-/// `external` its place too, which the tree tells; where a token lies in the text does not matter. A sentence of the
-/// grammar has one syntax tree, and it is answered where `{` and `(` nest within the limit; else the fault is
+/// The tokens are all of the file's, in order, and numbered from 1. Of each its kind and its text count, and of the word
+/// `include` or `external` its number too, which the tree tells; where a token lies in the text does not matter. A sentence
+/// of the grammar has one syntax tree, and it is answered where `{` and `(` nest within the limit; else the fault is
 ///
 /// - `TooDeep`, where at some token the `{` and `(` up to it exceed the `}` and `)` up to it by more than 128;
-/// - `Unexpected`, where they do so at none and the tokens are no sentence, with the place of the first token, from 1,
-///   such that no sentence begins with the tokens up to and with it, or with the number of tokens plus one.
+/// - `Unexpected`, where they do so at none and the tokens are no sentence, with the number of the first token such that
+///   no sentence begins with the tokens up to and with it, or with one more than there are tokens.
 ///
 /// `Memory` answers that there was no memory for the tree, and says nothing about the tokens.
 ///
-/// Annotations are skipped, however deep they nest, and leave no trace in the tree; their tokens count for places.
+/// Annotations are skipped, however deep they nest, and leave no trace in the tree; their tokens are numbered as all are.
 ///
 /// Takes time and memory in proportion to the tokens; the tree borrows their texts. Recurses as deep as `{` and `(` nest.
 ///
 /// RELAX NG Compact Syntax, "Syntax", "Annotations".
 #[tactic(auto, using(crate::proofs::CompletenessFiles::unique))]
 pub fn read_syntax<'a>(alloc: Global, tokens: &[Token<'a>]) -> Result<File<'a>, SyntaxFault>
-    ensures tree { IfOk result (λ f. IsSyntaxTree (lexemes tokens.now) (file_of f)) }
-    ensures fault { IfErr result (IsFaultOf (lexemes tokens.now)) }
-    ensures only { (f : syntax.File) → IsSyntaxTree (lexemes tokens.now) f → Gives unless_memory file_of result (Ok f) }
-    ensures nesting { BreaksNesting (lexemes tokens.now) → Gives unless_memory file_of result (Err faults.TooDeep) }
-    ensures grammar { BreaksGrammar (lexemes tokens.now) → (place : ℕ) × Gives unless_memory file_of result (Err (faults.Unexpected place)) }
-    ensures one { (f g : syntax.File) → IsFile (lexemes tokens.now) f → IsFile (lexemes tokens.now) g → f ≡ g }
+    ensures tree { IfOk result (λ f. IsSyntaxTree (lexemes (tokens_of tokens.now)) (file_of f)) }
+    ensures fault { IfErr result (IsFaultOf (lexemes (tokens_of tokens.now))) }
+    ensures only { (f : syntax.File) → IsSyntaxTree (lexemes (tokens_of tokens.now)) f → Gives unless_memory file_of result (Ok f) }
+    ensures nesting { BreaksNesting (lexemes (tokens_of tokens.now)) → Gives unless_memory file_of result (Err faults.TooDeep) }
+    ensures grammar { BreaksGrammar (lexemes (tokens_of tokens.now)) → (number : ℕ) × Gives unless_memory file_of result (Err (faults.Unexpected number)) }
+    ensures one { (f g : syntax.File) → IsFile (lexemes (tokens_of tokens.now)) f → IsFile (lexemes (tokens_of tokens.now)) g → f ≡ g }
 {
     if nests_within_limit(tokens) {
         read(alloc, tokens)

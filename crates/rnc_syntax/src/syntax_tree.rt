@@ -56,7 +56,7 @@ pub struct Parameter<'a> {
 }
 
 /// A mention of another file: its name as it is written, the prefix of the namespace that it inherits, if one is named,
-/// and the place, from 1, of the word `include` or `external` among the tokens.
+/// and the number, from 1, of the word `include` or `external` among the tokens.
 ///
 /// RELAX NG Compact Syntax, "Syntax" (`include`, `external`).
 #[derive(Drop)]

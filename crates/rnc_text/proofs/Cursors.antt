@@ -1,4 +1,4 @@
--- Places in a text, and what stands between them.
+-- Cursors in a text, and what stands between them.
 use Rattle.std.proofs.Common.{◌≡◌, ℕ, ◌-◌, ◌<◌, true, false, eqb, inl, inr, List, [], ◌∷◌, ◌++◌, length, take, Option, Some, None, refl, sym, ap, subst}
 use Rattle.std.proofs.Common.{◌∙◌, append_assoc, arith}
 use Rattle.std.specs.Str.{chars, IsUtf8, IsCharBoundary, encode_utf8_all}
@@ -50,36 +50,36 @@ first_is : (c : ℕ) (cs ds : List ℕ) → ◌≡◌ {A = Option (ℕ × List �
 first_is c [] ds e = absurd (none-some _ (sym e))
 first_is c (d ∷ cs) ds e = let p = some_pair_parts _ _ _ _ e in let a = p.0 in let b = p.1 in cc
 
-mark_at : (whole place m c : ℕ) (ms cs : List ℕ) → length (encode_utf8_all (c ∷ cs)) ≡ place → eqb m (whole - place) ≡ true
+mark_at : (whole left m c : ℕ) (ms cs : List ℕ) → length (encode_utf8_all (c ∷ cs)) ≡ left → eqb m (whole - left) ≡ true
     → marked whole (m ∷ ms) (c ∷ cs) ≡ Ordinary c ∷ marked whole ms cs
 unfolding marked
-mark_at whole place m c ms cs e h = rw (e, h) refl
+mark_at whole left m c ms cs e h = rw (e, h) refl
 
-plain_at : (whole place m c : ℕ) (ms cs : List ℕ) → length (encode_utf8_all (c ∷ cs)) ≡ place → eqb m (whole - place) ≡ false
+plain_at : (whole left m c : ℕ) (ms cs : List ℕ) → length (encode_utf8_all (c ∷ cs)) ≡ left → eqb m (whole - left) ≡ false
     → marked whole (m ∷ ms) (c ∷ cs) ≡ unmarked c ∷ marked whole (m ∷ ms) cs
 unfolding marked
-plain_at whole place m c ms cs e h = rw (e, h) refl
+plain_at whole left m c ms cs e h = rw (e, h) refl
 
 no_marks : (whole c : ℕ) (cs : List ℕ) → marked whole [] (c ∷ cs) ≡ unmarked c ∷ marked whole [] cs
 unfolding marked
 no_marks whole c cs = refl
 
-marked_step : (whole place c : ℕ) (ms ns cs : List ℕ) → length (encode_utf8_all (c ∷ cs)) ≡ place → next_marks (whole - place) ms ≡ Some ns
+marked_step : (whole left c : ℕ) (ms ns cs : List ℕ) → length (encode_utf8_all (c ∷ cs)) ≡ left → next_marks (whole - left) ms ≡ Some ns
     → marked whole ms (c ∷ cs) ≡ Ordinary c ∷ marked whole ns cs
-marked_step whole place c [] ns cs len e = absurd (none-some _ e)
-marked_step whole place c (m ∷ ms) ns cs len e =
-    elim (chosen (eqb m (whole - place)) _ _ _ e) [
-      | inl h ↦ mark_at whole place m c ms cs len h.0 ∙ ap (λ (x : List ℕ). Ordinary c ∷ marked whole x cs) (same_Some _ _ h.1)
+marked_step whole left c [] ns cs len e = absurd (none-some _ e)
+marked_step whole left c (m ∷ ms) ns cs len e =
+    elim (chosen (eqb m (whole - left)) _ _ _ e) [
+      | inl h ↦ mark_at whole left m c ms cs len h.0 ∙ ap (λ (x : List ℕ). Ordinary c ∷ marked whole x cs) (same_Some _ _ h.1)
       | inr h ↦ absurd (none-some _ h.1)
     ]
 
-plain_step : (whole place c : ℕ) (ms cs : List ℕ) → length (encode_utf8_all (c ∷ cs)) ≡ place → next_marks (whole - place) ms ≡ None
+plain_step : (whole left c : ℕ) (ms cs : List ℕ) → length (encode_utf8_all (c ∷ cs)) ≡ left → next_marks (whole - left) ms ≡ None
     → marked whole ms (c ∷ cs) ≡ unmarked c ∷ marked whole ms cs
-plain_step whole place c [] cs len e = no_marks whole c cs
-plain_step whole place c (m ∷ ms) cs len e =
-    elim (chosen (eqb m (whole - place)) _ _ _ e) [
+plain_step whole left c [] cs len e = no_marks whole c cs
+plain_step whole left c (m ∷ ms) cs len e =
+    elim (chosen (eqb m (whole - left)) _ _ _ e) [
       | inl h ↦ absurd (none-some _ (sym h.1))
-      | inr h ↦ plain_at whole place m c ms cs len h.0
+      | inr h ↦ plain_at whole left m c ms cs len h.0
     ]
 
 chars_length : (bs cs : List ℕ) → IsUtf8 bs → chars bs ≡ cs → length (encode_utf8_all cs) ≡ length bs

@@ -14,7 +14,7 @@ use Rattle.rnc_text.specs.declared.scanning.Part.{Part}
 use Rattle.rnc_text.specs.declared.token.TokenKind.{TokenKind}
 use Rattle.rnc_text.specs.Characters.{number_of, bytes_of, byte_length}
 use Rattle.rnc_text.specs.Tokens.{Piece, gap, token, characters_in, IsPiece}
-use Rattle.rnc_text.specs.Cut.{IsNext, NothingBegins, Cuts, here, next_is, Lexeme, lexemes_at, AreInOrder, HasTokens, BreaksTokensAt}
+use Rattle.rnc_text.specs.Cut.{IsNext, NothingBegins, Cuts, here, next_is, Token, tokens_at, AreInOrder, HasTokens, BreaksTokensAt}
 use Rattle.rnc_text.specs.Answers.{GivesOk, GivesFault, IfBroken}
 use Rattle.rnc_text.specs.CutSteps.{Found, piece_of}
 use Rattle.rnc_text.specs.Cursors.{remaining, FindsPart, said, told}
@@ -102,30 +102,30 @@ one_cut (next_is {cs} {piece = p} {after = after} {pieces = ps} n c e) stops qs 
 pub whole_cut : (cs : List Character) (ps qs : List Piece) → Cuts cs ps [] → Cuts cs qs [] → ps ≡ qs
 whole_cut cs ps qs c d = (one_cut c nothing_in_none qs [] d nothing_in_none).0
 
-tokens_one : (cs : List Character) (ts us : List Lexeme) → HasTokens cs ts → HasTokens cs us → ts ≡ us
-tokens_one cs ts us p q = p.are ∙ ap (lexemes_at 0) (whole_cut cs p.pieces q.pieces p.cut q.cut) ∙ sym q.are
+tokens_one : (cs : List Character) (ts us : List Token) → HasTokens cs ts → HasTokens cs us → ts ≡ us
+tokens_one cs ts us p q = p.are ∙ ap (tokens_at 0) (whole_cut cs p.pieces q.pieces p.cut q.cut) ∙ sym q.are
 
-not_both : (cs : List Character) (ts : List Lexeme) (place : ℕ) → HasTokens cs ts → BreaksTokensAt cs place → ⊥
-not_both cs ts place p q = absurd (omega (arith, q.some, ap length (one_cut p.cut nothing_in_none q.pieces q.rest q.cut q.nothing).1))
+not_both : (cs : List Character) (ts : List Token) (offset : ℕ) → HasTokens cs ts → BreaksTokensAt cs offset → ⊥
+not_both cs ts offset p q = absurd (omega (arith, q.some, ap length (one_cut p.cut nothing_in_none q.pieces q.rest q.cut q.nothing).1))
 
-one_place : (cs : List Character) (place next : ℕ) → BreaksTokensAt cs place → BreaksTokensAt cs next → place ≡ next
-one_place cs place next p q = omega (arith, p.place_is, q.place_is, ap byte_length (one_cut p.cut p.nothing q.pieces q.rest q.cut q.nothing).1)
+one_offset : (cs : List Character) (offset next : ℕ) → BreaksTokensAt cs offset → BreaksTokensAt cs next → offset ≡ next
+one_offset cs offset next p q = omega (arith, p.offset_is, q.offset_is, ap byte_length (one_cut p.cut p.nothing q.pieces q.rest q.cut q.nothing).1)
 
 -- the clause that the characters break
 abbrev pub BreaksFive : List Character → ℕ → ℕ → Type 0
-BreaksFive cs clause place = (clause ≡ 5) × BreaksTokensAt cs place
+BreaksFive cs clause offset = (clause ≡ 5) × BreaksTokensAt cs offset
 
-pub gives_tokens : {X : Type 0} (view : X → List Lexeme) (cs : List Character) (r : Result X TextFault) → IfOk r (λ v. HasTokens cs (view v))
-    → IfErr r (IfBroken (BreaksFive cs)) → (ts : List Lexeme) → HasTokens cs ts → GivesOk view r ts
+pub gives_tokens : {X : Type 0} (view : X → List Token) (cs : List Character) (r : Result X TextFault) → IfOk r (λ v. HasTokens cs (view v))
+    → IfErr r (IfBroken (BreaksFive cs)) → (ts : List Token) → HasTokens cs ts → GivesOk view r ts
 gives_tokens view cs (Ok v) found fault ts is = tokens_one cs (view v) ts found is
 gives_tokens view cs (Err Memory) found fault ts is = tt
 gives_tokens view cs (Err (At c p)) found fault ts is = not_both cs ts p is fault.1
 
-pub gives_five : {X : Type 0} (view : X → List Lexeme) (cs : List Character) (r : Result X TextFault) → IfOk r (λ v. HasTokens cs (view v))
-    → IfErr r (IfBroken (BreaksFive cs)) → (place : ℕ) → BreaksTokensAt cs place → GivesFault r 5 place
-gives_five view cs (Ok v) found fault place is = not_both cs (view v) place found is
-gives_five view cs (Err Memory) found fault place is = tt
-gives_five view cs (Err (At c p)) found fault place is = (fault.0, one_place cs p place fault.1 is)
+pub gives_five : {X : Type 0} (view : X → List Token) (cs : List Character) (r : Result X TextFault) → IfOk r (λ v. HasTokens cs (view v))
+    → IfErr r (IfBroken (BreaksFive cs)) → (offset : ℕ) → BreaksTokensAt cs offset → GivesFault r 5 offset
+gives_five view cs (Ok v) found fault offset is = not_both cs (view v) offset found is
+gives_five view cs (Err Memory) found fault offset is = tt
+gives_five view cs (Err (At c p)) found fault offset is = (fault.0, one_offset cs p offset fault.1 is)
 
 -- ---- the loop
 
@@ -137,25 +137,25 @@ pub ends_push : (start : ℕ) (ps : List Piece) (p : Piece) → ends_at start (p
 ends_push start [] p = refl
 ends_push start (q ∷ ps) p = ends_push (start + byte_length (characters_in q)) ps p
 
-lexemes_push : (start : ℕ) (ps : List Piece) (p : Piece) → lexemes_at start (ps ++ p ∷ []) ≡ lexemes_at start ps ++ lexemes_at (ends_at start ps) (p ∷ [])
-lexemes_push start [] p = refl
-lexemes_push start (gap all ∷ ps) p = lexemes_push (start + byte_length all) ps p
-lexemes_push start (token kind says all ∷ ps) p =
-    ap (λ (x : List Lexeme). record { kind = kind; text = bytes_of says; starts = start; ends = start + byte_length all } ∷ x)
-    (lexemes_push (start + byte_length all) ps p)
+tokens_push : (start : ℕ) (ps : List Piece) (p : Piece) → tokens_at start (ps ++ p ∷ []) ≡ tokens_at start ps ++ tokens_at (ends_at start ps) (p ∷ [])
+tokens_push start [] p = refl
+tokens_push start (gap all ∷ ps) p = tokens_push (start + byte_length all) ps p
+tokens_push start (token kind says all ∷ ps) p =
+    ap (λ (x : List Token). record { kind = kind; text = bytes_of says; starts = start; ends = start + byte_length all } ∷ x)
+    (tokens_push (start + byte_length all) ps p)
 
--- the characters before a place are cut, and these are their tokens
-pub record HasCut (cs : List Character) (tokens : List Lexeme) (place : Cursor) : Type 0 where
+-- the characters before a cursor are cut, and these are their tokens
+pub record HasCut (cs : List Character) (tokens : List Token) (cursor : Cursor) : Type 0 where
   pub pieces : List Piece
-  pub cut : Cuts cs pieces (remaining place)
-  pub are : tokens ≡ lexemes_at 0 pieces
-  pub at : ends_at 0 pieces + length place.rest.now ≡ place.length
-  pub left : byte_length (remaining place) ≡ length place.rest.now
-  pub whole : place.length ≡ byte_length cs
+  pub cut : Cuts cs pieces (remaining cursor)
+  pub are : tokens ≡ tokens_at 0 pieces
+  pub at : ends_at 0 pieces + length cursor.rest.now ≡ cursor.length
+  pub left : byte_length (remaining cursor) ≡ length cursor.rest.now
+  pub whole : cursor.length ≡ byte_length cs
 
-pub cut_none : (cs : List Character) (place : Cursor) → remaining place ≡ cs → place.rest.now ≡ bytes_of cs → place.length ≡ length place.rest.now
-    → HasCut cs [] place
-cut_none cs place rest bytes whole = record {
+pub cut_none : (cs : List Character) (cursor : Cursor) → remaining cursor ≡ cs → cursor.rest.now ≡ bytes_of cs → cursor.length ≡ length cursor.rest.now
+    → HasCut cs [] cursor
+cut_none cs cursor rest bytes whole = record {
   pieces = [];
   cut = here (sym rest);
   are = refl;
@@ -188,39 +188,39 @@ left_after from to part f left =
       length-append (bytes_of all) (bytes_of (remaining to)),
     )
 
-pub cut_on : (cs : List Character) (ts us : List Lexeme) (from to : Cursor) (part : Part) → HasCut cs ts from
-    → (f : FindsPart from part to (piece_of (remaining from))) → us ≡ ts ++ lexemes_at (from.length - length from.rest.now) (f.piece ∷ []) → HasCut cs us to
+pub cut_on : (cs : List Character) (ts us : List Token) (from to : Cursor) (part : Part) → HasCut cs ts from
+    → (f : FindsPart from part to (piece_of (remaining from))) → us ≡ ts ++ tokens_at (from.length - length from.rest.now) (f.piece ∷ []) → HasCut cs us to
 cut_on cs ts us from to part h f e =
     let all = characters_in f.piece in
     let start : from.length - length from.rest.now ≡ ends_at 0 h.pieces = omega (arith, h.at) in
     record {
       pieces = h.pieces ++ f.piece ∷ [];
       cut = cuts_then h.cut f.piece (remaining to) (found_next (remaining from) f.piece (remaining to) f.is);
-      are = e ∙ ap (λ (x : List Lexeme). x ++ lexemes_at (from.length - length from.rest.now) (f.piece ∷ [])) h.are
-          ∙ ap (λ (n : ℕ). lexemes_at 0 h.pieces ++ lexemes_at n (f.piece ∷ [])) start ∙ sym (lexemes_push 0 h.pieces f.piece);
+      are = e ∙ ap (λ (x : List Token). x ++ tokens_at (from.length - length from.rest.now) (f.piece ∷ [])) h.are
+          ∙ ap (λ (n : ℕ). tokens_at 0 h.pieces ++ tokens_at n (f.piece ∷ [])) start ∙ sym (tokens_push 0 h.pieces f.piece);
       at = omega (arith, h.at, f.past.whole, ends_push 0 h.pieces f.piece, ap length f.past.bytes, length-append (bytes_of all) to.rest.now);
       left = left_after from to part f h.left;
       whole = f.past.whole ∙ h.whole;
     }
 
 -- what a gap leaves, and what a token gives
-gap_of : (p : Piece) (start : ℕ) → None ≡ said p → lexemes_at start (p ∷ []) ≡ []
-gap_of (gap all) start e = refl
-gap_of (token kind says all) start e = absurd (none-some _ e)
+gap_gives : (p : Piece) (start : ℕ) → None ≡ said p → tokens_at start (p ∷ []) ≡ []
+gap_gives (gap all) start e = refl
+gap_gives (token kind says all) start e = absurd (none-some _ e)
 
-token_of : (p : Piece) (start : ℕ) (kind : TokenKind) (text : List ℕ) → ◌≡◌ {A = Option (TokenKind × List ℕ)} (Some (kind, text)) (said p)
-    → lexemes_at start (p ∷ []) ≡ record { kind = kind; text = text; starts = start; ends = start + byte_length (characters_in p) } ∷ []
-token_of (gap all) start kind text e = absurd (none-some _ (sym e))
-token_of (token k says all) start kind text e = let s = some_pair_parts _ _ _ _ e in
+token_gives : (p : Piece) (start : ℕ) (kind : TokenKind) (text : List ℕ) → ◌≡◌ {A = Option (TokenKind × List ℕ)} (Some (kind, text)) (said p)
+    → tokens_at start (p ∷ []) ≡ record { kind = kind; text = text; starts = start; ends = start + byte_length (characters_in p) } ∷ []
+token_gives (gap all) start kind text e = absurd (none-some _ (sym e))
+token_gives (token k says all) start kind text e = let s = some_pair_parts _ _ _ _ e in
     ap (λ (k : TokenKind). (record { kind = k; text = bytes_of says; starts = start; ends = start + byte_length all } ∷ [])) (sym s.0)
     ∙ ap (λ (t : List ℕ). (record { kind = kind; text = t; starts = start; ends = start + byte_length all } ∷ [])) (sym s.1)
 
-pub cut_gap : (cs : List Character) (ts : List Lexeme) (from to : Cursor) (part : Part) → HasCut cs ts from → told part ≡ None
+pub cut_gap : (cs : List Character) (ts : List Token) (from to : Cursor) (part : Part) → HasCut cs ts from → told part ≡ None
     → FindsPart from part to (piece_of (remaining from)) → HasCut cs ts to
 cut_gap cs ts from to part h none f =
-    cut_on cs ts ts from to part h f (sym (ap (λ (x : List Lexeme). ts ++ x) (gap_of f.piece _ (sym none ∙ f.says)) ∙ append-nil ts))
+    cut_on cs ts ts from to part h f (sym (ap (λ (x : List Token). ts ++ x) (gap_gives f.piece _ (sym none ∙ f.says)) ∙ append-nil ts))
 
-pub cut_token : (cs : List Character) (ts us : List Lexeme) (from to : Cursor) (part : Part) (kind : TokenKind) (text : List ℕ) (start end : ℕ)
+pub cut_token : (cs : List Character) (ts us : List Token) (from to : Cursor) (part : Part) (kind : TokenKind) (text : List ℕ) (start end : ℕ)
     → HasCut cs ts from → told part ≡ Some (kind, text) → (f : FindsPart from part to (piece_of (remaining from))) → start ≡ from.length - length from.rest.now
     → end ≡ to.length - length to.rest.now → us ≡ ts ++ record { kind = kind; text = text; starts = start; ends = end } ∷ [] → HasCut cs us to
 cut_token cs ts us from to part kind text start end h is f s e new =
@@ -230,25 +230,25 @@ cut_token cs ts us from to part kind text start end h is f s e new =
     cut_on cs ts us from to part h f (new
     ∙ ap (λ (n : ℕ). ts ++ record { kind = kind; text = text; starts = n; ends = end } ∷ []) s
     ∙ ap (λ (n : ℕ). ts ++ record { kind = kind; text = text; starts = from.length - length from.rest.now; ends = n } ∷ []) end-is
-    ∙ ap (λ (x : List Lexeme). ts ++ x) (sym (token_of f.piece _ kind text (sym is ∙ f.says))))
+    ∙ ap (λ (x : List Token). ts ++ x) (sym (token_gives f.piece _ kind text (sym is ∙ f.says))))
 
-pub cut_done : (cs : List Character) (ts : List Lexeme) (place : Cursor) → HasCut cs ts place → length place.rest.now ≡ 0 → HasTokens cs ts
-cut_done cs ts place h e =
-    record { pieces = h.pieces; cut = subst (λ (x : List Character). Cuts cs h.pieces x) (no_characters (remaining place) (h.left ∙ e)) h.cut; are = h.are }
+pub cut_done : (cs : List Character) (ts : List Token) (cursor : Cursor) → HasCut cs ts cursor → length cursor.rest.now ≡ 0 → HasTokens cs ts
+cut_done cs ts cursor h e =
+    record { pieces = h.pieces; cut = subst (λ (x : List Character). Cuts cs h.pieces x) (no_characters (remaining cursor) (h.left ∙ e)) h.cut; are = h.are }
   where
     no_characters : (cs : List Character) → byte_length cs ≡ 0 → cs ≡ []
     no_characters [] e = refl
     no_characters (c ∷ cs) e = absurd (omega (arith, e, some_bytes (c ∷ cs) (omega arith)))
 
-pub cut_stops : (cs : List Character) (ts : List Lexeme) (place : Cursor) → HasCut cs ts place → 0 < length place.rest.now → piece_of (remaining place) ≡ None
-    → BreaksTokensAt cs (place.length - length place.rest.now)
-cut_stops cs ts place h lt none = record {
+pub cut_stops : (cs : List Character) (ts : List Token) (cursor : Cursor) → HasCut cs ts cursor → 0 < length cursor.rest.now
+    → piece_of (remaining cursor) ≡ None → BreaksTokensAt cs (cursor.length - length cursor.rest.now)
+cut_stops cs ts cursor h lt none = record {
   pieces = h.pieces;
-  rest = remaining place;
+  rest = remaining cursor;
   cut = h.cut;
-  some = some_characters (remaining place) (omega (arith, lt, h.left));
-  nothing = none_begins (remaining place) none;
-  place_is = omega (arith, h.left, h.at, h.whole);
+  some = some_characters (remaining cursor) (omega (arith, lt, h.left));
+  nothing = none_begins (remaining cursor) none;
+  offset_is = omega (arith, h.left, h.at, h.whole);
 }
   where
     some_characters : (cs : List Character) → 0 < byte_length cs → 0 < length cs
@@ -257,18 +257,18 @@ cut_stops cs ts place h lt none = record {
 
 -- ---- spans
 
-order_piece : (p : Piece) (ps : List Piece) (start n : ℕ) → start ≤ n → IsPiece p → ((start n : ℕ) → start ≤ n → AreInOrder start (lexemes_at n ps))
-    → AreInOrder start (lexemes_at n (p ∷ ps))
+order_piece : (p : Piece) (ps : List Piece) (start n : ℕ) → start ≤ n → IsPiece p → ((start n : ℕ) → start ≤ n → AreInOrder start (tokens_at n ps))
+    → AreInOrder start (tokens_at n (p ∷ ps))
 order_piece (gap all) ps start n le is more = more start (n + byte_length all) (omega (arith, le))
 order_piece (token kind says all) ps start n le is more =
     (le, omega (arith, some_bytes all (piece_takes (token kind says all) is)), more (n + byte_length all) (n + byte_length all) (omega arith))
 
-order_of : {cs : List Character} {ps : List Piece} {rest : List Character} → Cuts cs ps rest → (start n : ℕ) → start ≤ n → AreInOrder start (lexemes_at n ps)
+order_of : {cs : List Character} {ps : List Piece} {rest : List Character} → Cuts cs ps rest → (start n : ℕ) → start ≤ n → AreInOrder start (tokens_at n ps)
 order_of (here e) start n le = tt
 order_of (next_is {piece = p} {pieces = ps} m c e) start n le =
-    subst (λ (x : List Piece). AreInOrder start (lexemes_at n x)) (sym e) (order_piece p ps start n le m.is (λ start n le. order_of c start n le))
+    subst (λ (x : List Piece). AreInOrder start (tokens_at n x)) (sym e) (order_piece p ps start n le m.is (λ start n le. order_of c start n le))
 
-pub in_order : {X : Type 0} (view : X → List Lexeme) (cs : List Character) (r : Result X TextFault) → IfOk r (λ v. HasTokens cs (view v))
+pub in_order : {X : Type 0} (view : X → List Token) (cs : List Character) (r : Result X TextFault) → IfOk r (λ v. HasTokens cs (view v))
     → IfOk r (λ v. AreInOrder 0 (view v))
 in_order view cs (Ok v) h = subst (AreInOrder 0) (sym h.are) (order_of h.cut 0 0 (omega arith))
 in_order view cs (Err e) h = tt

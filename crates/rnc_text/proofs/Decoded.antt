@@ -1,4 +1,4 @@
--- Characters one after the other, that there is one decoding, and one place at which it stops.
+-- Characters one after the other, that there is one decoding, and one offset at which it stops.
 use Rattle.std.proofs.Common.{◌≡◌, ℕ, ◌+◌, ◌<◌, false, eqb, inl, inr, List, [], ◌∷◌, ◌++◌, length, Result, Ok, Err, refl, sym, ap, subst, ◌∙◌, arith}
 use Rattle.std.proofs.Common.{append_assoc}
 use Rattle.std.specs.Prelude.{IfOk, IfErr}
@@ -8,10 +8,8 @@ use Rattle.std.proofs.lemmas.Str.{encodes-chars, scalars-chars, encodes_same, ut
 use Rattle.rnc_text.specs.Decoding.{Begins, carriage_return_line_feed, carriage_return, line_feed, escape, other, Decodes, here, next_is, IsSpelling, IsDecoded}
 use Rattle.rnc_text.specs.Decoding.{BreaksCharactersAt, BreaksTextAt}
 use Rattle.rnc_text.specs.Answers.{GivesOk, GivesFault, IfBroken}
-use Rattle.rnc_text.specs.Held.{characters_of}
 use Rattle.rnc_text.proofs.Fronts.{begins_one, begins_none}
 use Rattle.rnc_text.specs.declared.character.Character.{Character}
-use Rattle.rnc_text.specs.declared.text.Text.{Text}
 use Rattle.rnc_text.specs.declared.fault.TextFault.{TextFault}
 use Rattle.rnc_text.specs.declared.fault.TextFault.TheVariants.{At, Memory}
 
@@ -48,40 +46,40 @@ decoded_one bytes cs ds p q =
     let e = spelling_one bytes p.numbers q.numbers p.spelling q.spelling in
     (one_decoding p.decoded begins_none ds [] (subst (λ (ns : List ℕ). Decodes ns ds []) (sym e) q.decoded) begins_none).0
 
-not_both : (bytes : List ℕ) (cs : List Character) (place : ℕ) → IsDecoded bytes cs → BreaksCharactersAt bytes place → ⊥
-not_both bytes cs place p q =
+not_both : (bytes : List ℕ) (cs : List Character) (offset : ℕ) → IsDecoded bytes cs → BreaksCharactersAt bytes offset → ⊥
+not_both bytes cs offset p q =
     let e = spelling_one bytes p.numbers q.numbers p.spelling q.spelling in
     let same = one_decoding p.decoded begins_none q.front q.rest (subst (λ (ns : List ℕ). Decodes ns q.front q.rest) (sym e) q.decoded) q.nothing in
     absurd (omega (arith, ap length same.1, q.some))
 
-one_place : (bytes : List ℕ) (place second : ℕ) → BreaksCharactersAt bytes place → BreaksCharactersAt bytes second → place ≡ second
-one_place bytes place second p q =
+one_offset : (bytes : List ℕ) (offset second : ℕ) → BreaksCharactersAt bytes offset → BreaksCharactersAt bytes second → offset ≡ second
+one_offset bytes offset second p q =
     let e = spelling_one bytes p.numbers q.numbers p.spelling q.spelling in
     let same = one_decoding p.decoded p.nothing q.front q.rest (subst (λ (ns : List ℕ). Decodes ns q.front q.rest) (sym e) q.decoded) q.nothing in
-    omega (arith, p.place_is, q.place_is, ap (λ (x : List ℕ). length (encode_utf8_all x)) same.1)
+    omega (arith, p.offset_is, q.offset_is, ap (λ (x : List ℕ). length (encode_utf8_all x)) same.1)
 
-not_decoded : (bytes : List ℕ) (cs : List Character) (clause place : ℕ) → IsDecoded bytes cs → BreaksTextAt bytes clause place → ⊥
-not_decoded bytes cs clause place p (inl q) = q.1.0 (spelling_utf8 bytes p.numbers p.spelling)
-not_decoded bytes cs clause place p (inr q) = not_both bytes cs place p q.1
+not_decoded : (bytes : List ℕ) (cs : List Character) (clause offset : ℕ) → IsDecoded bytes cs → BreaksTextAt bytes clause offset → ⊥
+not_decoded bytes cs clause offset p (inl q) = q.1.0 (spelling_utf8 bytes p.numbers p.spelling)
+not_decoded bytes cs clause offset p (inr q) = not_both bytes cs offset p q.1
 
 pub fault_one : (bytes : List ℕ) (c p d q : ℕ) → BreaksTextAt bytes c p → BreaksTextAt bytes d q → (c ≡ d) × (p ≡ q)
 fault_one bytes c p d q (inl a) (inl b) = (a.0 ∙ sym b.0, sym (utf8_valid_len-IsValidUpTo bytes p a.1.1) ∙ utf8_valid_len-IsValidUpTo bytes q b.1.1)
 fault_one bytes c p d q (inl a) (inr b) = absurd (a.1.0 (spelling_utf8 bytes b.1.numbers b.1.spelling))
 fault_one bytes c p d q (inr a) (inl b) = absurd (b.1.0 (spelling_utf8 bytes a.1.numbers a.1.spelling))
-fault_one bytes c p d q (inr a) (inr b) = (a.0 ∙ sym b.0, one_place bytes p q a.1 b.1)
+fault_one bytes c p d q (inr a) (inr b) = (a.0 ∙ sym b.0, one_offset bytes p q a.1 b.1)
 
 -- what a call answers, by what it found
-pub gives_text : (bytes : List ℕ) (r : Result Text TextFault) → IfOk r (λ t. IsDecoded bytes (characters_of t)) → IfErr r (IfBroken (BreaksTextAt bytes))
-    → (cs : List Character) → IsDecoded bytes cs → GivesOk characters_of r cs
-gives_text bytes (Ok t) found fault cs is = decoded_one bytes (characters_of t) cs found is
+pub gives_text : (bytes : List ℕ) (r : Result (List Character) TextFault) → IfOk r (IsDecoded bytes) → IfErr r (IfBroken (BreaksTextAt bytes))
+    → (cs : List Character) → IsDecoded bytes cs → GivesOk (λ t. t) r cs
+gives_text bytes (Ok t) found fault cs is = decoded_one bytes t cs found is
 gives_text bytes (Err Memory) found fault cs is = tt
 gives_text bytes (Err (At c p)) found fault cs is = not_decoded bytes cs c p is fault
 
-pub gives_fault : (bytes : List ℕ) (r : Result Text TextFault) → IfOk r (λ t. IsDecoded bytes (characters_of t)) → IfErr r (IfBroken (BreaksTextAt bytes))
-    → (clause place : ℕ) → BreaksTextAt bytes clause place → GivesFault r clause place
-gives_fault bytes (Ok t) found fault clause place is = not_decoded bytes (characters_of t) clause place found is
-gives_fault bytes (Err Memory) found fault clause place is = tt
-gives_fault bytes (Err (At c p)) found fault clause place is = fault_one bytes c p clause place fault is
+pub gives_fault : (bytes : List ℕ) (r : Result (List Character) TextFault) → IfOk r (IsDecoded bytes) → IfErr r (IfBroken (BreaksTextAt bytes))
+    → (clause offset : ℕ) → BreaksTextAt bytes clause offset → GivesFault r clause offset
+gives_fault bytes (Ok t) found fault clause offset is = not_decoded bytes t clause offset found is
+gives_fault bytes (Err Memory) found fault clause offset is = tt
+gives_fault bytes (Err (At c p)) found fault clause offset is = fault_one bytes c p clause offset fault is
 
 -- ---- at the characters of a text
 
@@ -91,9 +89,9 @@ text_spelling bs u = record { scalars = scalars-chars bs u; spelled = encodes-ch
 pub text_decoded : (bs : List ℕ) (cs : List Character) (rest : List ℕ) → IsUtf8 bs → Decodes (chars bs) cs rest → rest ≡ [] → IsDecoded bs cs
 text_decoded bs cs rest u d e = record { numbers = chars bs; spelling = text_spelling bs u; decoded = subst (λ (r : List ℕ). Decodes (chars bs) cs r) e d }
 
-pub text_broken : (bs rest : List ℕ) (cs : List Character) (place : ℕ) → IsUtf8 bs → IsUtf8 rest → Decodes (chars bs) cs (chars rest) → 0 < length (chars rest)
-    → Stops (chars rest) → place + length rest ≡ length bs → BreaksCharactersAt bs place
-text_broken bs rest cs place u v d some stops is =
+pub text_broken : (bs rest : List ℕ) (cs : List Character) (offset : ℕ) → IsUtf8 bs → IsUtf8 rest → Decodes (chars bs) cs (chars rest) → 0 < length (chars rest)
+    → Stops (chars rest) → offset + length rest ≡ length bs → BreaksCharactersAt bs offset
+text_broken bs rest cs offset u v d some stops is =
     record {
       numbers = chars bs;
       spelling = text_spelling bs u;
@@ -102,7 +100,7 @@ text_broken bs rest cs place u v d some stops is =
       decoded = d;
       some = some;
       nothing = stops;
-      place_is = omega (arith, is, ap length (encodes-chars rest v));
+      offset_is = omega (arith, is, ap length (encodes-chars rest v));
     }
 
 pub some_chars : (bs : List ℕ) → IsUtf8 bs → 0 < length bs → 0 < length (chars bs)

@@ -8,7 +8,7 @@ use Rattle.std.proofs.lemmas.Bool.{eqb-true, eq-eqb, ne_eqb}
 use Rattle.std.proofs.lemmas.List.{length-append, append-nil}
 use Rattle.std.proofs.lemmas.Str.{encodes-append, encodes_same, encodes-chars, length-le-encodes}
 use Rattle.rnc_text.specs.Characters.{number_of, numbers_of, bytes_of}
-use Rattle.rnc_text.specs.Held.{unmarked, marked, unused}
+use Rattle.rnc_text.specs.Held.{unmarked, marked, unused, with_marks, AreMarks}
 use Rattle.rnc_text.specs.declared.character.Character.{Character}
 use Rattle.rnc_text.specs.declared.character.Character.TheVariants.{Ordinary}
 
@@ -32,8 +32,12 @@ numbers_marked whole (m ∷ ms) (c ∷ cs) =
     numbers_step whole m c ms cs true e p q = rw e (ap (λ (x : List ℕ). c ∷ x) p)
     numbers_step whole m c ms cs false e p q = rw e (let a = number_unmarked c in cc)
 
-pub bytes_kept : (whole : ℕ) (ms bs : List ℕ) → IsUtf8 bs → bs ≡ bytes_of (marked whole ms (chars bs))
-bytes_kept whole ms bs u = rw (numbers_marked whole ms (chars bs)) (sym (encodes-chars bs u))
+pub bytes_kept : (bs ms : List ℕ) → IsUtf8 bs → bs ≡ bytes_of (with_marks bs ms)
+bytes_kept bs ms u = rw (numbers_marked (length bs) ms (chars bs)) (sym (encodes-chars bs u))
+
+-- the marks of a text, with its bytes, have its characters
+pub marks_kept : (bs ms : List ℕ) (cs : List Character) → IsUtf8 bs → with_marks bs ms ≡ cs → with_marks (bytes_of cs) ms ≡ cs
+marks_kept bs ms cs u e = ap (λ (x : List ℕ). with_marks x ms) (sym (bytes_kept bs ms u ∙ ap bytes_of e)) ∙ e
 
 -- ---- one more character
 
@@ -134,27 +138,27 @@ chars_push old new c u v e =
 
 -- the bytes after and before, with the marks, have the character more and leave no mark
 pub record Grows (old new : List ℕ) (before after : List ℕ) (c : Character) : Type 0 where
-  pub is : marked (length new) after (chars new) ≡ marked (length old) before (chars old) ++ c ∷ []
-  pub used : unused (length new) after (chars new) ≡ []
+  pub is : with_marks new after ≡ with_marks old before ++ c ∷ []
+  pub are : AreMarks new after
 
-pub grows_plain : (old new ms : List ℕ) (c : ℕ) → IsUtf8 old → IsUtf8 new → new ≡ old ++ encode_utf8 c → unused (length old) ms (chars old) ≡ []
+pub grows_plain : (old new ms : List ℕ) (c : ℕ) → IsUtf8 old → IsUtf8 new → new ≡ old ++ encode_utf8 c → AreMarks old ms
     → Grows old new ms ms (unmarked c)
 grows_plain old new ms c u v e used =
     let len : length new ≡ length old + length (encode_utf8 c) = ap length e ∙ length-append _ _ in
     let p = plain (length old) c ms (chars old) used in
-    record { is = rw (chars_push old new c u v e, len) p.is; used = rw (chars_push old new c u v e, len) p.used }
+    record { is = rw (chars_push old new c u v e, len) p.is; are = rw (chars_push old new c u v e, len) p.used }
 
 pub grows_marked : (old new ms after : List ℕ) (c : ℕ) → IsUtf8 old → IsUtf8 new → new ≡ old ++ encode_utf8 c → after ≡ ms ++ length old ∷ []
-    → unused (length old) ms (chars old) ≡ [] → Grows old new ms after (Ordinary c)
+    → AreMarks old ms → Grows old new ms after (Ordinary c)
 grows_marked old new ms after c u v e marks used =
     let len : length new ≡ length old + length (encode_utf8 c) = ap length e ∙ length-append _ _ in
     let p = with_mark (length old) c ms (chars old) (omega (arith, ap length (encodes-chars old u))) used in
-    record { is = rw (chars_push old new c u v e, len, marks) p.is; used = rw (chars_push old new c u v e, len, marks) p.used }
+    record { is = rw (chars_push old new c u v e, len, marks) p.is; are = rw (chars_push old new c u v e, len, marks) p.used }
 
 pub unmarked_other : (c : ℕ) → (c ≡ 10 → ⊥) → unmarked c ≡ Ordinary c
 unmarked_other c h = rw (ne_eqb c 10 h) refl
 
-pub nothing_kept : (bs ms : List ℕ) → bs ≡ [] → ms ≡ [] → (marked (length bs) ms (chars bs) ≡ []) × (unused (length bs) ms (chars bs) ≡ [])
+pub nothing_kept : (bs ms : List ℕ) → bs ≡ [] → ms ≡ [] → (with_marks bs ms ≡ []) × AreMarks bs ms
 unfolding marked unused chars
 nothing_kept bs ms e f = rw (e, f) (refl, refl)
 
@@ -162,13 +166,15 @@ pub if_ok : {X E P : Type 0} (r : Result X E) → (is_ok r ≡ true → P) → I
 if_ok (Ok x) f = f refl
 if_ok (Err e) f = tt
 
--- a push that did not fail
-pub pushed_plain : {X E : Type 0} (r : Result X E) (old new ms : List ℕ) (c : ℕ) (d : Character) → new ≡ cond (is_ok r) (old ++ encode_utf8 c) old → IsUtf8 old
-    → IsUtf8 new → unused (length old) ms (chars old) ≡ [] → unmarked c ≡ d → is_ok r ≡ true → Grows old new ms ms d
-pushed_plain r old new ms c d bytes u v used is ok = subst (λ (d : Character). Grows old new ms ms d) is (grows_plain old new ms c u v (rw ok at bytes) used)
+-- a character that was pushed, unless memory ran out, where no mark is put
+pub pushed : {X E : Type 0} (r : Result X E) (old new ms : List ℕ) (c : ℕ) (d : Character) (cs : List Character)
+    → new ≡ cond (is_ok r) (old ++ encode_utf8 c) old → IsUtf8 old → IsUtf8 new → AreMarks old ms → unmarked c ≡ d → with_marks old ms ≡ cs
+    → IfOk r (λ _. with_marks new ms ≡ cs ++ d ∷ [])
+pushed (Ok x) old new ms c d cs e u v are is before =
+    (grows_plain old new ms c u v e are).is ∙ ap (λ (x : List Character). x ++ unmarked c ∷ []) before ∙ ap (λ (d : Character). cs ++ d ∷ []) is
+pushed (Err x) old new ms c d cs e u v are is before = tt
 
-pub pushed_marked : {X E : Type 0} (r : Result X E) (old new ms after : List ℕ) (c : ℕ) (d : Character) → new ≡ cond (is_ok r) (old ++ encode_utf8 c) old
-    → after ≡ ms ++ length old ∷ [] → IsUtf8 old → IsUtf8 new → unused (length old) ms (chars old) ≡ [] → Ordinary c ≡ d → is_ok r ≡ true
-    → Grows old new ms after d
-pushed_marked r old new ms after c d bytes marks u v used is ok =
-    subst (λ (d : Character). Grows old new ms after d) is (grows_marked old new ms after c u v (rw ok at bytes) marks used)
+pub still_marks : {X E : Type 0} (r : Result X E) (old new ms : List ℕ) (c : ℕ) → new ≡ cond (is_ok r) (old ++ encode_utf8 c) old → IsUtf8 old → IsUtf8 new
+    → AreMarks old ms → AreMarks new ms
+still_marks (Ok x) old new ms c e u v are = (grows_plain old new ms c u v e are).are
+still_marks (Err x) old new ms c e u v are = subst (λ (bs : List ℕ). AreMarks bs ms) (sym e) are

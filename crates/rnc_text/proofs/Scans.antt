@@ -130,7 +130,7 @@ looks_end quote from end w e = w.found ∙ ap (with_before w.before) (ap (until_
 
 -- ---- the pieces
 
--- a token with what it says, between two places
+-- a token with what it says, between two cursors
 pub finds_token : (from to : Cursor) (part : Part) (found : Found) (kind : TokenKind) (says all : List Character)
     → found ≡ Some (token kind says all, remaining to) → IsPast from all to → told part ≡ Some (kind, bytes_of says) → FindsPart from part to found
 finds_token from to part found kind says all is past told = record { piece = token kind says all; is = is; past = past; says = told }
@@ -139,7 +139,7 @@ pub finds_gap : (from to : Cursor) (part : Part) (found : Found) (all : List Cha
     → told part ≡ None → FindsPart from part to found
 finds_gap from to part found all is past told = record { piece = gap all; is = is; past = past; says = told }
 
--- the place that a piece ends at, another by the same name
+-- the cursor that a piece ends at, another by the same name
 pub finds_at : (from to end : Cursor) (part : Part) (found : Found) → end ≡ to → FindsPart from part to found → FindsPart from part end found
 finds_at from to end part found e f = subst (λ (x : Cursor). FindsPart from part x found) (sym e) f
 

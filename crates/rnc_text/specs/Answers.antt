@@ -7,15 +7,15 @@ use Rattle.rnc_text.specs.declared.fault.TextFault.TheVariants.{At, Memory}
 abbrev pub GivesOk : {X Y : Type 0} → (X → Y) → Result X TextFault → Y → Type 0
 GivesOk view (Ok x) y = view x ≡ y
 GivesOk view (Err Memory) y = Unit {0}
-GivesOk view (Err (At clause place)) y = ⊥
+GivesOk view (Err (At clause offset)) y = ⊥
 
--- the answer is this clause at this place
+-- the answer is this clause at this offset
 abbrev pub GivesFault : {X : Type 0} → Result X TextFault → ℕ → ℕ → Type 0
-GivesFault (Ok x) c p = ⊥
-GivesFault (Err Memory) c p = Unit {0}
-GivesFault (Err (At clause place)) c p = (clause ≡ c) × (place ≡ p)
+GivesFault (Ok x) c o = ⊥
+GivesFault (Err Memory) c o = Unit {0}
+GivesFault (Err (At clause offset)) c o = (clause ≡ c) × (offset ≡ o)
 
--- a fault of a clause has that clause broken at its place
+-- a fault of a clause has that clause broken at its offset
 abbrev pub IfBroken : (ℕ → ℕ → Type 0) → TextFault → Type 0
 IfBroken Breaks Memory = Unit {0}
-IfBroken Breaks (At clause place) = Breaks clause place
+IfBroken Breaks (At clause offset) = Breaks clause offset

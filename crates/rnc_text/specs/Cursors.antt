@@ -1,4 +1,4 @@
--- Places in a decoded text, and what the functions of `src/scanning.rt` find there.
+-- Cursors in a decoded text, and what the functions of `src/scanning.rt` find there.
 use Rattle.std.specs.Prelude.{◌≡◌, ℕ, List, [], ◌++◌, Option, Some, None}
 use Rattle.std.specs.Str.{chars}
 use Rattle.rnc_text.specs.declared.character.Character.{Character}
@@ -11,11 +11,11 @@ use Rattle.rnc_text.specs.Held.{marked}
 use Rattle.rnc_text.specs.Tokens.{Piece, gap, token, characters_in, three}
 use Rattle.rnc_text.specs.CutSteps.{Found}
 
--- the characters from a place on
+-- the characters from a cursor on
 abbrev pub remaining : Cursor → List Character
 remaining c = marked c.length c.escaped.now (chars c.rest.now)
 
--- these characters stand between two places
+-- these characters stand between two cursors
 pub record IsPast (from : Cursor) (taken : List Character) (to : Cursor) : Type 0 where
   pub rest : remaining from ≡ taken ++ remaining to
   pub bytes : from.rest.now ≡ bytes_of taken ++ to.rest.now
@@ -35,7 +35,7 @@ abbrev pub told : Part → Option (TokenKind × List ℕ)
 told parts.Gap = None
 told (parts.Token kind text) = Some (kind, text.now)
 
--- the part ends at a place, and is the piece that was to be found
+-- the part ends at a cursor, and is the piece that was to be found
 pub record FindsPart (from : Cursor) (part : Part) (to : Cursor) (found : Found) : Type 0 where
   pub piece : Piece
   pub is : found ≡ Some (piece, remaining to)
@@ -46,12 +46,12 @@ abbrev pub Finds : Cursor → Option (Part × Cursor) → Found → Type 0
 Finds from None found = found ≡ None
 Finds from (Some x) found = FindsPart from x.0 x.1 found
 
--- a place behind others is found, and these characters stand between
+-- a cursor behind another is found, and these characters stand between
 abbrev pub FindsBehind : Cursor → Option Cursor → List Character → Option (List Character) → Type 0
 FindsBehind from None taken found = found ≡ None
 FindsBehind from (Some to) taken found = (found ≡ Some (remaining to)) × IsPast from taken to
 
--- the content before three quotes is found, and the place behind them
+-- the content before three quotes is found, and the cursor behind them
 pub record FindsThree (from : Cursor) (end : Cursor) (to : Cursor) (quote : ℕ) (found : Option (List Character × List Character)) : Type 0 where
   pub content : List Character
   pub is : found ≡ Some (content, remaining to)

@@ -1,11 +1,11 @@
--- The cut of a text into blanks, comments and tokens, each the longest that begins at its place
+-- The cut of a text into blanks, comments and tokens, each the longest that begins at its offset
 -- (RELAX NG Compact Syntax, "Lexical structure").
 use Rattle.std.specs.Prelude.{◌≡◌, ℕ, ◌+◌, ◌<◌, ◌≤◌, List, [], ◌∷◌, ◌++◌, length, map}
 use Rattle.rnc_text.specs.Characters.{bytes_of, byte_length}
 use Rattle.rnc_text.specs.Tokens.{Piece, gap, token, characters_in, IsPiece}
 use Rattle.rnc_text.specs.declared.character.Character.{Character}
 use Rattle.rnc_text.specs.declared.token.TokenKind.{TokenKind}
-use Rattle.rnc_text.specs.declared.token.Token.{Token}
+use Rattle.rnc_text.specs.declared.token.Token as declared
 
 -- the characters begin with the piece, the rest follows it, and no longer front of them is a piece
 pub record IsNext (cs : List Character) (piece : Piece) (rest : List Character) : Type 0 where
@@ -25,41 +25,42 @@ pub data Cuts : List Character → List Piece → List Character → Type 0 wher
       → IsNext cs piece after → Cuts after pieces rest → all ≡ piece ∷ pieces → Cuts cs all rest
 
 -- a token: its kind, what it says, and the offsets in the decoded text at which the whole of it starts and ends, all in bytes
-pub record Lexeme : Type 0 where
+pub record Token : Type 0 where
   pub kind : TokenKind
   pub text : List ℕ
   pub starts : ℕ
   pub ends : ℕ
 
-abbrev pub lexeme_of : Token → Lexeme
-lexeme_of t = record { kind = t.kind; text = t.text.now; starts = t.start; ends = t.end }
+-- a token of the code, apart from where it lies in memory
+abbrev pub token_of : declared.Token → Token
+token_of t = record { kind = t.kind; text = t.text.now; starts = t.start; ends = t.end }
 
-abbrev pub lexemes_of : List Token → List Lexeme
-lexemes_of ts = map lexeme_of ts
+abbrev pub tokens_of : List declared.Token → List Token
+tokens_of ts = map token_of ts
 
 -- the tokens among pieces of which the first starts at an offset
-abbrev pub lexemes_at : ℕ → List Piece → List Lexeme
-lexemes_at start [] = []
-lexemes_at start (gap all ∷ pieces) = lexemes_at (start + byte_length all) pieces
-lexemes_at start (token kind says all ∷ pieces) =
-    record { kind = kind; text = bytes_of says; starts = start; ends = start + byte_length all } ∷ lexemes_at (start + byte_length all) pieces
+abbrev pub tokens_at : ℕ → List Piece → List Token
+tokens_at start [] = []
+tokens_at start (gap all ∷ pieces) = tokens_at (start + byte_length all) pieces
+tokens_at start (token kind says all ∷ pieces) =
+    record { kind = kind; text = bytes_of says; starts = start; ends = start + byte_length all } ∷ tokens_at (start + byte_length all) pieces
 
 -- these are the tokens of the characters
-pub record HasTokens (cs : List Character) (tokens : List Lexeme) : Type 0 where
+pub record HasTokens (cs : List Character) (tokens : List Token) : Type 0 where
   pub pieces : List Piece
   pub cut : Cuts cs pieces []
-  pub are : tokens ≡ lexemes_at 0 pieces
+  pub are : tokens ≡ tokens_at 0 pieces
 
--- clause S5: the characters up to the place are cut, and there nothing begins
-pub record BreaksTokensAt (cs : List Character) (place : ℕ) : Type 0 where
+-- clause S5: the characters up to the offset are cut, and there nothing begins
+pub record BreaksTokensAt (cs : List Character) (offset : ℕ) : Type 0 where
   pub pieces : List Piece
   pub rest : List Character
   pub cut : Cuts cs pieces rest
   pub some : 0 < length rest
   pub nothing : NothingBegins rest
-  pub place_is : place + byte_length rest ≡ byte_length cs
+  pub offset_is : offset + byte_length rest ≡ byte_length cs
 
 -- each token starts no earlier than the one before it ends, and has some bytes
-abbrev pub AreInOrder : ℕ → List Lexeme → Type 0
+abbrev pub AreInOrder : ℕ → List Token → Type 0
 AreInOrder start [] = Unit {0}
 AreInOrder start (t ∷ ts) = (start ≤ t.starts) × (t.starts < t.ends) × AreInOrder t.ends ts

@@ -58,12 +58,12 @@ pub record IsDecoded (bytes : List ℕ) (characters : List Character) : Type 0 w
   pub spelling : IsSpelling bytes numbers
   pub decoded : Decodes numbers characters []
 
--- clause S3: the bytes are not UTF-8, and the longest front that is ends at the place
+-- clause S3: the bytes are not UTF-8, and the longest front that is ends at the offset
 abbrev pub BreaksUtf8At : List ℕ → ℕ → Type 0
-BreaksUtf8At bytes place = ¬ (IsUtf8 bytes) × IsValidUpTo bytes place
+BreaksUtf8At bytes offset = ¬ (IsUtf8 bytes) × IsValidUpTo bytes offset
 
--- clause S4: the bytes are UTF-8, and at the place, up to which they are characters, no character begins
-pub record BreaksCharactersAt (bytes : List ℕ) (place : ℕ) : Type 0 where
+-- clause S4: the bytes are UTF-8, and at the offset, up to which they are characters, no character begins
+pub record BreaksCharactersAt (bytes : List ℕ) (offset : ℕ) : Type 0 where
   pub numbers : List ℕ
   pub spelling : IsSpelling bytes numbers
   pub front : List Character
@@ -71,8 +71,8 @@ pub record BreaksCharactersAt (bytes : List ℕ) (place : ℕ) : Type 0 where
   pub decoded : Decodes numbers front rest
   pub some : 0 < length rest
   pub nothing : (c : Character) (after : List ℕ) → ¬ (Begins rest c after)
-  pub place_is : place + length (encode_utf8_all rest) ≡ length bytes
+  pub offset_is : offset + length (encode_utf8_all rest) ≡ length bytes
 
--- a clause of these two, and the place at which the bytes break it
+-- a clause of these two, and the offset at which the bytes break it
 abbrev pub BreaksTextAt : List ℕ → ℕ → ℕ → Type 0
-BreaksTextAt bytes clause place = ((clause ≡ 3) × BreaksUtf8At bytes place) ⊎ ((clause ≡ 4) × BreaksCharactersAt bytes place)
+BreaksTextAt bytes clause offset = ((clause ≡ 3) × BreaksUtf8At bytes offset) ⊎ ((clause ≡ 4) × BreaksCharactersAt bytes offset)

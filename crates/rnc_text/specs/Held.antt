@@ -1,10 +1,8 @@
 -- The characters that a `Text` keeps: the decoded text, and which of its LFs came of escapes.
 use Rattle.std.specs.Prelude.{◌≡◌, ℕ, ◌-◌, List, [], ◌∷◌, Option, Some, None, length, ◌==◌, if◌then◌else◌}
 use Rattle.std.specs.Str.{chars, encode_utf8_all}
-use Rattle.std.specs.String.{string_bytes}
 use Rattle.rnc_text.specs.declared.character.Character.{Character}
 use Rattle.rnc_text.specs.declared.character.Character.TheVariants.{LineEnd, Ordinary}
-use Rattle.rnc_text.specs.declared.text.Text.{Text}
 
 -- an LF with no mark is a line end
 abbrev pub unmarked : ℕ → Character
@@ -24,15 +22,15 @@ unused whole marks [] = marks
 unused whole [] (c ∷ cs) = unused whole [] cs
 unused whole (m ∷ marks) (c ∷ cs) = if m == whole - length (encode_utf8_all (c ∷ cs)) then unused whole marks cs else unused whole (m ∷ marks) cs
 
--- the characters of a text
-abbrev pub characters_of : Text → List Character
-characters_of t = marked (length (string_bytes t.text)) t.escaped.items (chars (string_bytes t.text))
+-- the characters of a decoded text of these bytes, with these marks
+abbrev pub with_marks : List ℕ → List ℕ → List Character
+with_marks bytes marks = marked (length bytes) marks (chars bytes)
 
--- each mark is the offset of an LF
-abbrev pub AllMarksUsed : Text → Type 0
-AllMarksUsed t = unused (length (string_bytes t.text)) t.escaped.items (chars (string_bytes t.text)) ≡ []
+-- each mark is the offset of a character of the text
+abbrev pub AreMarks : List ℕ → List ℕ → Type 0
+AreMarks bytes marks = unused (length bytes) marks (chars bytes) ≡ []
 
--- the marks behind a place, if it is marked
+-- the marks behind an offset, if it is marked
 abbrev pub next_marks : ℕ → List ℕ → Option (List ℕ)
-next_marks place [] = None
-next_marks place (m ∷ marks) = if m == place then Some marks else None
+next_marks offset [] = None
+next_marks offset (m ∷ marks) = if m == offset then Some marks else None

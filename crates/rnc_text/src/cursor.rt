@@ -1,7 +1,7 @@
-// A place in a decoded text.
+// Cursors in a decoded text.
 ghost use Rattle.std.specs.Prelude.{◌≡◌, ◌-◌, ◌==◌, ◌∷◌, [], List, MatchOption, option_map, length};
 ghost use Rattle.rnc_text.specs.Characters.{bytes_of};
-ghost use Rattle.rnc_text.specs.Held.{characters_of, unmarked, next_marks};
+ghost use Rattle.rnc_text.specs.Held.{unmarked, next_marks};
 ghost use Rattle.rnc_text.specs.Cursors.{remaining, IsPast, IsBefore};
 ghost use Rattle.rnc_text.specs.declared.character.Character.{Character};
 
@@ -19,7 +19,7 @@ fn unmarked(first: char) -> Character
     }
 }
 
-/// A place in a decoded text.
+/// An offset in a decoded text, with what stands from there on.
 #[derive(Clone, Copy)]
 pub struct Cursor<'a> {
     /// How many bytes the whole text has.
@@ -33,8 +33,8 @@ pub struct Cursor<'a> {
 impl<'a> Cursor<'a> {
     /// The beginning of a text.
     pub fn new(text: &'a Text) -> Cursor<'a>
-        ensures characters { remaining result ≡ characters_of text.now }
-        ensures bytes { result.rest.now ≡ bytes_of (characters_of text.now) }
+        ensures characters { remaining result ≡ text.now }
+        ensures bytes { result.rest.now ≡ bytes_of text.now }
         ensures whole { result.length ≡ length result.rest.now }
     {
         let rest = text.as_str();
@@ -53,25 +53,25 @@ impl<'a> Cursor<'a> {
         self.rest.is_empty()
     }
 
-    /// The offset of this place in the text, in bytes.
-    pub fn place(self) -> usize
+    /// The offset of the cursor in the text, in bytes.
+    pub fn offset(self) -> usize
         ensures { result ≡ self.entry.length - length self.entry.rest.now }
     {
-        // A place lies within the text, so this is no less than their difference.
+        // What is left is part of the text, so this is no less than their difference.
         self.length.saturating_sub(self.rest.len())
     }
 
-    /// The offsets behind this place, if the LF here came of an escape.
+    /// The offsets behind the cursor, if the LF here came of an escape.
     fn marks_behind(self) -> Option<&'a [usize]>
         ensures { option_map (λ x. x.now) result ≡ next_marks (self.entry.length - length self.entry.rest.now) self.entry.escaped.now }
     {
         match self.escaped {
-            [mark, marks @ ..] if *mark == self.place() => Some(marks),
+            [mark, marks @ ..] if *mark == self.offset() => Some(marks),
             _ => None,
         }
     }
 
-    /// The character here, and the place behind it.
+    /// The character here, and the cursor behind it.
     pub fn step(self) -> Option<(Character, Cursor<'a>)>
         ensures { MatchOption result (remaining self.entry ≡ []) (λ x. IsPast self.entry (x.0 ∷ []) x.1) }
     {
@@ -93,7 +93,7 @@ impl<'a> Cursor<'a> {
         }
     }
 
-    /// The text from here to a later place.
+    /// The text from here to a later cursor.
     pub fn text_to(self, end: Cursor<'a>) -> &'a str
         requires { IsBefore self end }
         ensures { (taken : List Character) → IsPast self.entry taken end.entry → result.now ≡ bytes_of taken }

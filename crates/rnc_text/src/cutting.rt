@@ -1,8 +1,8 @@
 // From characters to tokens.
 ghost use Rattle.std.specs.Prelude.{◌≡◌, ℕ, List, [], IfOk, IfErr};
-ghost use Rattle.rnc_text.specs.Held.{characters_of};
 ghost use Rattle.rnc_text.specs.Tokens.{Piece};
-ghost use Rattle.rnc_text.specs.Cut.{AreInOrder, Cuts, Lexeme, HasTokens, BreaksTokensAt, lexemes_of};
+ghost use Rattle.rnc_text.specs.Cut as cut;
+ghost use Rattle.rnc_text.specs.Cut.{AreInOrder, Cuts, HasTokens, BreaksTokensAt, tokens_of};
 ghost use Rattle.rnc_text.specs.Answers.{IfBroken, GivesOk, GivesFault};
 
 use crate::cursor::Cursor;
@@ -12,51 +12,51 @@ use crate::text::Text;
 use crate::token::Token;
 use std::alloc::Global;
 
-/// The tokens of a text, each the longest that begins at its place.
+/// The tokens of a text, each the longest that begins at its offset.
 fn cut(alloc: Global, text: &Text) -> Result<Vec<Token<'_>>, TextFault>
-    ensures found { IfOk result (λ v. HasTokens (characters_of text.now) (lexemes_of v.items)) }
-    ensures fault { IfErr result (IfBroken (λ clause place. (clause ≡ 5) × BreaksTokensAt (characters_of text.now) place)) }
+    ensures found { IfOk result (λ v. HasTokens text.now (tokens_of v.items)) }
+    ensures fault { IfErr result (IfBroken (λ clause offset. (clause ≡ 5) × BreaksTokensAt text.now offset)) }
 {
     let mut tokens = Vec::new(alloc);
-    let mut place = Cursor::new(text);
-    'places: while !place.is_at_end() {
-        let Some((part, after)) = piece(place) else {
+    let mut cursor = Cursor::new(text);
+    'pieces: while !cursor.is_at_end() {
+        let Some((part, after)) = piece(cursor) else {
             return Err(TextFault::At {
                 clause: 5,
-                place: place.place() as u64,
+                offset: cursor.offset() as u64,
             });
         };
         if let Part::Token(kind, says) = part {
             tokens.push(Token {
                 kind,
                 text: says,
-                start: place.place(),
-                end: after.place(),
+                start: cursor.offset(),
+                end: after.offset(),
             })?;
         }
-        place = after;
+        cursor = after;
     }
     Ok(tokens)
 }
 
 /// The tokens of a text, in order.
 ///
-/// Where at some place neither a blank, a comment nor a token begins, clause 5 is broken, and the fault tells the first
+/// Where at some offset neither a blank, a comment nor a token begins, clause 5 is broken, and the fault tells the first
 /// such offset in the decoded text, in bytes. `Memory` answers that there was no memory for the tokens. Linear.
 /// RELAX NG Compact Syntax, "Lexical structure".
 pub fn tokens(alloc: Global, text: &Text) -> Result<Vec<Token<'_>>, TextFault>
     // What is answered are the tokens of a cut of the whole text.
-    ensures found { IfOk result (λ v. HasTokens (characters_of text.now) (lexemes_of v.items)) }
+    ensures found { IfOk result (λ v. HasTokens text.now (tokens_of v.items)) }
     // The spans are in order and share no byte.
-    ensures order { IfOk result (λ v. AreInOrder 0 (lexemes_of v.items)) }
+    ensures order { IfOk result (λ v. AreInOrder 0 (tokens_of v.items)) }
     // The tokens of a cut are answered, so there are no others.
-    ensures only { (ts : List Lexeme) → HasTokens (characters_of text.now) ts → GivesOk (λ v. lexemes_of v.items) result ts }
+    ensures only { (ts : List cut.Token) → HasTokens text.now ts → GivesOk (λ v. tokens_of v.items) result ts }
     // There is no other cut.
-    ensures one { (pieces others : List Piece) → Cuts (characters_of text.now) pieces [] → Cuts (characters_of text.now) others [] → pieces ≡ others }
-    // A fault has its clause broken at its place.
-    ensures fault { IfErr result (IfBroken (λ clause place. (clause ≡ 5) × BreaksTokensAt (characters_of text.now) place)) }
-    // A broken clause is answered, with its place.
-    ensures broken { (place : ℕ) → BreaksTokensAt (characters_of text.now) place → GivesFault result 5 place }
+    ensures one { (pieces others : List Piece) → Cuts text.now pieces [] → Cuts text.now others [] → pieces ≡ others }
+    // A fault has its clause broken at its offset.
+    ensures fault { IfErr result (IfBroken (λ clause offset. (clause ≡ 5) × BreaksTokensAt text.now offset)) }
+    // A broken clause is answered, with its offset.
+    ensures broken { (offset : ℕ) → BreaksTokensAt text.now offset → GivesFault result 5 offset }
 {
     cut(alloc, text)
 }

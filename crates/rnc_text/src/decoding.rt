@@ -4,7 +4,6 @@ ghost use Rattle.std.specs.Str.{chars};
 ghost use Rattle.rng_model.specs.Characters.{is_xml_char};
 ghost use Rattle.rnc_text.specs.Decoding.{IsDecoded, BreaksCharactersAt, BreaksTextAt};
 ghost use Rattle.rnc_text.specs.Answers.{IfBroken, GivesOk, GivesFault};
-ghost use Rattle.rnc_text.specs.Held.{characters_of};
 ghost use Rattle.rnc_text.specs.DecodingSteps.{without_line_feed, opens_from, escape_front, front_of};
 ghost use Rattle.rnc_text.specs.declared.character.Character.{Character};
 
@@ -80,8 +79,8 @@ fn front(text: &str) -> Option<(Character, &str)>
 
 /// The characters of a text in which escapes are not yet replaced.
 fn decode(alloc: Global, text: &str) -> Result<Text, TextFault>
-    ensures found { IfOk result (λ t. IsDecoded text.now (characters_of t)) }
-    ensures fault { IfErr result (IfBroken (λ clause place. (clause ≡ 4) × BreaksCharactersAt text.now place)) }
+    ensures found { IfOk result (λ t. IsDecoded text.now t) }
+    ensures fault { IfErr result (IfBroken (λ clause offset. (clause ≡ 4) × BreaksCharactersAt text.now offset)) }
 {
     let mut decoded = Text::new(alloc);
     let mut rest = text;
@@ -89,7 +88,7 @@ fn decode(alloc: Global, text: &str) -> Result<Text, TextFault>
         let Some((character, after)) = front(rest) else {
             return Err(TextFault::At {
                 clause: 4,
-                place: (text.len() - rest.len()) as u64,
+                offset: (text.len() - rest.len()) as u64,
             });
         };
         decoded.push(character)?;
@@ -105,21 +104,21 @@ fn decode(alloc: Global, text: &str) -> Result<Text, TextFault>
 /// the text. Linear. RELAX NG Compact Syntax, "Lexical structure".
 pub fn read_text(alloc: Global, bytes: &[u8]) -> Result<Text, TextFault>
     // What is answered is what the bytes stand for.
-    ensures found { IfOk result (λ t. IsDecoded bytes.now (characters_of t)) }
+    ensures found { IfOk result (λ t. IsDecoded bytes.now t) }
     // What the bytes stand for is answered, so there is no other.
-    ensures only { (cs : List Character) → IsDecoded bytes.now cs → GivesOk characters_of result cs }
+    ensures only { (cs : List Character) → IsDecoded bytes.now cs → GivesOk (λ t. t) result cs }
     // There is no other decoding.
     ensures one { (cs ds : List Character) → IsDecoded bytes.now cs → IsDecoded bytes.now ds → cs ≡ ds }
-    // A fault has its clause broken at its place.
+    // A fault has its clause broken at its offset.
     ensures fault { IfErr result (IfBroken (BreaksTextAt bytes.now)) }
-    // A broken clause is answered, with its place.
-    ensures broken { (clause place : ℕ) → BreaksTextAt bytes.now clause place → GivesFault result clause place }
+    // A broken clause is answered, with its offset.
+    ensures broken { (clause offset : ℕ) → BreaksTextAt bytes.now clause offset → GivesFault result clause offset }
 {
     match simdutf8::compat::from_utf8(bytes) {
         Ok(text) => decode(alloc, text),
         Err(fault) => Err(TextFault::At {
             clause: 3,
-            place: fault.valid_up_to() as u64,
+            offset: fault.valid_up_to() as u64,
         }),
     }
 }

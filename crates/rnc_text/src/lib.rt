@@ -1,8 +1,8 @@
 //! From the bytes of a schema in compact syntax to its characters, and from these to its tokens.
 //!
-//! `read_text` answers the characters that the bytes stand for, escapes replaced, or the first place at which they are
+//! `read_text` answers the characters that the bytes stand for, escapes replaced, or the first offset at which they are
 //! not UTF-8 or no characters of XML. `tokens` answers the tokens of these characters, each the longest that begins at
-//! its place, or the first place at which nothing begins.
+//! its offset, or the first offset at which nothing begins.
 #![tactic(auto)]
 
 mod character;

@@ -1,4 +1,4 @@
-// What begins at a place of a text: a blank, a comment or a token, each the longest.
+// What begins at an offset of a text: a blank, a comment or a token, each the longest.
 ghost use Rattle.std.specs.Prelude.{◌≡◌, ◌∷◌, [], List, Some};
 ghost use Rattle.rng_model.specs.Characters.{is_name_start, is_name_char, is_colon};
 ghost use Rattle.rnc_text.specs.Characters.{number_of, bytes_of};
@@ -26,7 +26,7 @@ pub enum Class {
     Segment(char),
 }
 
-/// What stands at a place.
+/// What begins at an offset.
 #[derive(Clone, Copy)]
 pub enum Part<'a> {
     /// A blank or a comment.
@@ -74,7 +74,7 @@ fn begins_ncname(from: Cursor<'_>) -> bool
     }
 }
 
-/// The place behind the characters of the class that stand here.
+/// The cursor behind the characters of the class that stand here.
 fn past(from: Cursor<'_>, class: Class) -> Cursor<'_>
     ensures past { IsPast from.entry (front class (remaining from.entry)) result }
     ensures rest { remaining result ≡ after class (remaining from.entry) }
@@ -89,7 +89,7 @@ fn past(from: Cursor<'_>, class: Class) -> Cursor<'_>
     to
 }
 
-/// The place behind this character, if it stands here.
+/// The cursor behind this character, if it stands here.
 fn behind(from: Cursor<'_>, wanted: char) -> Option<Cursor<'_>>
     ensures { FindsBehind from.entry result (Ordinary wanted ∷ []) (behind wanted (remaining from.entry)) }
 {
@@ -99,7 +99,7 @@ fn behind(from: Cursor<'_>, wanted: char) -> Option<Cursor<'_>>
     }
 }
 
-/// The place behind three quotes, if they stand here.
+/// The cursor behind three quotes, if they stand here.
 fn behind_three(from: Cursor<'_>, quote: char) -> Option<Cursor<'_>>
     ensures { FindsBehind from.entry result (three quote []) (behind_three quote (remaining from.entry)) }
 {
@@ -108,7 +108,7 @@ fn behind_three(from: Cursor<'_>, quote: char) -> Option<Cursor<'_>>
     behind(third, quote)
 }
 
-/// The places before and behind the first three quotes from here on.
+/// The cursors before and behind the first three quotes from here on.
 fn until_three(from: Cursor<'_>, quote: char) -> Option<(Cursor<'_>, Cursor<'_>)>
     ensures { FindsContent from.entry result quote (until_three quote (remaining from.entry)) }
 {
@@ -122,7 +122,7 @@ fn until_three(from: Cursor<'_>, quote: char) -> Option<(Cursor<'_>, Cursor<'_>)
     None
 }
 
-/// The word between two places, and the second of them.
+/// The word between two cursors, and the second of them.
 fn word<'a>(from: Cursor<'a>, end: Cursor<'a>) -> (Part<'a>, Cursor<'a>)
     requires { IsBefore from end }
     ensures part { (taken : List Character) → IsPast from.entry taken end.entry → told result.0 ≡ Some (word_kind taken, bytes_of taken) }
@@ -148,7 +148,7 @@ fn qualified<'a>(from: Cursor<'a>, end: Cursor<'a>, local: Cursor<'a>) -> (Part<
     word(from, end)
 }
 
-/// The word, CName or nsName whose first NCName begins here, and the place behind it.
+/// The word, CName or nsName whose first NCName begins here, and the cursor behind it.
 fn name(from: Cursor<'_>) -> (Part<'_>, Cursor<'_>)
     ensures { FindsPart from.entry result.0 result.1 (name_at (remaining from.entry)) }
 {
@@ -222,7 +222,7 @@ fn sign<'a>(from: Cursor<'a>, first: char, after: Cursor<'a>) -> Option<(Part<'a
     }
 }
 
-/// The blank, comment or token that begins here, and the place behind it.
+/// The blank, comment or token that begins here, and the cursor behind it.
 pub fn piece(from: Cursor<'_>) -> Option<(Part<'_>, Cursor<'_>)>
     ensures { Finds from.entry result (piece_of (remaining from.entry)) }
 {

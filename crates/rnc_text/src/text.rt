@@ -1,10 +1,13 @@
 // A decoded text.
 ghost use Rattle.std.specs.Prelude.{◌≡◌, ◌++◌, ◌∷◌, [], List, IfOk};
+ghost use Rattle.std.specs.String.{string_bytes};
 ghost use Rattle.rnc_text.specs.Characters.{bytes_of};
-ghost use Rattle.rnc_text.specs.Held.{characters_of, AllMarksUsed};
+ghost use Rattle.rnc_text.specs.Held.{with_marks, AreMarks};
+ghost use Rattle.rnc_text.specs.declared.character.Character.{Character};
 
 use crate::character::Character;
 use std::alloc::{AllocError, Global};
+use std::marker::Model;
 
 /// The characters of a schema in compact syntax, with its escapes replaced and each line end one LF.
 ///
@@ -16,11 +19,18 @@ pub struct Text {
     escaped: Vec<usize>,
 }
 
+impl Model for Text {
+    ghost Value = { List Character };
+
+    ghost view = { λ t. with_marks (string_bytes t.text) t.escaped.items };
+
+    ghost invariant = { λ t. AreMarks (string_bytes t.text) t.escaped.items };
+}
+
 impl Text {
     /// No characters.
     pub(crate) fn new(alloc: Global) -> Text
-        ensures characters { characters_of result ≡ [] }
-        ensures used { AllMarksUsed result }
+        ensures { result ≡ [] }
     {
         Text {
             text: String::new(alloc),
@@ -30,15 +40,15 @@ impl Text {
 
     /// One more character at the end.
     pub(crate) fn push(&mut self, character: Character) -> Result<(), AllocError>
-        requires { AllMarksUsed self.old }
-        ensures characters { IfOk result (λ _. characters_of self.new ≡ characters_of self.old ++ character ∷ []) }
-        ensures used { IfOk result (λ _. AllMarksUsed self.new) }
+        ensures { IfOk result (λ _. self.new ≡ self.old ++ character ∷ []) }
     {
         match character {
             Character::LineEnd => self.text.push('\n'),
             Character::Ordinary('\n') => {
-                self.escaped.push(self.text.len())?;
-                self.text.push('\n')
+                let offset = self.text.len();
+                self.text.push('\n')?;
+                self.escaped.push(offset)?;
+                Ok(())
             }
             Character::Ordinary(character) => self.text.push(character),
         }
@@ -46,14 +56,14 @@ impl Text {
 
     /// The decoded text.
     pub fn as_str(&self) -> &str
-        ensures { result.now ≡ bytes_of (characters_of self.now) }
+        ensures { result.now ≡ bytes_of self.now }
     {
         self.text.as_str()
     }
 
     /// The offsets in bytes of the LFs that came of escapes, in order.
     pub(crate) fn escaped(&self) -> &[usize]
-        ensures { result.now ≡ self.now.escaped.items }
+        ensures { with_marks (bytes_of self.now) result.now ≡ self.now }
     {
         self.escaped.as_slice()
     }

@@ -1,7 +1,7 @@
 //! Prints what `rnc_text` answers for each row of `cases.txt`, a line a row.
 //!
 //! A row is a call and bytes: of `decode` the decoded text is printed, of `cut` the tokens of that text, and of either the
-//! clause that is broken and its place.
+//! clause that is broken and its offset.
 #![tactic(auto)]
 
 use case_rows::rows;
@@ -43,10 +43,10 @@ fn print_tokens(rt: &(impl Print + AllocGlobal), text: &Text) -> io::Result<()> 
     }
 }
 
-/// Prints a clause and its place.
+/// Prints a clause and its offset.
 fn print_fault(rt: &impl Print, fault: TextFault) -> io::Result<()> {
     match fault {
-        TextFault::At { clause, place } => println!(rt; "{clause} at {place}"),
+        TextFault::At { clause, offset } => println!(rt; "{clause} at {offset}"),
         TextFault::Memory => println!(rt; "out of memory"),
     }
 }

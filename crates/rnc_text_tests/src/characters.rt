@@ -53,7 +53,7 @@ fn plain_front(bytes: &[u8]) -> Option<(Character, usize)> {
     }
 }
 
-/// The characters of ASCII bytes, and the place where they end too early.
+/// The characters of ASCII bytes, and the offset where they end too early.
 pub fn plain_characters(
     alloc: Global,
     bytes: &[u8],

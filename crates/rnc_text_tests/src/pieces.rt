@@ -130,7 +130,7 @@ fn plain_piece(cs: &[Character]) -> Option<(usize, Option<TokenKind>)> {
     None
 }
 
-/// The kinds, starts and ends of the tokens, and the place where they end too early.
+/// The kinds, starts and ends of the tokens, and the offset where they end too early.
 pub fn plain_tokens(
     alloc: Global,
     cs: &[Character],

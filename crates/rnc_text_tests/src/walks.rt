@@ -25,7 +25,7 @@ fn tokens_agree(alloc: Global, text: &Text, cs: &[Character]) -> Result<bool, Al
     let (wanted, stop) = plain_tokens(alloc, cs)?;
     Ok(match (tokens(alloc, text), stop) {
         (Ok(got), None) => are_tokens(got.as_slice(), wanted.as_slice()),
-        (Err(TextFault::At { clause: 5, place }), Some(at)) => place == at as u64,
+        (Err(TextFault::At { clause: 5, offset }), Some(at)) => offset == at as u64,
         _ => false,
     })
 }
@@ -38,7 +38,7 @@ fn agrees(alloc: Global, bytes: &[u8]) -> Result<bool, AllocError> {
             let cs = cs.as_slice();
             Ok(is_text_of(text.as_str(), cs) && tokens_agree(alloc, &text, cs)?)
         }
-        (Err(TextFault::At { clause: 4, place }), Some(at)) => Ok(place == at as u64),
+        (Err(TextFault::At { clause: 4, offset }), Some(at)) => Ok(offset == at as u64),
         _ => Ok(false),
     }
 }

@@ -10,13 +10,13 @@ use Rattle.rng_run.specs.SchemaFile.{FileVerdict, too_long, breaks, has_tree}
 use Rattle.rng_run.specs.declared.fault.FileFault.{FileFault}
 use Rattle.rng_run.specs.declared.fault.FileFault.TheVariants.{Clause, TooLong, Memory}
 
--- the place that a fault names is not told
+-- where a fault stands is not told
 abbrev pub fault_of_text : TextFault → FileFault
-fault_of_text (texts.At clause place) = Clause clause
+fault_of_text (texts.At clause offset) = Clause clause
 fault_of_text texts.Memory = Memory
 
 abbrev pub fault_of_parse : ParseFault → FileFault
-fault_of_parse (parses.At clause place) = Clause clause
+fault_of_parse (parses.At clause number) = Clause clause
 fault_of_parse (parses.Clause clause) = Clause clause
 fault_of_parse parses.Memory = Memory
 

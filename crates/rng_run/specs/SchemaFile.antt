@@ -1,10 +1,9 @@
 -- What the bytes of a schema file are: more than a file may have, a file that breaks a clause, or a file with its tree.
-use Rattle.std.specs.Prelude.{◌≡◌, ℕ, ◌-◌, ◌<◌, ◌≤◌, List, [], ◌∷◌, length}
+use Rattle.std.specs.Prelude.{◌≡◌, ℕ, ◌<◌, ◌≤◌, List, length}
 use Rattle.rnc_text.specs.declared.character.Character.{Character}
 use Rattle.rnc_text.specs.Decoding.{IsDecoded, BreaksUtf8At, BreaksCharactersAt}
-use Rattle.rnc_text.specs.Cut.{HasTokens, BreaksTokensAt}
-use Rattle.rnc_text.specs.Cut as cut
-use Rattle.rnc_grammar.specs.Lexeme.{Lexeme, lexeme_at}
+use Rattle.rnc_text.specs.Cut.{Token, HasTokens, BreaksTokensAt}
+use Rattle.rnc_grammar.specs.Lexeme.{lexemes}
 use Rattle.rnc_grammar.specs.FileTree.{FileTree}
 use Rattle.rnc_grammar.specs.Parsing.{BreaksGrammarAt, BreaksNesting, BreaksDeclarations, IsFileTree}
 
@@ -12,46 +11,36 @@ use Rattle.rnc_grammar.specs.Parsing.{BreaksGrammarAt, BreaksNesting, BreaksDecl
 abbrev pub size_limit : ℕ
 size_limit = 1048576
 
--- the last tokens of so many, as the grammar has them: a token's place is their count without those after it
-abbrev pub said_in : ℕ → List cut.Lexeme → List Lexeme
-said_in total [] = []
-said_in total (t ∷ ts) = lexeme_at t.kind t.text (total - length ts) ∷ said_in total ts
-
--- all tokens of a file, as the grammar has them
-abbrev pub said : List cut.Lexeme → List Lexeme
-said ts = said_in (length ts) ts
-
 -- the bytes stand for characters, and these are the tokens of the characters
-pub record AreTokensOf (bytes : List ℕ) (ts : List Lexeme) : Type 0 where
+pub record AreTokensOf (bytes : List ℕ) (ts : List Token) : Type 0 where
   pub characters : List Character
   pub decoded : IsDecoded bytes characters
-  pub tokens : List cut.Lexeme
-  pub are : HasTokens characters tokens
-  pub said_is : ts ≡ said tokens
+  pub are : HasTokens characters ts
 
 -- The bytes break this clause. A clause is spoken of only where the bytes break none before it: of characters where the bytes
 -- are UTF-8, of tokens where they stand for characters, of the grammar where these are cut into tokens, of declarations
 -- where these are a sentence. Too many open brackets (7) come before the grammar (6), so that not both are broken.
 pub data BreaksClause : List ℕ → ℕ → Type 0 where
   -- they are not UTF-8
-  not_utf8 : {bytes : List ℕ} {k : ℕ} (place : ℕ) → BreaksUtf8At bytes place → k ≡ 3 → BreaksClause bytes k
+  not_utf8 : {bytes : List ℕ} {k : ℕ} (offset : ℕ) → BreaksUtf8At bytes offset → k ≡ 3 → BreaksClause bytes k
   -- a character is none of XML's, or an escape is bad
-  bad_characters : {bytes : List ℕ} {k : ℕ} (place : ℕ) → BreaksCharactersAt bytes place → k ≡ 4 → BreaksClause bytes k
+  bad_characters : {bytes : List ℕ} {k : ℕ} (offset : ℕ) → BreaksCharactersAt bytes offset → k ≡ 4 → BreaksClause bytes k
   -- neither a blank, a comment nor a token begins
-  bad_tokens : {bytes : List ℕ} {k : ℕ} (characters : List Character) (place : ℕ) → IsDecoded bytes characters → BreaksTokensAt characters place → k ≡ 5 →
+  bad_tokens : {bytes : List ℕ} {k : ℕ} (characters : List Character) (offset : ℕ) → IsDecoded bytes characters → BreaksTokensAt characters offset → k ≡ 5 →
       BreaksClause bytes k
   -- the tokens are no sentence
-  no_sentence : {bytes : List ℕ} {k : ℕ} (ts : List Lexeme) (place : ℕ) → AreTokensOf bytes ts → BreaksGrammarAt ts place → k ≡ 6 → BreaksClause bytes k
+  no_sentence : {bytes : List ℕ} {k : ℕ} (ts : List Token) (number : ℕ) → AreTokensOf bytes ts → BreaksGrammarAt (lexemes ts) number → k ≡ 6 →
+      BreaksClause bytes k
   -- too many brackets are open
-  too_deep : {bytes : List ℕ} {k : ℕ} (ts : List Lexeme) → AreTokensOf bytes ts → BreaksNesting ts → k ≡ 7 → BreaksClause bytes k
+  too_deep : {bytes : List ℕ} {k : ℕ} (ts : List Token) → AreTokensOf bytes ts → BreaksNesting (lexemes ts) → k ≡ 7 → BreaksClause bytes k
   -- a declaration or a prefix breaks a rule
-  bad_declarations : {bytes : List ℕ} {k : ℕ} (ts : List Lexeme) → AreTokensOf bytes ts → BreaksDeclarations ts → k ≡ 8 → BreaksClause bytes k
+  bad_declarations : {bytes : List ℕ} {k : ℕ} (ts : List Token) → AreTokensOf bytes ts → BreaksDeclarations (lexemes ts) → k ≡ 8 → BreaksClause bytes k
 
 -- the bytes break no clause, and this is their tree
 pub record IsSchemaFile (bytes : List ℕ) (t : FileTree) : Type 0 where
-  pub lexemes : List Lexeme
-  pub are : AreTokensOf bytes lexemes
-  pub tree : IsFileTree lexemes t
+  pub tokens : List Token
+  pub are : AreTokensOf bytes tokens
+  pub tree : IsFileTree (lexemes tokens) t
 
 -- the verdict on a file: it is too long, it breaks this clause first, or it has this tree
 pub data FileVerdict : Type 0 where

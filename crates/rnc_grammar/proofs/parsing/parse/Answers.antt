@@ -1,5 +1,6 @@
 use Rattle.std.proofs.lemmas.Result.{err_from_is_err_and}
 use Rattle.rnc_syntax.specs.Lexeme.{lexemes}
+use Rattle.rnc_text.specs.Cut.{tokens_of}
 use Rattle.rnc_grammar.proofs.ParsingAnswers.{fault_given, fault_told, grammar_told, nesting_told, no_fault, no_tree, one_tree, only_declarations, only_tree}
 use Rattle.rnc_grammar.proofs.ParsingAnswers.{tree_given}
 use Rattle.rnc_grammar.proofs.parsing.parse.Goals as goal
@@ -9,7 +10,7 @@ use Rattle.rnc_grammar.proofs.parsing.parse.Goals as goal
 pub returns-in_err-file-clause-fault : goal.returns-in_err-file-clause-fault
 returns-in_err-file-clause-fault c =
     let p = err_from_is_err_and c.from_residual.result c.from_residual.ensures.1 in
-    rw (p.1, p.2) (fault_told (lexemes c.args.tokens.now) c.in_err-file.field-0.0 c.in_err-file.ensures.fault)
+    rw (p.1, p.2) (fault_told (lexemes (tokens_of c.args.tokens.now)) c.in_err-file.field-0.0 c.in_err-file.ensures.fault)
 
 pub returns-in_err-file-clause-only : goal.returns-in_err-file-clause-only
 returns-in_err-file-clause-only c = λ t is.
@@ -33,7 +34,7 @@ returns-in_err-file-clause-grammar c = λ is.
     (at.0, rw (p.1, p.2) (grammar_told c.in_err-file.field-0.0 at.0 at.1))
 
 pub returns-in_err-file-clause-one : goal.returns-in_err-file-clause-one
-returns-in_err-file-clause-one c = one_tree (lexemes c.args.tokens.now) c.in_err-file.ensures.one
+returns-in_err-file-clause-one c = one_tree (lexemes (tokens_of c.args.tokens.now)) c.in_err-file.ensures.one
 
 -- ---- a syntax tree
 
@@ -56,4 +57,4 @@ pub returns-clause-grammar : goal.returns-clause-grammar
 returns-clause-grammar c = λ is. absurd (no_fault c.in_ok-file.file _ (c.in_ok-file.ensures.grammar is).1)
 
 pub returns-clause-one : goal.returns-clause-one
-returns-clause-one c = one_tree (lexemes c.args.tokens.now) c.in_ok-file.ensures.one
+returns-clause-one c = one_tree (lexemes (tokens_of c.args.tokens.now)) c.in_ok-file.ensures.one

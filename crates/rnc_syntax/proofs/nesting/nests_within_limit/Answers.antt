@@ -1,6 +1,17 @@
-use Rattle.std.proofs.Common.{arith}
-use Rattle.rnc_syntax.proofs.NestingSteps.{keeps_back, breaks_back, exceeds_now, stays_few}
+use Rattle.std.proofs.Common.{arith, subst, sym}
+use Rattle.rnc_syntax.specs.Sentence.{nesting_limit, BreaksNesting, NestsWithin}
+use Rattle.rnc_syntax.proofs.Lexemes.{all_lexemes}
+use Rattle.rnc_syntax.proofs.NestingSteps.{began, broken, keeps_back, breaks_back, exceeds_now, stays_few}
 use Rattle.rnc_syntax.proofs.nesting.nests_within_limit.Goals as goal
+
+pub loop-token-init : goal.loop-token-init
+loop-token-init c = let e = sym (all_lexemes c.args.tokens.now) in record {
+  keeps = λ w. subst (NestsWithin nesting_limit) e (began _ w);
+  breaks = λ w. subst BreaksNesting e (broken _ w);
+  small = omega arith;
+  opened = omega arith;
+  closed = omega arith;
+}
 
 pub returns-then-saturating_sub-from : goal.returns-then-saturating_sub-from
 returns-then-saturating_sub-from c =

@@ -1,9 +1,10 @@
 use Rattle.std.proofs.Common.{subst}
+use Rattle.rnc_text.specs.Cut.{tokens_of}
 use Rattle.rnc_syntax.specs.Fault.{Gives, unless_memory}
 use Rattle.rnc_syntax.specs.Lexeme.{lexemes}
 use Rattle.rnc_syntax.specs.Sentence.{nesting_limit}
 use Rattle.rnc_syntax.specs.SyntaxView.{file_of}
-use Rattle.rnc_syntax.proofs.FaultPlaceFiles.{stuck}
+use Rattle.rnc_syntax.proofs.FaultNumberFiles.{stuck}
 use Rattle.rnc_syntax.proofs.SyntaxTrees.{is_fault, is_tree, fault_given, only_grammar, only_tree, tree_given}
 use Rattle.rnc_syntax.proofs.sentence.read_syntax.Goals as goal
 
@@ -12,7 +13,7 @@ returns-then-nests_within_limit-clause-tree c = tree_given _ _ _ (is_tree _ c.if
 
 pub returns-then-nests_within_limit-clause-fault : goal.returns-then-nests_within_limit-clause-fault
 returns-then-nests_within_limit-clause-fault c =
-    let ts = lexemes c.args.tokens.now in
+    let ts = lexemes (tokens_of c.args.tokens.now) in
     fault_given ts _ _ (is_fault ts c.if-nests_within_limit.ensures (stuck nesting_limit ts)) c.read.ensures
 
 pub returns-then-nests_within_limit-clause-only : goal.returns-then-nests_within_limit-clause-only

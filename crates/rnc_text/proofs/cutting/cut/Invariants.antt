@@ -1,11 +1,10 @@
 use Rattle.std.proofs.Common.{length}
-use Rattle.rnc_text.specs.Held.{characters_of}
-use Rattle.rnc_text.specs.Cut.{lexemes_of}
+use Rattle.rnc_text.specs.Cut.{tokens_of}
 use Rattle.rnc_text.proofs.Cuts.{HasCut}
 use Rattle.rnc_text.proofs.cutting.cut.Given as goal
 
-abbrev pub invariant-places : goal.invariant-places
-invariant-places l = HasCut (characters_of l.text) (lexemes_of l.tokens.items) l.place
+abbrev pub invariant-pieces : goal.invariant-pieces
+invariant-pieces l = HasCut l.text (tokens_of l.tokens.items) l.cursor
 
-abbrev pub decreases-places : goal.decreases-places
-decreases-places l = length l.place.rest.now
+abbrev pub decreases-pieces : goal.decreases-pieces
+decreases-pieces l = length l.cursor.rest.now

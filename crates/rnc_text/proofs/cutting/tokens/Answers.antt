@@ -1,4 +1,4 @@
-use Rattle.rnc_text.specs.Cut.{lexemes_of}
+use Rattle.rnc_text.specs.Cut.{tokens_of}
 use Rattle.rnc_text.proofs.Cuts.{in_order, gives_tokens, gives_five, whole_cut}
 use Rattle.rnc_text.proofs.cutting.tokens.Goals as goal
 
@@ -12,4 +12,4 @@ pub returns-clause-broken : goal.returns-clause-broken
 returns-clause-broken c = gives_five _ _ _ c.cut.ensures.found c.cut.ensures.fault
 
 pub returns-clause-order : goal.returns-clause-order
-returns-clause-order c = in_order (λ v. lexemes_of v.items) _ _ c.cut.ensures.found
+returns-clause-order c = in_order (λ v. tokens_of v.items) _ _ c.cut.ensures.found

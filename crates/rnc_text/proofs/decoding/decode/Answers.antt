@@ -7,7 +7,7 @@ use Rattle.rnc_text.proofs.Decoded.{decodes_then, text_decoded, text_broken, som
 use Rattle.rnc_text.proofs.decoding.decode.Goals as goal
 
 pub rest-init : goal.rest-init
-rest-init c = record { text = c.utf8.text; within = omega arith; decoded = rw c.new-decoded.ensures.characters (here refl); used = c.new-decoded.ensures.used }
+rest-init c = record { text = c.utf8.text; within = omega arith; decoded = rw c.new-decoded.ensures (here refl) }
 
 pub returns-in_default-clause-fault : goal.returns-in_default-clause-fault
 returns-in_default-clause-fault c =
@@ -29,8 +29,7 @@ rest-preserved c =
     record {
       text = u;
       within = omega (arith, c.rest.invariant.within, front_shorter c.rest.rest.now c.in-Some.after.now c.in-Some.character c.rest.invariant.text u b);
-      decoded = decodes_then c.rest.invariant.decoded _ _ _ b c.in_ok-push.ensures.characters;
-      used = c.in_ok-push.ensures.used;
+      decoded = decodes_then c.rest.invariant.decoded _ _ _ b c.in_ok-push.ensures;
     }
 
 pub returns-clause-found : goal.returns-clause-found

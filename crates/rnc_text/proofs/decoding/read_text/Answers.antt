@@ -10,7 +10,7 @@ returns-in-Ok-clause-broken c = gives_fault _ _ (search rules) (search rules)
 
 pub returns-in-Err-clause-broken : goal.returns-in-Err-clause-broken
 returns-in-Err-clause-broken c =
-    λ clause place broken. rw c.valid_up_to.ensures (fault_one c.args.bytes.now 3 _ clause place (inl (refl, c.in-Err.ensures.cases)) broken)
+    λ clause offset broken. rw c.valid_up_to.ensures (fault_one c.args.bytes.now 3 _ clause offset (inl (refl, c.in-Err.ensures.cases)) broken)
 
 pub returns-in-Ok-clause-one : goal.returns-in-Ok-clause-one
 returns-in-Ok-clause-one c = λ cs ds p q. decoded_one _ cs ds p q

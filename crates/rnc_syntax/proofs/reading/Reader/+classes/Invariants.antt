@@ -1,6 +1,6 @@
 use Rattle.std.proofs.Common.{map, length, ◌≤◌, ◌+◌, ◌*◌}
 use Rattle.rnc_text.specs.declared.token.Sign.TheVariants.{Bar}
-use Rattle.rnc_syntax.specs.Lexeme.{lexemes_in}
+use Rattle.rnc_syntax.specs.Reading.{lexemes_in}
 use Rattle.rnc_syntax.specs.Combinators.{follow, many, with_front}
 use Rattle.rnc_syntax.specs.Productions.{basic_with, inside_at}
 use Rattle.rnc_syntax.specs.SyntaxView.{class_of}

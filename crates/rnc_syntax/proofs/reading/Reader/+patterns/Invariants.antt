@@ -1,5 +1,5 @@
 use Rattle.std.proofs.Common.{map, length, ◌≤◌, ◌+◌, ◌*◌}
-use Rattle.rnc_syntax.specs.Lexeme.{lexemes_in}
+use Rattle.rnc_syntax.specs.Reading.{lexemes_in}
 use Rattle.rnc_syntax.specs.Combinators.{follow, many, with_front}
 use Rattle.rnc_syntax.specs.Productions.{particle_with, component_front, component_with, components_with, inside_at}
 use Rattle.rnc_syntax.specs.SyntaxView.{pattern_of, component_of, setting_of}

@@ -1,5 +1,5 @@
 use Rattle.std.proofs.Common.{◌≡◌, ◌≤◌, ◌+◌, length}
-use Rattle.rnc_syntax.specs.Lexeme.{lexemes_in}
+use Rattle.rnc_syntax.specs.Reading.{lexemes_in}
 use Rattle.rnc_syntax.specs.Productions.{annotation_end}
 use Rattle.rnc_syntax.proofs.reading.Reader.annotation_end.Given as goal
 

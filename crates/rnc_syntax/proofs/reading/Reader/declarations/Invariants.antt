@@ -1,5 +1,5 @@
 use Rattle.std.proofs.Common.{map, length, ◌≤◌}
-use Rattle.rnc_syntax.specs.Lexeme.{lexemes_in}
+use Rattle.rnc_syntax.specs.Reading.{lexemes_in}
 use Rattle.rnc_syntax.specs.Productions.{declaration_front, declaration_at, declarations_at}
 use Rattle.rnc_syntax.specs.SyntaxView.{declaration_of}
 use Rattle.rnc_syntax.proofs.Items.{Goes}

@@ -1,6 +1,6 @@
 use Rattle.std.proofs.Common.{map, length, ◌≤◌}
 use Rattle.rnc_text.specs.declared.token.Sign.TheVariants.{Tilde}
-use Rattle.rnc_syntax.specs.Lexeme.{lexemes_in}
+use Rattle.rnc_syntax.specs.Reading.{lexemes_in}
 use Rattle.rnc_syntax.specs.Combinators.{follow, many, segment_at, with_front}
 use Rattle.rnc_syntax.proofs.Items.{Goes}
 use Rattle.rnc_syntax.proofs.reading.Reader.more_segments.Given as goal

@@ -1,5 +1,5 @@
 use Rattle.std.proofs.Common.{map, length, ◌≤◌}
-use Rattle.rnc_syntax.specs.Lexeme.{lexemes_in}
+use Rattle.rnc_syntax.specs.Reading.{lexemes_in}
 use Rattle.rnc_syntax.specs.Combinators.{many}
 use Rattle.rnc_syntax.specs.Productions.{annotated_parameter_at, parameter_front}
 use Rattle.rnc_syntax.specs.SyntaxView.{parameter_of}

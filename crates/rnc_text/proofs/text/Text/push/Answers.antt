@@ -1,45 +1,51 @@
-use Rattle.std.proofs.Common.{◌∙◌, sym, ap, rules}
+use Rattle.std.proofs.Common.{◌∙◌, ◌++◌, ◌∷◌, [], List, sym, ap, rules}
 use Rattle.std.proofs.lemmas.Str.{IsUtf8-string_bytes}
+use Rattle.rnc_text.specs.declared.character.Character.{Character}
 use Rattle.rnc_text.specs.declared.character.Character.TheVariants.{Ordinary}
-use Rattle.rnc_text.proofs.Held.{if_ok, pushed_plain, pushed_marked, unmarked_other}
+use Rattle.rnc_text.proofs.Held.{grows_plain, grows_marked, pushed, still_marks, unmarked_other}
 use Rattle.rnc_text.proofs.text.Text.push.Goals as goal
 
-pub returns-in-LineEnd-clause-characters : goal.returns-in-LineEnd-clause-characters
-returns-in-LineEnd-clause-characters c =
-    if_ok c.push.result
-    (λ ok. (pushed_plain c.push.result _ _ _ 10 _ c.push.ensures.bytes (IsUtf8-string_bytes c.args.self.now.text)
-    (IsUtf8-string_bytes c.push.new.self) c.requires (sym c.in-LineEnd.is) ok).is)
+-- ---- a line end
 
-pub returns-in-LineEnd-clause-used : goal.returns-in-LineEnd-clause-used
-returns-in-LineEnd-clause-used c =
-    if_ok c.push.result
-    (λ ok. (pushed_plain c.push.result _ _ _ 10 _ c.push.ensures.bytes (IsUtf8-string_bytes c.args.self.now.text)
-    (IsUtf8-string_bytes c.push.new.self) c.requires (sym c.in-LineEnd.is) ok).used)
+pub invariant_of-self : goal.invariant_of-self
+invariant_of-self c =
+    still_marks c.push.result _ _ _ 10 c.push.ensures.bytes (IsUtf8-string_bytes c.self.inside.text) (IsUtf8-string_bytes c.push.new.self) c.self.invariant
 
-pub returns-in_ok-push-in-Ordinary-eq10-clause-characters : goal.returns-in_ok-push-in-Ordinary-eq10-clause-characters
-returns-in_ok-push-in-Ordinary-eq10-clause-characters c =
-    if_ok c.push-in-Ordinary-eq10-2.result
-    (λ ok. (pushed_marked c.push-in-Ordinary-eq10-2.result _ _ _ _ 10 _ c.push-in-Ordinary-eq10-2.ensures.bytes (search rules)
-    (IsUtf8-string_bytes c.args.self.now.text) (IsUtf8-string_bytes c.push-in-Ordinary-eq10-2.new.self) c.requires
-    (ap Ordinary (sym (rw c.in-Ordinary-eq10.is at c.in-Ordinary-eq10.field-0-test)) ∙ sym c.in-Ordinary-eq10.is) ok).is)
+pub returns-in-LineEnd : goal.returns-in-LineEnd
+returns-in-LineEnd c =
+    pushed c.push.result _ _ _ 10 _ _ c.push.ensures.bytes (IsUtf8-string_bytes c.self.inside.text) (IsUtf8-string_bytes c.push.new.self) c.self.invariant
+    (sym c.in-LineEnd.is) c.self.view_is
 
-pub returns-in_ok-push-in-Ordinary-eq10-clause-used : goal.returns-in_ok-push-in-Ordinary-eq10-clause-used
-returns-in_ok-push-in-Ordinary-eq10-clause-used c =
-    if_ok c.push-in-Ordinary-eq10-2.result
-    (λ ok. (pushed_marked c.push-in-Ordinary-eq10-2.result _ _ _ _ 10 _ c.push-in-Ordinary-eq10-2.ensures.bytes (search rules)
-    (IsUtf8-string_bytes c.args.self.now.text) (IsUtf8-string_bytes c.push-in-Ordinary-eq10-2.new.self) c.requires
-    (ap Ordinary (sym (rw c.in-Ordinary-eq10.is at c.in-Ordinary-eq10.field-0-test)) ∙ sym c.in-Ordinary-eq10.is) ok).used)
+-- ---- an LF that is none
 
-pub returns-in-Ordinary-clause-characters : goal.returns-in-Ordinary-clause-characters
-returns-in-Ordinary-clause-characters c =
-    if_ok c.push-in-Ordinary.result
-    (λ ok. (pushed_plain c.push-in-Ordinary.result _ _ _ c.in-Ordinary.character _ c.push-in-Ordinary.ensures.bytes (IsUtf8-string_bytes c.args.self.now.text)
-    (IsUtf8-string_bytes c.push-in-Ordinary.new.self) c.requires
-    (unmarked_other _ (λ e. c.in-Ordinary.character-test.1 (rw c.in-Ordinary.is e)) ∙ sym c.in-Ordinary.is) ok).is)
+pub invariant_of-self-in_err-push-in-Ordinary-eq10-2 : goal.invariant_of-self-in_err-push-in-Ordinary-eq10-2
+invariant_of-self-in_err-push-in-Ordinary-eq10-2 c =
+    rw c.in_err-push-in-Ordinary-eq10-2.ensures.items
+    (grows_plain _ _ _ 10 (IsUtf8-string_bytes c.self.inside.text) (IsUtf8-string_bytes c.push-in-Ordinary-eq10.new.self)
+    c.in_ok-push-in-Ordinary-eq10.ensures.bytes c.self.invariant).are
 
-pub returns-in-Ordinary-clause-used : goal.returns-in-Ordinary-clause-used
-returns-in-Ordinary-clause-used c =
-    if_ok c.push-in-Ordinary.result
-    (λ ok. (pushed_plain c.push-in-Ordinary.result _ _ _ c.in-Ordinary.character _ c.push-in-Ordinary.ensures.bytes (IsUtf8-string_bytes c.args.self.now.text)
-    (IsUtf8-string_bytes c.push-in-Ordinary.new.self) c.requires
-    (unmarked_other _ (λ e. c.in-Ordinary.character-test.1 (rw c.in-Ordinary.is e)) ∙ sym c.in-Ordinary.is) ok).used)
+pub invariant_of-self-in-Ordinary-eq10 : goal.invariant_of-self-in-Ordinary-eq10
+invariant_of-self-in-Ordinary-eq10 c =
+    (grows_marked _ _ _ _ 10 (IsUtf8-string_bytes c.self.inside.text) (IsUtf8-string_bytes c.push-in-Ordinary-eq10.new.self)
+    c.in_ok-push-in-Ordinary-eq10.ensures.bytes (search rules) c.self.invariant).are
+
+pub returns-in_ok-push-in-Ordinary-eq10-2 : goal.returns-in_ok-push-in-Ordinary-eq10-2
+returns-in_ok-push-in-Ordinary-eq10-2 c =
+    (grows_marked _ _ _ _ 10 (IsUtf8-string_bytes c.self.inside.text) (IsUtf8-string_bytes c.push-in-Ordinary-eq10.new.self)
+    c.in_ok-push-in-Ordinary-eq10.ensures.bytes (search rules) c.self.invariant).is
+    ∙ ap (λ (cs : List Character). cs ++ Ordinary 10 ∷ []) c.self.view_is
+    ∙ ap (λ (d : Character). c.args.self.now ++ d ∷ []) (ap Ordinary (sym (rw c.in-Ordinary-eq10.is at c.in-Ordinary-eq10.field-0-test))
+    ∙ sym c.in-Ordinary-eq10.is)
+
+-- ---- any other character
+
+pub invariant_of-self-in-Ordinary : goal.invariant_of-self-in-Ordinary
+invariant_of-self-in-Ordinary c =
+    still_marks c.push-in-Ordinary.result _ _ _ c.in-Ordinary.character c.push-in-Ordinary.ensures.bytes (IsUtf8-string_bytes c.self.inside.text)
+    (IsUtf8-string_bytes c.push-in-Ordinary.new.self) c.self.invariant
+
+pub returns-in-Ordinary : goal.returns-in-Ordinary
+returns-in-Ordinary c =
+    pushed c.push-in-Ordinary.result _ _ _ c.in-Ordinary.character _ _ c.push-in-Ordinary.ensures.bytes (IsUtf8-string_bytes c.self.inside.text)
+    (IsUtf8-string_bytes c.push-in-Ordinary.new.self) c.self.invariant
+    (unmarked_other _ (λ e. c.in-Ordinary.character-test.1 (rw c.in-Ordinary.is e)) ∙ sym c.in-Ordinary.is) c.self.view_is

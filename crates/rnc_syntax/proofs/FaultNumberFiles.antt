@@ -12,7 +12,7 @@ use Rattle.rnc_syntax.proofs.LocalityLiterals.{made_local}
 use Rattle.rnc_syntax.proofs.LocalityPrimaries.{Locals}
 use Rattle.rnc_syntax.proofs.LocalityComponents.{inside_local, self_local}
 use Rattle.rnc_syntax.proofs.LocalityFiles.{declarations_local, body_local}
-use Rattle.rnc_syntax.proofs.FaultPlace.{IsStuckBehind, stuck_at}
+use Rattle.rnc_syntax.proofs.FaultNumber.{IsStuckBehind, stuck_at}
 use Rattle.rnc_syntax.proofs.ViabilityFiles.{file_of, viable}
 
 -- a file, whatever comes after it
@@ -85,7 +85,7 @@ behind n m ts left e (stuck_there front rest parts is same) =
     }
 behind n m ts left e (deep is) = absurd (not_deep n ts left e (deep_then (inside_at n) ts is))
 
--- the place of the token where the reading stopped
+-- the number of the token where the reading stopped
 pub stuck : (n : ℕ) (ts : List Lexeme) (left : ℕ) → file_with (inside_at n) ts ≡ Err (Unexpected left) → IsStuckAt ts (length ts - left + 1)
 stuck n ts left e = stuck_at n ts left (viable n ts left e)
     (λ m le. behind n m ts left e (file_local (inside_at n) (inside_at m) (inside_local n m le) (self_local m) ts))

@@ -44,37 +44,38 @@ take_front (y ∷ ys) x r = ap (λ (r : List Lexeme). y ∷ r) (take_front ys x 
 goes_on : (k : ℕ) (us front : List Lexeme) (x : Lexeme) → take k us ≡ front ++ x ∷ [] → us ≡ front ++ x ∷ drop k us
 goes_on k us front x e = split k us ∙ ap (λ (r : List Lexeme). r ++ drop k us) e ∙ append_assoc front (x ∷ []) (drop k us)
 
-module _ (depth : ℕ) (front us : List Lexeme) (nest : NestsWithin depth us) (place : ℕ) (e : place ≡ suc (length front)) where
+module _ (depth : ℕ) (front us : List Lexeme) (nest : NestsWithin depth us) (number : ℕ) (e : number ≡ suc (length front)) where
   -- wherever the same token stands behind the front, the file is stuck there
   abbrev StuckAlike : List Lexeme → Type 0
   StuckAlike rest = (other : List Lexeme) → SameHead rest other → file_with (inside_at depth) (front ++ other) ≡ Err (Unexpected (length other))
 
-  alike_at_end : StuckAlike [] → BeginsAlike place (front ++ []) us → IsSentence us → ⊥
+  alike_at_end : StuckAlike [] → BeginsAlike number (front ++ []) us → IsSentence us → ⊥
   alike_at_end same alike s =
       let whole : us ≡ front ++ [] = alike.1 (omega (arith, e, ap length (append-nil front))) in
       no_sentence depth 0 us nest (ap (file_with (inside_at depth)) whole ∙ same [] tt) s
 
-  alike_at_token : (x : Lexeme) (r : List Lexeme) → StuckAlike (x ∷ r) → BeginsAlike place (front ++ x ∷ r) us → IsSentence us → ⊥
+  alike_at_token : (x : Lexeme) (r : List Lexeme) → StuckAlike (x ∷ r) → BeginsAlike number (front ++ x ∷ r) us → IsSentence us → ⊥
   alike_at_token x r same alike s =
-      let t : take place us ≡ front ++ x ∷ [] = alike.0 (omega (arith, e, length-append front (x ∷ r))) ∙ ap (λ (k : ℕ). take k (front ++ x ∷ r)) e
+      let t : take number us ≡ front ++ x ∷ [] = alike.0 (omega (arith, e, length-append front (x ∷ r))) ∙ ap (λ (k : ℕ). take k (front ++ x ∷ r)) e
       ∙ take_front front x r in
-      no_sentence depth (length (x ∷ drop place us)) us nest (ap (file_with (inside_at depth)) (goes_on place us front x t) ∙ same (x ∷ drop place us) refl) s
+      no_sentence depth (length (x ∷ drop number us)) us nest
+      (ap (file_with (inside_at depth)) (goes_on number us front x t) ∙ same (x ∷ drop number us) refl) s
 
-  alike_at : (rest : List Lexeme) → StuckAlike rest → BeginsAlike place (front ++ rest) us → IsSentence us → ⊥
+  alike_at : (rest : List Lexeme) → StuckAlike rest → BeginsAlike number (front ++ rest) us → IsSentence us → ⊥
   alike_at [] same alike s = alike_at_end same alike s
   alike_at (x ∷ r) same alike s = alike_at_token x r same alike s
 
 alike_behind : (depth : ℕ) (ts us : List Lexeme) (left : ℕ) → NestsWithin depth us → IsStuckBehind depth ts left → BeginsAlike (length ts - left + 1) ts us
     → IsSentence us → ⊥
 alike_behind depth ts us left nest b alike s =
-    let place : length ts - left + 1 ≡ suc (length b.front) = omega (arith, b.count, ap length b.parts, length-append b.front b.rest) in
-    alike_at depth b.front us nest (length ts - left + 1) place b.rest b.same (subst (λ (ts' : List Lexeme). BeginsAlike (length ts - left + 1) ts' us) b.parts
+    let number : length ts - left + 1 ≡ suc (length b.front) = omega (arith, b.count, ap length b.parts, length-append b.front b.rest) in
+    alike_at depth b.front us nest (length ts - left + 1) number b.rest b.same (subst (λ (ts' : List Lexeme). BeginsAlike (length ts - left + 1) ts' us) b.parts
     alike) s
 
 before : (k : ℕ) → k ≡ k + 1 - 1
 before k = omega arith
 
--- the place of the fault
+-- the number of the token at the fault
 pub stuck_at : (n : ℕ) (ts : List Lexeme) (left : ℕ) → BeginsSentence (length ts - left) ts → ((m : ℕ) → n ≤ m → IsStuckBehind m ts left)
     → IsStuckAt ts (length ts - left + 1)
 stuck_at n ts left begins behind = record {
