@@ -99,11 +99,31 @@ pub data FileTree : Type 0 where
   pattern_file : Pattern → FileTree
   grammar_file : Components → FileTree
 
+-- the components of the grammar that the pattern is
+abbrev pub whole_grammar : Pattern → Option Components
+whole_grammar (element c p) = None
+whole_grammar (attribute c p) = None
+whole_grammar (list p) = None
+whole_grammar (mixed p) = None
+whole_grammar (optional p) = None
+whole_grammar (zero_or_more p) = None
+whole_grammar (one_or_more p) = None
+whole_grammar (ref n) = None
+whole_grammar (parent_ref n) = None
+whole_grammar empty = None
+whole_grammar text = None
+whole_grammar not_allowed = None
+whole_grammar (value d v) = None
+whole_grammar (data_of d ps) = None
+whole_grammar (data_except d ps p) = None
+whole_grammar (external m) = None
+whole_grammar (grammar cs) = Some cs
+whole_grammar (joined k ps) = None
+
 -- the components of the grammar that a file is, also where its whole pattern is `grammar { .. }`
 abbrev pub grammar_of : FileTree → Option Components
 grammar_of (grammar_file cs) = Some cs
-grammar_of (pattern_file (grammar cs)) = Some cs
-grammar_of (pattern_file _) = None
+grammar_of (pattern_file p) = whole_grammar p
 
 -- the file is a grammar, also where its whole pattern is `grammar { .. }`
 abbrev pub is_grammar : FileTree → Bool

@@ -80,15 +80,23 @@ IsValidBy g texts root = IsValid (grammar_leaves g texts) In texts tt (as_tree g
 
 -- each child stands below n
 abbrev pub AreChildrenBelow : ℕ → Simple → Type 0
+AreChildrenBelow n simple.NotAllowed = ⊤
+AreChildrenBelow n simple.Empty = ⊤
+AreChildrenBelow n simple.Text = ⊤
+AreChildrenBelow n (simple.Element e) = ⊤
 AreChildrenBelow n (simple.Attribute class body) = body.0 < n
 AreChildrenBelow n (simple.Group a b) = (a.0 < n) × (b.0 < n)
 AreChildrenBelow n (simple.Choice a b) = (a.0 < n) × (b.0 < n)
-AreChildrenBelow n _ = ⊤
 
 -- a ref is one of the n elements
 abbrev pub IsLeafListed : ℕ → Simple → Type 0
+IsLeafListed n simple.NotAllowed = ⊤
+IsLeafListed n simple.Empty = ⊤
+IsLeafListed n simple.Text = ⊤
 IsLeafListed n (simple.Element e) = e.0 < n
-IsLeafListed n _ = ⊤
+IsLeafListed n (simple.Attribute class body) = ⊤
+IsLeafListed n (simple.Group a b) = ⊤
+IsLeafListed n (simple.Choice a b) = ⊤
 
 -- one level of: each choice has two members, told of the classes inside
 abbrev pub paired_step : NameClass-F Bool → Bool
@@ -105,8 +113,13 @@ IsPaired c = IsTrue (fold-NameClass Bool paired_step c)
 
 -- the same of the name class of an attribute
 abbrev pub IsClassPaired : Simple → Type 0
+IsClassPaired simple.NotAllowed = ⊤
+IsClassPaired simple.Empty = ⊤
+IsClassPaired simple.Text = ⊤
+IsClassPaired (simple.Element e) = ⊤
 IsClassPaired (simple.Attribute class body) = IsPaired class
-IsClassPaired _ = ⊤
+IsClassPaired (simple.Group a b) = ⊤
+IsClassPaired (simple.Choice a b) = ⊤
 
 -- each pattern's children stand before it
 abbrev pub Falls : List Simple → Type 0

@@ -83,4 +83,13 @@ IsFreeOfNotAllowed (s_joined k s u) = IsFreeOfNotAllowed s × IsFreeOfNotAllowed
 -- (RELAX NG Specification, section 5 after 4.20)
 abbrev pub IsSimpleBody : {L : Type 0} → Simple L → Type 0
 IsSimpleBody s_not_allowed = Unit {0}
-IsSimpleBody s = IsFreeOfNotAllowed s
+IsSimpleBody s_empty = Unit {0}
+IsSimpleBody s_text = Unit {0}
+IsSimpleBody (s_leaf l) = Unit {0}
+IsSimpleBody (s_attribute c s) = IsFreeOfNotAllowed s
+IsSimpleBody (s_list s) = IsFreeOfNotAllowed s
+IsSimpleBody (s_data d) = Unit {0}
+IsSimpleBody (s_data_except d s) = IsFreeOfNotAllowed s
+IsSimpleBody (s_value d v) = Unit {0}
+IsSimpleBody (s_one_or_more s) = IsFreeOfNotAllowed s
+IsSimpleBody (s_joined k s u) = IsFreeOfNotAllowed s × IsFreeOfNotAllowed u
