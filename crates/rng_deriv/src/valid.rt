@@ -34,8 +34,8 @@ pub fn is_valid(alloc: Global, grammar: &SimpleGrammar, root: &Item) -> Result<b
     let names = ElementNames::new(alloc, grammar)?;
     let mut table = table_of(alloc, grammar)?;
     let symbol = symbol_of(alloc, grammar, &names, &mut table, root)?;
-    let left = after_one(alloc, grammar, &mut table, &symbol, start)?;
-    Ok(table.at(left).nullable)
+    let rest = after_one(alloc, grammar, &mut table, &symbol, start)?;
+    Ok(table.at(rest).nullable)
 }
 
 /// An item as patterns take it: an element by its children, without blank strings where there is an element.

@@ -14,6 +14,6 @@ returns c =
     let t = c.args.grammar.now in
     let rs = c.after_one.new.table in
     let s = c.in_ok-symbol.symbol in
-    let copied = AreCopied-longer t _ rs c.in_ok-left.ensures.longer (AreCopied-longer t _ _ c.in_ok-symbol.ensures.longer c.in_ok-table.ensures) in
-    let after = subst (λ (n : PatternId). IsAfter t rs s n.0 c.in_ok-left.left) c.start-start.ensures.start c.in_ok-left.ensures.after in
-    root_answer t rs s (item_of c.args.root.now) c.in_ok-left.left c.at.result.nullable copied c.in_ok-symbol.ensures.stands after (c.at.ensures.flag t)
+    let copied = AreCopied-longer t _ rs c.in_ok-rest.ensures.longer (AreCopied-longer t _ _ c.in_ok-symbol.ensures.longer c.in_ok-table.ensures) in
+    let after = subst (λ (n : PatternId). IsAfter t rs s n.0 c.in_ok-rest.rest) c.start-start.ensures.start c.in_ok-rest.ensures.after in
+    root_answer t rs s (item_of c.args.root.now) c.in_ok-rest.rest c.at.result.nullable copied c.in_ok-symbol.ensures.stands after (c.at.ensures.flag t)
