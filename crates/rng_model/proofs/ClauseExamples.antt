@@ -5,7 +5,8 @@ use Rattle.rng_model.specs.Names.{NameClass, any_name, any_except}
 use Rattle.rng_model.specs.Tree as tree
 use Rattle.rng_model.specs.Tree.{Datatype, Tree, choice, Simple, s_text, s_list, as_tree}
 use Rattle.rng_model.specs.Datatypes.{IsKnownDatatype}
-use Rattle.rng_model.specs.Patterns.{Place, Position, Point, Pattern, text, element, attribute, list, data_of, ref, parent_ref, grammar, joined, no_patterns, pattern_tree}
+use Rattle.rng_model.specs.Patterns.{Place, Position, Point, Pattern, text, element, attribute, list, data_of, ref, parent_ref, grammar, joined, no_patterns}
+use Rattle.rng_model.specs.Patterns.{pattern_tree}
 use Rattle.rng_model.specs.Patterns as in_pattern
 use Rattle.rng_model.specs.Schema.{Schema, Component, Definition, body, main_start, IsWrittenAt}
 use Rattle.rng_model.specs.SimpleForm as at
@@ -31,7 +32,8 @@ s11 = clauses.in_schema (clauses.in_name_class (clauses.of_element (start_writte
 
 -- `element a { attribute xmlns { text } }`
 s11_xmlns : BreaksClause (one_grammar (start (an_element_of (codes "a") (attribute (named (codes "xmlns")) text)) ∷ [])) 11
-s11_xmlns = clauses.in_schema (clauses.in_name_class (clauses.of_declaration (start_written (in_pattern.in_element in_pattern.itself)) itself (clauses.xmlns_is refl refl)))
+s11_xmlns = clauses.in_schema (clauses.in_name_class (
+    clauses.of_declaration (start_written (in_pattern.in_element in_pattern.itself)) itself (clauses.xmlns_is refl refl)))
 
 -- `element a { u:t }`, where `u` is a library that is not known
 abbrev unknown_type : Datatype
@@ -49,7 +51,9 @@ s13 = clauses.in_schema (clauses.in_combination (clauses.two_plain {x = []} refl
 
 -- `a |= text   a &= text`
 abbrev combined_by_both : List Component
-combined_by_both = record { name = Some (codes "a"); method = Choice; pattern = text } ∷ record { name = Some (codes "a"); method = Interleave; pattern = text } ∷ []
+combined_by_both =
+    record { name = Some (codes "a"); method = Choice; pattern = text }
+    ∷ record { name = Some (codes "a"); method = Interleave; pattern = text } ∷ []
 
 s13_both : BreaksClause (one_grammar combined_by_both) 13
 s13_both = clauses.in_schema (clauses.in_combination (clauses.both_methods {x = []} (record { components = combined_by_both; there = refl; among = here })

@@ -1,5 +1,6 @@
 -- `element a { (text & text), notAllowed }` breaks no clause: what would break S27 is gone once notAllowed is carried outward.
-use Rattle.std.proofs.Common.{◌≡◌, refl, sym, subst, ap, ◌∙◌, ◌⊎◌, inl, inr, arith, ℕ, suc, ◌<◌, List, [], ◌∷◌, Option, Some, None, codes, length, slice_get, Contains, zero, Bool, true, false, true≢false}
+use Rattle.std.proofs.Common.{◌≡◌, refl, sym, subst, ap, ◌∙◌, ◌⊎◌, inl, inr, arith, ℕ, suc, ◌<◌, List, [], ◌∷◌, Option, Some, None, codes, length, slice_get}
+use Rattle.std.proofs.Common.{Contains, zero, Bool, true, false, true≢false}
 use Rattle.std.proofs.lemmas.List.Elements.{All-nil, All-cons, All-contains, Contains-push}
 use Rattle.rng_model.specs.Lists.{Among, here, there, HasTwo, first_and, both_later}
 use Rattle.rng_model.specs.Names.{Name, NameClass, name_is}
@@ -12,14 +13,16 @@ use Rattle.rng_model.specs.Step.{ClassStep, ClassSteps, IsSimpleClassOf}
 use Rattle.rng_model.specs.Step as class_steps
 use Rattle.rng_model.specs.SimpleForm.{LeafIn}
 use Rattle.rng_model.specs.SimpleForm as at
-use Rattle.rng_model.specs.Patterns.{Place, Pattern, text, not_allowed, element, attribute, data_of, data_except, value, ref, parent_ref, joined, no_patterns, IsWrittenIn}
+use Rattle.rng_model.specs.Patterns.{Place, Pattern, text, not_allowed, element, attribute, data_of, data_except, value, ref, parent_ref, joined, no_patterns}
+use Rattle.rng_model.specs.Patterns.{IsWrittenIn}
 use Rattle.rng_model.specs.Patterns as in_pattern
 use Rattle.rng_model.specs.Schema.{Schema, Component, body, main_start, IsWrittenAt, HasComponent}
 use Rattle.rng_model.specs.Unfolding.{Leaf, Unfolds, IsTreeOf, IsBodyOf}
 use Rattle.rng_model.specs.Unfolding as u
 use Rattle.rng_model.specs.Simplification.{RuleGroup, rewriting, propagation, Step, AnyStep, Steps, no_step, step_and, IsLast, IsRewritten, IsSimpleFormOf}
 use Rattle.rng_model.specs.Simplification as steps
-use Rattle.rng_model.specs.Reached.{IsReachedByTrees, from_start, from_element, IsReachedTree, of_start, of_body, IsReachedBySimpleForms, from_simple_start, from_simple_body}
+use Rattle.rng_model.specs.Reached.{IsReachedByTrees, from_start, from_element, IsReachedTree, of_start, of_body, IsReachedBySimpleForms, from_simple_start}
+use Rattle.rng_model.specs.Reached.{from_simple_body}
 use Rattle.rng_model.specs.Depth.{depth, class_depth}
 use Rattle.rng_model.specs.SchemaForm.{Element, IsElementOf, SimpleForm, IsSimpleFormOfSchema, IsSameUpToNumbering, IsSimpleGrammarOf}
 use Rattle.rng_model.specs.SchemaClauses as clauses
@@ -447,12 +450,19 @@ the_bodies (suc k) c p e = absurd (nothing_behind e) where
   nothing_behind : {x : NameClass × Simple ℕ} → slice_get [] k ≡ Some x → ⊥
   nothing_behind f = cc
 
+abbrev HasNumber : Element → Type 0
+HasNumber e = (k : ℕ) × (k < 1) × (the_element ≡ e.name)
+
 pub is_simple_grammar : IsSimpleGrammarOf good the_grammar
-is_simple_grammar = (the_form, is_form, record {
-  element = λ n. the_element;
-  one_to_one = λ j k a b e. only_number refl a b;
-  all = All-cons (λ e. (k : ℕ) × (k < 1) × (the_element ≡ e.name)) element_of_form [] (0, omega arith, refl) (All-nil (λ e. (k : ℕ) × (k < 1) × (the_element ≡ e.name)));
-  start = refl;
-  start_below = λ k i. leaves_below i;
-  bodies = the_bodies;
-})
+is_simple_grammar = (
+  the_form,
+  is_form,
+  record {
+    element = λ n. the_element;
+    one_to_one = λ j k a b e. only_number refl a b;
+    all = All-cons HasNumber element_of_form [] (0, omega arith, refl) (All-nil HasNumber);
+    start = refl;
+    start_below = λ k i. leaves_below i;
+    bodies = the_bodies;
+  },
+)

@@ -163,6 +163,6 @@ is_front f (clauses.at_line {before = before} {behind = behind} l e n b) = absur
   moved : {before behind : List Line} {l : Line} {clause : ℕ} → IsAlone before behind the_line l → BreaksHere before l behind clause → ⊥
   moved {behind = behind} {l = l} {clause = clause} a b =
       breaks_nothing_here (subst (λ ls. BreaksHere [] the_line ls clause) a.rest (subst (λ m. BreaksHere [] m behind clause) a.same
-          (subst (λ ls. BreaksHere ls l behind clause) a.front b)))
+      (subst (λ ls. BreaksHere ls l behind clause) a.front b)))
 is_front f (clauses.unfinished o) = refl
 is_front f (clauses.rootless n) = refl

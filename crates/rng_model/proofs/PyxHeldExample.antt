@@ -17,7 +17,10 @@ IsEnded l = l.ended ≡ true
 pub eight_kept : KeptOf begun 8
 unfolding lines IsEnded
 eight_kept = in_tag {whole = whole (codes "(a") ∷ whole (codes "Ax 1") ∷ []} {begun = codes "-y"} {outer = []}
-    (record { ended = All-cons IsEnded (whole (codes "(a")) (whole (codes "Ax 1") ∷ []) refl (All-cons IsEnded (whole (codes "Ax 1")) [] refl (All-nil IsEnded)); parts = inr refl })
+    (record {
+      ended = All-cons IsEnded (whole (codes "(a")) (whole (codes "Ax 1") ∷ []) refl (All-cons IsEnded (whole (codes "Ax 1")) [] refl (All-nil IsEnded));
+      parts = inr refl;
+    })
     (record {
       front = [];
       tag = whole (codes "(a");

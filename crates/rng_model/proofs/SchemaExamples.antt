@@ -3,7 +3,8 @@ use Rattle.std.proofs.Common.{◌≡◌, refl, ap, sym, subst, ℕ, List, [], �
 use Rattle.rng_model.specs.Names.{Name, NameClass, name_is}
 use Rattle.rng_model.specs.Tree as tree
 use Rattle.rng_model.specs.Tree.{Tree, choice, group, interleave}
-use Rattle.rng_model.specs.Patterns.{Place, Pattern, element, empty, ref, parent_ref, grammar, external, joined, no_patterns, Point, an_element, a_ref, a_parent_ref, a_grammar}
+use Rattle.rng_model.specs.Patterns.{Place, Pattern, element, empty, ref, parent_ref, grammar, external, joined, no_patterns, Point, an_element, a_ref}
+use Rattle.rng_model.specs.Patterns.{a_parent_ref, a_grammar}
 use Rattle.rng_model.specs.Lists.{Among}
 use Rattle.rng_model.specs.Schema.{Schema, Component, Definition, body, main_start, HasComponent}
 use Rattle.rng_model.specs.SimpleForm as at
@@ -75,8 +76,11 @@ two_names = one_grammar (start (joined choice (ref (codes "a")) (ref (codes "b")
 choice_of_two_names : IsTreeOf two_names (main_start two_names)
     (tree.joined choice (tree.leaf (empty_leaf (1 ∷ []) (codes "x"))) (tree.leaf (empty_leaf (2 ∷ []) (codes "x"))) tree.no_trees)
 unfolding body
-choice_of_two_names = (tree.joined choice (tree.leaf (a_ref (codes "a"))) (tree.leaf (a_ref (codes "b"))) tree.no_trees, refl,
-    u.joined_is (u.found refl refl (u.element_is refl)) (u.found refl refl (u.element_is refl)) u.none_is)
+choice_of_two_names = (
+  tree.joined choice (tree.leaf (a_ref (codes "a"))) (tree.leaf (a_ref (codes "b"))) tree.no_trees,
+  refl,
+  u.joined_is (u.found refl refl (u.element_is refl)) (u.found refl refl (u.element_is refl)) u.none_is,
+)
 
 -- a &= element x { empty }   a = element y { empty }   a &= element z { empty }: an interleave, nested from the left
 abbrev three_by_interleave : Schema
@@ -90,7 +94,7 @@ empty_point position local = tree.leaf (an_element position (named local) empty)
 
 interleave_of_three : body three_by_interleave (in_main (Some (codes "a"))) ≡
     Some (tree.joined interleave (tree.joined interleave (empty_point (0 ∷ []) (codes "x")) (empty_point (1 ∷ []) (codes "y")) tree.no_trees)
-        (empty_point (2 ∷ []) (codes "z")) tree.no_trees)
+    (empty_point (2 ∷ []) (codes "z")) tree.no_trees)
 unfolding body
 interleave_of_three = refl
 

@@ -16,11 +16,13 @@ use Rattle.rng_model.specs.Unfolding.{Leaf, to_definition, aim, Unfolds}
 module _ (s : Schema) where
   -- what is looked up stands for the combined body that is found, at its place
   pub data IsFound : Place → Point → Place → Tree Point → Type 0 where
-    is_found : {x z : Place} {l : Point} {d : Definition} {a : Tree Point} → aim s x l ≡ to_definition d → body s d ≡ Some a → z ≡ d.place → IsFound x l z a
+    is_found : {x z : Place} {l : Point} {d : Definition} {a : Tree Point} → aim s x l ≡ to_definition d → body s d ≡ Some a → z ≡ d.place
+        → IsFound x l z a
 
   -- an element has its class, and its body, which is its only child, at the same place
   pub data IsWrittenElement : Place → Point → NameClass → Place → Tree Point → Type 0 where
-    is_written : {x : Place} {n : Position} {c : NameClass} {p : Pattern} {a : Tree Point} → a ≡ pattern_tree (0 ∷ n) p → IsWrittenElement x (an_element n c p) c x a
+    is_written : {x : Place} {n : Position} {c : NameClass} {p : Pattern} {a : Tree Point} → a ≡ pattern_tree (0 ∷ n) p
+        → IsWrittenElement x (an_element n c p) c x a
 
   -- the except of a data has the text if its unfolded tree does (section 6.2.8)
   abbrev pub ExceptHas : Texts → Place → Tree Point → List ℕ → Type 0

@@ -1,0 +1,60 @@
+-- Small schemas of two files: which components their main grammar gets.
+use Rattle.std.proofs.Common.{◌≡◌, refl, List, ℕ, [], ◌∷◌, Option, Some, None, codes}
+use Rattle.rng_model.specs.Names as names
+use Rattle.rng_model.specs.Patterns as pattern
+use Rattle.rng_model.specs.Schema.{Component}
+use Rattle.rng_model.specs.declared.method.Method.TheVariants as methods
+use Rattle.rnc_grammar.specs.FileTree as tree
+use Rattle.rnc_grammar.specs.FileTree.{FileTree, Namespace, inherited, given, grammar_file, grammar_of}
+use Rattle.rng_load.specs.Places.{Given, Gathers, nothing, a_start, a_define, an_include, ref_is, element_is, empty_is}
+
+-- every mention is of this file
+abbrev always : FileTree → List ℕ → Option FileTree
+always f h = Some f
+
+-- `element NAME { empty }`, where the name has this namespace
+abbrev empty_element : Namespace → List ℕ → tree.Pattern
+empty_element u local = tree.element (tree.name_is (record { namespace = u; local = local })) tree.empty
+
+abbrev read_element : List ℕ → List ℕ → pattern.Pattern
+read_element u local = pattern.element (names.name_is (record { ns = u; local = local })) pattern.empty
+
+abbrev mention : Namespace → tree.Mention
+mention u = record { href = codes "b.rnc"; namespace = u; token = 1 }
+
+abbrev a_component : Option (List ℕ) → pattern.Pattern → Given
+a_component y p = record { component = record { name = y; method = methods.Plain; pattern = p }; nested = [] }
+
+-- ---- a name that is overridden
+
+-- b.rnc: start = x   x |= element z { empty }   x |= element w { empty }
+abbrev two_of_x : tree.Components
+two_of_x =
+    tree.component_and (tree.start methods.Plain (tree.ref (codes "x")))
+    (tree.component_and (tree.define (codes "x") methods.Choice (empty_element inherited (codes "z")))
+    (tree.component_and (tree.define (codes "x") methods.Choice (empty_element inherited (codes "w"))) tree.no_components))
+
+-- include "b.rnc" { x = element y { empty } }
+abbrev including : tree.Components
+including = tree.component_and
+    (tree.include (mention inherited) (tree.component_and (tree.define (codes "x") methods.Plain (empty_element inherited (codes "y"))) tree.no_components))
+    tree.no_components
+
+-- both components of the name go, and the overriding one follows what is left
+overridden : Gathers (always (grammar_file two_of_x)) [] [] 0 including
+    (a_component None (pattern.ref (codes "x")) ∷ a_component (Some (codes "x")) (read_element [] (codes "y")) ∷ [])
+overridden = an_include refl refl (a_start ref_is (a_define (element_is empty_is) (a_define (element_is empty_is) nothing)))
+    (a_define (element_is empty_is) nothing) nothing refl
+
+-- ---- a namespace that is handed on
+
+-- b.rnc: start = element a { empty }
+abbrev one_start : tree.Components
+one_start = tree.component_and (tree.start methods.Plain (empty_element inherited (codes "a"))) tree.no_components
+
+-- default namespace = "u"   include "b.rnc"
+abbrev handing_on : tree.Components
+handing_on = tree.component_and (tree.include (mention (given (codes "u"))) tree.no_components) tree.no_components
+
+handed_on : Gathers (always (grammar_file one_start)) [] [] 0 handing_on (a_component None (read_element (codes "u") (codes "a")) ∷ [])
+handed_on = an_include refl refl (a_start (element_is empty_is) nothing) nothing nothing refl

@@ -1,0 +1,3 @@
+pub mod LoadOrder
+pub mod Mentions
+pub mod Places
