@@ -12,7 +12,7 @@ use Rattle.rnc_syntax.specs.Syntax as syntax
 use Rattle.rnc_grammar.specs.Declarations.{◌>>=◌, Scope, nothing_declared, uri_of, is_xml_uri, may_stand_for, may_stand_for_types, with_one, with_prefix}
 use Rattle.rnc_grammar.specs.Declarations.{with_default, with_datatypes, option_none_else, declare_all, body_in, file_tree}
 use Rattle.rnc_grammar.specs.DeclarationRules.{Declarable, namespace_prefix, datatype_prefix, default_namespace, declared_in, IsUndeclared, IsTwiceIn}
-use Rattle.rnc_grammar.specs.DeclarationRules.{at_first, later, StandsIn, BreaksDeclarationRule, namespace_prefix_twice, datatype_prefix_twice}
+use Rattle.rnc_grammar.specs.DeclarationRules.{at_first, later, IsPrefixIn, BreaksDeclarationRule, namespace_prefix_twice, datatype_prefix_twice}
 use Rattle.rnc_grammar.specs.DeclarationRules.{default_namespace_twice, xml_as_another, xsd_as_another, xmlns_declared, namespace_prefix_undeclared}
 use Rattle.rnc_grammar.specs.DeclarationRules.{datatype_prefix_undeclared}
 use Rattle.rnc_grammar.specs.FileTree.{FileTree, Namespace, given}
@@ -339,7 +339,7 @@ module _ (f : syntax.File) where
     undeclared : (x : Declarable) → is_declared s x ≡ false → IsUndeclared x f.declarations
     undeclared x e u a = true≢false (sym (h.now x u a) ∙ e)
 
-    unknown_broken : (x : Declarable) → StandsIn x f.body → is_known s x ≡ false → BreaksDeclarationRule f
+    unknown_broken : (x : Declarable) → IsPrefixIn x f.body → is_known s x ≡ false → BreaksDeclarationRule f
     unknown_broken (namespace_prefix p) a e =
         let other : p ≢ codes "xml" = λ is. true≢false (subst (λ p. is_known s (namespace_prefix p) ≡ false) is e) in
         namespace_prefix_undeclared a other (undeclared (namespace_prefix p) (sym (unknown_namespace s p other) ∙ e))

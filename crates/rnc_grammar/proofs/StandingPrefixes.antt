@@ -8,7 +8,7 @@ use Rattle.rng_model.specs.Lists.{Among, here, there}
 use Rattle.rnc_syntax.specs.Syntax as syntax
 use Rattle.rnc_grammar.specs.Declarations.{◌>>=◌, Scope, namespace_in, library_in, default_of, name_in, class_in, classes_in, type_in, handed_on, mention_in}
 use Rattle.rnc_grammar.specs.Declarations.{pattern_in, patterns_in, component_in, components_in, body_in}
-use Rattle.rnc_grammar.specs.DeclarationRules.{Declarable, namespace_prefix, datatype_prefix, default_namespace, StandsIn}
+use Rattle.rnc_grammar.specs.DeclarationRules.{Declarable, namespace_prefix, datatype_prefix, default_namespace, IsPrefixIn}
 use Rattle.rnc_grammar.specs.DeclarationRules.{prefixes_of_name, prefixes_of_class, prefixes_of_classes, prefixes_of_type, prefixes_of_inherit}
 use Rattle.rnc_grammar.specs.DeclarationRules.{prefixes_of_pattern, prefixes_of_patterns, prefixes_of_component, prefixes_of_components, prefixes_of_body}
 use Rattle.rnc_grammar.specs.FileTree as tree
@@ -136,9 +136,9 @@ none_is None e = refl
 none_is (Some x) e = absurd (true≢false e)
 
 -- a body in which a prefix stands that is not declared has no tree
-pub no_body : (s : Scope) (b : syntax.Body) (x : Declarable) → StandsIn x b → is_known s x ≡ false → body_in s b ≡ None
+pub no_body : (s : Scope) (b : syntax.Body) (x : Declarable) → IsPrefixIn x b → is_known s x ≡ false → body_in s b ≡ None
 no_body s b x a e = none_is (body_in s b) (body_known s b ∙ one_fails (is_known s) x (prefixes_of_body b) a e)
 
 -- in a body that has no tree such a prefix stands
-pub stands_unknown : (s : Scope) (b : syntax.Body) → body_in s b ≡ None → (x : Declarable) × StandsIn x b × (is_known s x ≡ false)
+pub stands_unknown : (s : Scope) (b : syntax.Body) → body_in s b ≡ None → (x : Declarable) × IsPrefixIn x b × (is_known s x ≡ false)
 stands_unknown s b e = fails_at (is_known s) (prefixes_of_body b) (sym (body_known s b) ∙ ap is_some e)

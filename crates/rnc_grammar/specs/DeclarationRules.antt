@@ -1,5 +1,5 @@
 -- The rules about the declarations of a schema file, and which of them it breaks (RELAX NG Compact Syntax, "Declarations" and "Syntax";
--- Namespaces in XML 1.0, section 3). Another prefix than `xml`, or the default, may be declared as the uri of `xml`.
+-- Namespaces in XML 1.0, section 3). Another prefix than `xml`, or the default, may be declared as the uri of `xml` (profile).
 use Rattle.std.specs.Prelude.{◌≢◌, ℕ, List, [], ◌∷◌, ◌++◌, Option, Some, None, codes, flat_map}
 use Rattle.rng_model.specs.Datatypes.{xsd_uri}
 use Rattle.rng_model.specs.Lists.{Among}
@@ -115,8 +115,8 @@ prefixes_of_body (syntax.pattern_body p) = prefixes_of_pattern p
 prefixes_of_body (syntax.grammar_body cs) = prefixes_of_components cs
 
 -- it stands in this body
-abbrev pub StandsIn : Declarable → syntax.Body → Type 0
-StandsIn x b = Among x (prefixes_of_body b)
+abbrev pub IsPrefixIn : Declarable → syntax.Body → Type 0
+IsPrefixIn x b = Among x (prefixes_of_body b)
 
 -- ---- the rules
 
@@ -135,8 +135,8 @@ pub data BreaksDeclarationRule (f : syntax.File) : Type 0 where
   -- `xmlns` is declared
   xmlns_declared : {u : syntax.Uri} → IsDeclaredAs (namespace_prefix (codes "xmlns")) u f.declarations → BreaksDeclarationRule f
   -- a namespace prefix that stands in the body is not declared; `xml` is declared beforehand
-  namespace_prefix_undeclared : {p : List ℕ} → StandsIn (namespace_prefix p) f.body → p ≢ codes "xml" → IsUndeclared (namespace_prefix p) f.declarations
+  namespace_prefix_undeclared : {p : List ℕ} → IsPrefixIn (namespace_prefix p) f.body → p ≢ codes "xml" → IsUndeclared (namespace_prefix p) f.declarations
       → BreaksDeclarationRule f
   -- a datatype prefix that stands in the body is not declared; `xsd` is declared beforehand
-  datatype_prefix_undeclared : {p : List ℕ} → StandsIn (datatype_prefix p) f.body → p ≢ codes "xsd" → IsUndeclared (datatype_prefix p) f.declarations
+  datatype_prefix_undeclared : {p : List ℕ} → IsPrefixIn (datatype_prefix p) f.body → p ≢ codes "xsd" → IsUndeclared (datatype_prefix p) f.declarations
       → BreaksDeclarationRule f

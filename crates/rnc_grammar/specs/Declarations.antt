@@ -84,7 +84,7 @@ declare_all s (d ∷ ds) = declare s d >>= λ s. declare_all s ds
 
 -- ---- prefixes
 
--- the namespace of names without a prefix, and of mentions that name none
+-- the namespace of elements' names without a prefix, and what a mention hands on that names none
 abbrev pub default_of : Scope → Namespace
 default_of s = option_or inherited s.default
 

@@ -22,15 +22,15 @@ is_closing (sign CloseBrace) = true
 is_closing (sign CloseParenthesis) = true
 is_closing _ = false
 
--- how many of the tokens open a bracket
+-- how many of the tokens are `{` or `(`
 abbrev pub openings : List Lexeme → ℕ
 openings ts = count_by is_opening ts
 
--- how many close one
+-- how many are `}` or `)`
 abbrev pub closings : List Lexeme → ℕ
 closings ts = count_by is_closing ts
 
--- how many brackets may be open
+-- how many `{` and `(` may be open
 abbrev pub nesting_limit : ℕ
 nesting_limit = 128
 

@@ -6,7 +6,7 @@ use Rattle.rng_model.specs.Schema.{Component}
 use Rattle.rng_model.specs.declared.method.Method.TheVariants as methods
 use Rattle.rnc_grammar.specs.FileTree as tree
 use Rattle.rnc_grammar.specs.FileTree.{FileTree, Namespace, inherited, given, grammar_file, grammar_of}
-use Rattle.rng_load.specs.Places.{Given, Gathers, nothing, a_start, a_define, an_include, ref_is, element_is, empty_is}
+use Rattle.rng_load.specs.Places.{Gathered, Gathers, nothing, a_start, a_define, an_include, ref_is, element_is, empty_is}
 
 -- every mention is of this file
 abbrev always : FileTree → List ℕ → Option FileTree
@@ -22,7 +22,7 @@ read_element u local = pattern.element (names.name_is (record { ns = u; local = 
 abbrev mention : Namespace → tree.Mention
 mention u = record { href = codes "b.rnc"; namespace = u; token = 1 }
 
-abbrev a_component : Option (List ℕ) → pattern.Pattern → Given
+abbrev a_component : Option (List ℕ) → pattern.Pattern → Gathered
 a_component y p = record { component = record { name = y; method = methods.Plain; pattern = p }; nested = [] }
 
 -- ---- a name that is overridden

@@ -1,3 +1,4 @@
 pub mod LoadOrder
 pub mod Mentions
 pub mod Places
+pub mod Loading

@@ -1,4 +1,4 @@
--- Patterns as they are written, of all kinds (RELAX NG Specification, section 3; mentions of files followed, 4.5 and 4.6).
+-- Patterns as they are written, of all kinds (RELAX NG Specification, section 3; mentions of files followed, 4.6 and 4.7).
 -- Where an element stands, its position says, so that two equal ones are told apart.
 use Rattle.std.specs.Prelude.{ℕ, ◌+◌, List, [], ◌∷◌}
 use Rattle.rng_model.specs.Names.{NameClass}

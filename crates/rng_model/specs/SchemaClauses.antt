@@ -51,11 +51,11 @@ pub data BreaksClassExcept (c : NameClass) : Type 0 where
   any_in_namespace : {u : List ℕ} {d e : NameClass} → IsPartOf (ns_except u e) c → IsPartOf d e → IsAny d → BreaksClassExcept c
   namespace_in_namespace : {u : List ℕ} {d e : NameClass} → IsPartOf (ns_except u e) c → IsPartOf d e → IsNamespace d → BreaksClassExcept c
 
--- the namespace of which no attribute may be; it has no slash at its end, as that of declarations in documents has
+-- the namespace of which no attribute may be, without the slash that the namespace of declarations has at its end in documents
 abbrev pub barred_uri : List ℕ
 barred_uri = codes "http://www.w3.org/2000/xmlns"
 
--- the class is the name `xmlns` without namespace, or a name, or all names, of that namespace
+-- the class is the name `xmlns` without namespace, or a name of that namespace, or `p:*` of it, with an except or without
 pub data IsOfDeclarations : NameClass → Type 0 where
   xmlns_is : {n : Name} → n.ns ≡ [] → n.local ≡ codes "xmlns" → IsOfDeclarations (name_is n)
   name_of_it : {n : Name} → n.ns ≡ barred_uri → IsOfDeclarations (name_is n)

@@ -1,4 +1,4 @@
--- Documents that are well formed.
+-- Items as documents have them.
 use Rattle.std.specs.Prelude.{◌≢◌, ℕ, List, [], ◌∷◌}
 use Rattle.rng_model.specs.Names.{Name}
 use Rattle.rng_model.specs.Document.{Attribute, Item, a_text, an_element, Items, no_items, item_and, list_of}
@@ -8,7 +8,7 @@ pub data HasNoName (name : Name) : List Attribute → Type 0 where
   nothing_named : HasNoName name []
   another_name : {a : Attribute} {attrs : List Attribute} → a.name ≢ name → HasNoName name attrs → HasNoName name (a ∷ attrs)
 
--- no name stands twice (XML 1.0, section 3.1)
+-- no name stands twice (Namespaces in XML 1.0, section 6.3)
 pub data Distinct : List Attribute → Type 0 where
   none : Distinct []
   one_more : {a : Attribute} {attrs : List Attribute} → HasNoName a.name attrs → Distinct attrs → Distinct (a ∷ attrs)
@@ -22,7 +22,7 @@ pub data Separate : List Item → Type 0 where
       → Separate (a_text s ∷ an_element q xs kids ∷ ns)
 
 -- in each element the attributes have distinct names, no string is empty, and no two strings stand side by side
--- (RELAX NG Specification, section 2; XML 1.0, section 3.1)
+-- (RELAX NG Specification, section 2; Namespaces in XML 1.0, section 6.3)
 abbrev mutual
   pub IsWellFormed : Item → Type 0
   IsWellFormed (a_text s) = s ≢ []
