@@ -139,7 +139,8 @@ module _ (files : List ℕ → Option FileTree) where
     a_div : {u : List ℕ} {x : Way} {n : ℕ} {is cs : tree.Components} {inner rest all : List Gathered} →
         Gathers u (n ∷ x) 0 is inner → Gathers u x (n + 1) cs rest → all ≡ inner ++ rest → Gathers u x n (tree.component_and (tree.div is) cs) all
     -- an include gives the components of its file that are not overridden, and then the overriding ones
-    an_include : {u : List ℕ} {x : Way} {n : ℕ} {m : tree.Mention} {over cs is : tree.Components} {f : FileTree} {included overriding rest all : List Gathered} →
+    an_include : {u : List ℕ} {x : Way} {n : ℕ} {m : tree.Mention} {over cs is : tree.Components} {f : FileTree}
+        {included overriding rest all : List Gathered} →
         files m.href ≡ Some f → grammar_of f ≡ Some is → Gathers (uri_in u m.namespace) (0 ∷ n ∷ x) 0 is included →
         Gathers u (1 ∷ n ∷ x) 0 over overriding → Gathers u x (n + 1) cs rest →
         all ≡ (filter (λ g. not (is_overridden overriding g)) included ++ overriding) ++ rest →
