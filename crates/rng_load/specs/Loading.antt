@@ -1,11 +1,11 @@
 -- The verdict on files that are one schema, where it is known of each which clause of its own it breaks, and which tree it has where it breaks none
 -- (docs/LANGUAGE.md; RELAX NG Specification, sections 4.5 to 4.7).
-use Rattle.std.specs.Prelude.{◌≡◌, ◌⊎◌, ℕ, List, [], ◌∷◌, ◌++◌, map, Option, Some, None}
+use Rattle.std.specs.Prelude.{◌≡◌, ℕ, List, [], ◌∷◌, ◌++◌, map, Option, Some, None}
 use Rattle.rng_model.specs.Lists.{Among}
 use Rattle.rnc_grammar.specs.FileTree.{FileTree, Mention, grammar_of}
 use Rattle.rnc_grammar.specs.FileTree as tree
 use Rattle.rng_load.specs.LoadOrder.{Name, IsLoadOrder, IsReachedFile, BreaksMentions}
-use Rattle.rng_load.specs.Mentions.{Mentioned, an_include, mention_of, mentions_of, HasName}
+use Rattle.rng_load.specs.Mentions.{an_include, mention_of, mentions_of, HasName}
 
 -- the names that a tree mentions, in order; a file that has none mentions nothing
 abbrev pub hrefs_of : Option FileTree → List Name
