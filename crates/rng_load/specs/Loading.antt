@@ -1,5 +1,5 @@
 -- The verdict on files that are one schema, where it is known of each which clause of its own it breaks, and which tree it has where it breaks none
--- (docs/LANGUAGE.md; RELAX NG Specification, sections 4.5 to 4.7).
+-- (docs/LANGUAGE.md; RELAX NG Specification, sections 4.6 and 4.7).
 use Rattle.std.specs.Prelude.{◌≡◌, ℕ, List, [], ◌∷◌, ◌++◌, map, Option, Some, None}
 use Rattle.rng_model.specs.Lists.{Among}
 use Rattle.rnc_grammar.specs.FileTree.{FileTree, Mention, grammar_of}
