@@ -1,4 +1,5 @@
 pub mod FileTree
+pub mod Mentions
 pub mod View
 pub mod Declarations
 pub mod DeclarationRules

@@ -14,7 +14,10 @@ use Rattle.rnc_grammar.specs.declared.file_tree.Component.TheFolds.{fold-Pattern
 use Rattle.rnc_grammar.specs.declared.file_tree.Component.TheOpen.{Pattern-F, Component-F}
 use Rattle.rnc_grammar.specs.declared.file_tree.FileTree.{FileTree}
 use Rattle.rnc_grammar.specs.declared.file_tree.FileTree.TheVariants as files
+use Rattle.rnc_grammar.specs.declared.mentions.MentionedFile.{MentionedFile}
+use Rattle.rnc_grammar.specs.declared.mentions.MentionedFile.TheVariants as mentioned_files
 use Rattle.rnc_grammar.specs.FileTree as tree
+use Rattle.rnc_grammar.specs.Mentions as mentions
 
 abbrev pub namespace_of : Namespace → tree.Namespace
 namespace_of namespaces.Inherited = tree.inherited
@@ -84,3 +87,7 @@ component_of = fold-Component tree.Component tree.Pattern component_step pattern
 abbrev pub file_of : FileTree → tree.FileTree
 file_of (files.Pattern p) = tree.pattern_file (pattern_of p)
 file_of (files.Grammar cs) = tree.grammar_file (tree.components_of (map component_of cs.items))
+
+abbrev pub mentioned_file_of : MentionedFile → mentions.MentionedFile
+mentioned_file_of (mentioned_files.External m) = mentions.external_file (mention_of m.now)
+mentioned_file_of (mentioned_files.Included m over) = mentions.included_file (mention_of m.now) (tree.components_of (map component_of over.now))

@@ -8,6 +8,7 @@
 
 mod fault;
 mod file_tree;
+mod mentions;
 mod parsing;
 mod resolving;
 mod scope;
@@ -16,5 +17,6 @@ pub use fault::ParseFault;
 pub use file_tree::{
     Component, DatatypeName, ExpandedName, FileTree, Mention, NameClass, Namespace, Pattern,
 };
+pub use mentions::MentionedFile;
 pub use parsing::parse;
 pub use rng_model::Method;

@@ -4,8 +4,9 @@ use Rattle.std.specs.Prelude.{◌≡◌, ℕ, List, [], ◌∷◌, ◌++◌, map
 use Rattle.rng_model.specs.Lists.{Among}
 use Rattle.rnc_grammar.specs.FileTree.{FileTree, Mention, grammar_of}
 use Rattle.rnc_grammar.specs.FileTree as tree
+use Rattle.rnc_grammar.specs.Mentions.{included_file, mention_of, mentions_of}
 use Rattle.rng_load.specs.LoadOrder.{Name, IsLoadOrder, IsReachedFile, BreaksMentions}
-use Rattle.rng_load.specs.Mentions.{an_include, mention_of, mentions_of, HasName}
+use Rattle.rng_load.specs.Mentions.{HasName}
 
 -- the names that a tree mentions, in order; a file that has none mentions nothing
 abbrev pub hrefs_of : Option FileTree → List Name
@@ -50,7 +51,7 @@ module _ (clause : Name → Option ℕ) (trees : Name → Option FileTree) where
     pub is_read : trees file ≡ Some read
     pub mention : Mention
     pub over : tree.Components
-    pub among : Among (an_include mention over) (mentions_of read)
+    pub among : Among (included_file mention over) (mentions_of read)
     pub broken : BreaksInclude mention over
 
   -- what is found of the files: the first that breaks a clause of its own, with the least that it breaks; else S9; else S10; or nothing
