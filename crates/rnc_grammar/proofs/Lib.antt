@@ -5,5 +5,8 @@ pub mod ResolvedMembers
 pub mod ResolvedViews
 pub mod StandingPrefixes
 pub mod DeclarationRules
+pub mod KeywordNumbers
+pub mod MentionTokens
+pub mod MentionExamples
 pub mod DeclarationExamples
 pub mod ParsingAnswers

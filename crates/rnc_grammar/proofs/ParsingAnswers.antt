@@ -1,23 +1,27 @@
 -- What is told of tokens is what they are by the definitions: their file tree, or the clause that they break.
-use Rattle.std.proofs.Common.{◌≡◌, ℕ, List, Option, Some, None, Result, Ok, Err, IfOk, IfErr, inl, inr, refl, sym, ap, subst, ◌∙◌}
+use Rattle.std.proofs.Common.{◌≡◌, ℕ, List, map, Option, Some, None, Result, Ok, Err, IfOk, IfErr, inl, inr, refl, sym, ap, subst, ◌∙◌}
+use Rattle.std.specs.List.Sorted.{IsStrictlyIncreasing}
 use Rattle.rnc_syntax.specs.declared.fault.SyntaxFault.{SyntaxFault}
 use Rattle.rnc_syntax.specs.declared.fault.SyntaxFault.TheVariants as syntax_faults
 use Rattle.rnc_syntax.specs.declared.syntax_tree.File as written
 use Rattle.rnc_syntax.specs.Fault as syntax_fault
 use Rattle.rnc_syntax.specs.Grammar.{IsFile}
-use Rattle.rnc_syntax.specs.Lexeme.{Lexeme}
+use Rattle.rnc_syntax.specs.Lexeme.{Lexeme, lexemes}
 use Rattle.rnc_syntax.specs.Sentence as sentence
 use Rattle.rnc_syntax.specs.Sentence.{IsSyntaxTree}
 use Rattle.rnc_syntax.specs.Syntax.{File}
 use Rattle.rnc_syntax.specs.SyntaxView as syntax
+use Rattle.rnc_text.specs.Cut.{Token}
 use Rattle.rnc_grammar.specs.declared.fault.ParseFault.{ParseFault}
 use Rattle.rnc_grammar.specs.declared.fault.ParseFault.TheVariants as faults
 use Rattle.rnc_grammar.specs.declared.file_tree.FileTree as declared
 use Rattle.rnc_grammar.specs.Declarations.{file_tree}
 use Rattle.rnc_grammar.specs.Fault.{fault_of, tree_or_fault}
 use Rattle.rnc_grammar.specs.FileTree.{FileTree}
+use Rattle.rnc_grammar.specs.Mentions.{mention_of, mentions_of}
 use Rattle.rnc_grammar.specs.View.{file_of}
 use Rattle.rnc_grammar.proofs.DeclarationRules.{broken_where_none, kept_where_tree, none_where_broken}
+use Rattle.rnc_grammar.proofs.MentionTokens.{mentions_in_order}
 use Rattle.rnc_grammar.specs.Parsing.{BreaksDeclarations, IsFileTree, IsFaultOf, Gives, unless_memory}
 
 -- tokens have one file tree at most, as they have one syntax tree
@@ -93,6 +97,12 @@ module _ (ts : List Lexeme) (file : written.File) (is : IsSyntaxTree ts (syntax.
   fault_given (Err faults.Memory) given = tt
   fault_given (Err (faults.At clause number)) given = fault_from (file_tree f) (faults.At clause number) refl given
   fault_given (Err (faults.Clause clause)) given = fault_from (file_tree f) (faults.Clause clause) refl given
+
+-- the mentions of a tree that was returned
+pub mentions_given : (ts : List Token) (r : Result declared.FileTree ParseFault) → IfOk r (λ t. IsFileTree (lexemes ts) (file_of t))
+    → IfOk r (λ t. IsStrictlyIncreasing (map (λ m. (mention_of m).token) (mentions_of (file_of t))))
+mentions_given ts (Ok t) is = mentions_in_order ts (file_of t) is
+mentions_given ts (Err e) is = tt
 
 module _ (ts : List Lexeme) (file : written.File) (only : (g : File) → IsSyntaxTree ts g → GivesFile (Ok file) (Ok g)) where
   same_answer : (g : File) → IsSyntaxTree ts g → answer_of (syntax.file_of file) ≡ answer_of g

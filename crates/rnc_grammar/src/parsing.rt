@@ -1,8 +1,10 @@
 // From the tokens of a schema file to its tree.
-ghost use Rattle.std.specs.Prelude.{◌≡◌, ℕ, Err, IfErr, IfOk, Ok};
+ghost use Rattle.std.specs.Prelude.{◌≡◌, ℕ, Err, IfErr, IfOk, Ok, map};
+ghost use Rattle.std.specs.List.Sorted.{IsStrictlyIncreasing};
 ghost use Rattle.rnc_grammar.specs.Declarations as declarations;
 ghost use Rattle.rnc_grammar.specs.Fault.{tree_or_fault};
 ghost use Rattle.rnc_grammar.specs.FileTree as tree;
+ghost use Rattle.rnc_grammar.specs.Mentions.{mention_of, mentions_of};
 ghost use Rattle.rnc_grammar.specs.Parsing.{
   BreaksDeclarations,
   BreaksGrammar,
@@ -49,6 +51,9 @@ fn resolved(alloc: Global, file: &File<'_>) -> Result<FileTree, ParseFault>
 /// - 8, with no number, where they break neither and a prefix or the default namespace is declared twice, `xml`, `xmlns`
 ///   or `xsd` is declared as what it may not stand for, or a prefix is not declared.
 ///
+/// The mentions of other files in a tree that is answered stand in the order of their tokens, no two with one token
+/// (`FileTree::mentioned_files`).
+///
 /// `Memory` answers that there was no memory for the tree, and says nothing about the tokens.
 ///
 /// Takes time and memory in proportion to the tokens and their texts, but that each name, mention and datatype holds a
@@ -58,6 +63,7 @@ fn resolved(alloc: Global, file: &File<'_>) -> Result<FileTree, ParseFault>
 /// RELAX NG Compact Syntax, "Syntax".
 pub fn parse(alloc: Global, tokens: &[Token<'_>]) -> Result<FileTree, ParseFault>
     ensures tree { IfOk result (λ t. IsFileTree (lexemes (tokens_of tokens.now)) (file_of t)) }
+    ensures mentions { IfOk result (λ t. IsStrictlyIncreasing (map (λ m. (mention_of m).token) (mentions_of (file_of t)))) }
     ensures fault { IfErr result (IsFaultOf (lexemes (tokens_of tokens.now))) }
     ensures only { (t : tree.FileTree) → IsFileTree (lexemes (tokens_of tokens.now)) t → Gives unless_memory file_of result (Ok t) }
     ensures nesting { BreaksNesting (lexemes (tokens_of tokens.now)) → Gives unless_memory file_of result (Err (faults.Clause 7)) }

@@ -1,8 +1,8 @@
 use Rattle.std.proofs.lemmas.Result.{err_from_is_err_and}
 use Rattle.rnc_syntax.specs.Lexeme.{lexemes}
 use Rattle.rnc_text.specs.Cut.{tokens_of}
-use Rattle.rnc_grammar.proofs.ParsingAnswers.{fault_given, fault_told, grammar_told, nesting_told, no_fault, no_tree, one_tree, only_declarations, only_tree}
-use Rattle.rnc_grammar.proofs.ParsingAnswers.{tree_given}
+use Rattle.rnc_grammar.proofs.ParsingAnswers.{fault_given, fault_told, grammar_told, mentions_given, nesting_told, no_fault, no_tree, one_tree}
+use Rattle.rnc_grammar.proofs.ParsingAnswers.{only_declarations, only_tree, tree_given}
 use Rattle.rnc_grammar.proofs.parsing.parse.Goals as goal
 
 -- ---- no syntax tree
@@ -40,6 +40,10 @@ returns-in_err-file-clause-one c = one_tree (lexemes (tokens_of c.args.tokens.no
 
 pub returns-clause-tree : goal.returns-clause-tree
 returns-clause-tree c = tree_given _ c.in_ok-file.file c.in_ok-file.ensures.tree _ c.resolved.ensures
+
+pub returns-clause-mentions : goal.returns-clause-mentions
+returns-clause-mentions c =
+    mentions_given (tokens_of c.args.tokens.now) _ (tree_given _ c.in_ok-file.file c.in_ok-file.ensures.tree _ c.resolved.ensures)
 
 pub returns-clause-fault : goal.returns-clause-fault
 returns-clause-fault c = fault_given _ c.in_ok-file.file c.in_ok-file.ensures.tree _ c.resolved.ensures

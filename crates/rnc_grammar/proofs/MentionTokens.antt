@@ -1,0 +1,236 @@
+-- The mentions of a file stand in the order of their tokens: those of a syntax tree are numbers of keywords among its tokens, in order, and a file tree
+-- has those of its syntax tree.
+use Rattle.std.proofs.Common.{◌≡◌, ◌∙◌, ap₂, refl, ℕ, List, [], ◌∷◌, ◌++◌, map, Option, Some, None}
+use Rattle.std.proofs.lemmas.List.{append-nil, map-append}
+use Rattle.std.specs.List.Sorted.{IsStrictlyIncreasing}
+use Rattle.rnc_syntax.specs.Grammar as grammar
+use Rattle.rnc_syntax.specs.Grammar.{IsPattern, AreMore, IsParticle, IsPrimary, IsBarePrimary, IsBraced, AreComponents, IsComponent, IsBareComponent}
+use Rattle.rnc_syntax.specs.Grammar.{MayOverride, IsBody, IsFile, Setting}
+use Rattle.rnc_syntax.specs.Lexeme.{Lexeme, lexemes}
+use Rattle.rnc_syntax.specs.Syntax as syntax
+use Rattle.rnc_text.specs.declared.token.Sign.{Sign}
+use Rattle.rnc_text.specs.Cut.{Token}
+use Rattle.rnc_grammar.specs.Declarations.{◌>>=◌, Scope, class_in, type_in, default_of, handed_on, mention_in, pattern_in, patterns_in, component_in}
+use Rattle.rnc_grammar.specs.Declarations.{components_in, body_in, declare_all, nothing_declared, file_tree}
+use Rattle.rnc_grammar.specs.FileTree as tree
+use Rattle.rnc_grammar.specs.FileTree.{given}
+use Rattle.rnc_grammar.specs.Mentions.{MentionedFile, mention_of, mentions_of, mentions_of_pattern, mentions_of_patterns, mentions_of_component}
+use Rattle.rnc_grammar.specs.Mentions.{mentions_of_components}
+use Rattle.rnc_grammar.specs.Parsing.{IsFileTree}
+use Rattle.rnc_grammar.proofs.KeywordNumbers.{AreNumbersIn, no_numbers, number_here, numbers_later, numbers_after, numbers_before, numbers_of_both}
+use Rattle.rnc_grammar.proofs.KeywordNumbers.{numbers_increase}
+
+-- ---- the tokens of the mentions in a syntax tree
+
+abbrev mutual
+  tokens_in : syntax.Pattern → List ℕ
+  tokens_in (syntax.element c p) = tokens_in p
+  tokens_in (syntax.attribute c p) = tokens_in p
+  tokens_in (syntax.list p) = tokens_in p
+  tokens_in (syntax.mixed p) = tokens_in p
+  tokens_in (syntax.optional p) = tokens_in p
+  tokens_in (syntax.zero_or_more p) = tokens_in p
+  tokens_in (syntax.one_or_more p) = tokens_in p
+  tokens_in (syntax.ref n) = []
+  tokens_in (syntax.parent_ref n) = []
+  tokens_in syntax.empty = []
+  tokens_in syntax.text = []
+  tokens_in syntax.not_allowed = []
+  tokens_in (syntax.value d v) = []
+  tokens_in (syntax.data_of d ps) = []
+  tokens_in (syntax.data_except d ps p) = tokens_in p
+  tokens_in (syntax.external m) = m.token ∷ []
+  tokens_in (syntax.grammar cs) = tokens_in_components cs
+  tokens_in (syntax.joined k ps) = tokens_in_patterns ps
+
+  tokens_in_patterns : syntax.Patterns → List ℕ
+  tokens_in_patterns syntax.no_patterns = []
+  tokens_in_patterns (syntax.pattern_and p ps) = tokens_in p ++ tokens_in_patterns ps
+
+  tokens_in_component : syntax.Component → List ℕ
+  tokens_in_component (syntax.start m p) = tokens_in p
+  tokens_in_component (syntax.define n m p) = tokens_in p
+  tokens_in_component (syntax.div cs) = tokens_in_components cs
+  tokens_in_component (syntax.include m cs) = m.token ∷ tokens_in_components cs
+
+  tokens_in_components : syntax.Components → List ℕ
+  tokens_in_components syntax.no_components = []
+  tokens_in_components (syntax.component_and c cs) = tokens_in_component c ++ tokens_in_components cs
+
+abbrev tokens_in_body : syntax.Body → List ℕ
+tokens_in_body (syntax.pattern_body p) = tokens_in p
+tokens_in_body (syntax.grammar_body cs) = tokens_in_components cs
+
+-- ---- they are numbers of keywords, in order
+
+mutual
+  of_pattern : {ts : List Lexeme} {p : syntax.Pattern} → IsPattern ts p → AreNumbersIn (tokens_in p) ts
+  of_pattern (grammar.one_particle q) = of_particle q
+  of_pattern (grammar.particles k q more parts is) = rw (parts, is) (numbers_of_both (of_particle q) (of_more more))
+  of_pattern (grammar.data_except x n type ps q parts) = rw parts (numbers_after _ (numbers_later (numbers_after _ (numbers_later (of_primary q)))))
+
+  of_more : {s : Sign} {ts : List Lexeme} {ps : List syntax.Pattern} → AreMore s ts ps → AreNumbersIn (tokens_in_patterns (syntax.patterns_of ps)) ts
+  of_more (grammar.last_particle q parts) = rw (parts, append-nil) (numbers_later (of_particle q))
+  of_more (grammar.more_particles q more parts) = rw parts (numbers_later (numbers_of_both (of_particle q) (of_more more)))
+
+  of_particle : {ts : List Lexeme} {p : syntax.Pattern} → IsParticle ts p → AreNumbersIn (tokens_in p) ts
+  of_particle (grammar.once q) = of_primary q
+  of_particle (grammar.optional q parts) = rw parts (numbers_before _ (of_primary q))
+  of_particle (grammar.zero_or_more q parts) = rw parts (numbers_before _ (of_primary q))
+  of_particle (grammar.one_or_more q parts) = rw parts (numbers_before _ (of_primary q))
+
+  of_primary : {ts : List Lexeme} {p : syntax.Pattern} → IsPrimary ts p → AreNumbersIn (tokens_in p) ts
+  of_primary (grammar.annotated_primary n q parts) = rw parts (numbers_after _ (of_bare_primary q))
+
+  of_bare_primary : {ts : List Lexeme} {p : syntax.Pattern} → IsBarePrimary ts p → AreNumbersIn (tokens_in p) ts
+  of_bare_primary (grammar.element c q parts) = rw parts (numbers_later (numbers_after _ (of_braced q)))
+  of_bare_primary (grammar.attribute c q parts) = rw parts (numbers_later (numbers_after _ (of_braced q)))
+  of_bare_primary (grammar.list q parts) = rw parts (numbers_later (of_braced q))
+  of_bare_primary (grammar.mixed q parts) = rw parts (numbers_later (of_braced q))
+  of_bare_primary (grammar.ref parts) = no_numbers
+  of_bare_primary (grammar.parent_ref parts) = no_numbers
+  of_bare_primary (grammar.empty parts) = no_numbers
+  of_bare_primary (grammar.text parts) = no_numbers
+  of_bare_primary (grammar.not_allowed parts) = no_numbers
+  of_bare_primary (grammar.untyped_value v) = no_numbers
+  of_bare_primary (grammar.value type v parts) = no_numbers
+  of_bare_primary (grammar.data_of type ps parts) = no_numbers
+  of_bare_primary (grammar.external v p parts is) = rw (parts, is) (number_here refl no_numbers)
+  of_bare_primary (grammar.grammar cs parts is) = rw (parts, is) (numbers_later (numbers_later (numbers_before _ (of_components cs))))
+  of_bare_primary (grammar.in_parens q parts) = rw parts (numbers_later (numbers_before _ (of_pattern q)))
+
+  of_braced : {ts : List Lexeme} {p : syntax.Pattern} → IsBraced ts p → AreNumbersIn (tokens_in p) ts
+  of_braced (grammar.in_braces q parts) = rw parts (numbers_later (numbers_before _ (of_pattern q)))
+
+  of_components : {w : Setting} {ts : List Lexeme} {cs : List syntax.Component} → AreComponents w ts cs
+      → AreNumbersIn (tokens_in_components (syntax.components_of cs)) ts
+  of_components (grammar.no_components parts) = no_numbers
+  of_components (grammar.and_component c cs parts) = rw parts (numbers_of_both (of_component c) (of_components cs))
+
+  of_component : {w : Setting} {ts : List Lexeme} {c : syntax.Component} → IsComponent w ts c → AreNumbersIn (tokens_in_component c) ts
+  of_component (grammar.annotated_component n c parts) = rw parts (numbers_after _ (of_bare_component c))
+
+  of_bare_component : {w : Setting} {ts : List Lexeme} {c : syntax.Component} → IsBareComponent w ts c → AreNumbersIn (tokens_in_component c) ts
+  of_bare_component (grammar.start m q parts) = rw parts (numbers_later (numbers_later (of_pattern q)))
+  of_bare_component (grammar.define m q parts) = rw parts (numbers_later (numbers_later (of_pattern q)))
+  of_bare_component (grammar.div cs parts is) = rw (parts, is) (numbers_later (numbers_later (numbers_before _ (of_components cs))))
+  of_bare_component (grammar.include setting v p over parts is) =
+      rw (parts, is) (number_here refl (numbers_after _ (numbers_after _ (of_overrides over))))
+
+  of_overrides : {ts : List Lexeme} {cs : List syntax.Component} → MayOverride ts cs → AreNumbersIn (tokens_in_components (syntax.components_of cs)) ts
+  of_overrides (grammar.without_overrides parts) = no_numbers
+  of_overrides (grammar.with_overrides cs parts) = rw parts (numbers_later (numbers_before _ (of_components cs)))
+
+of_body : {ts : List Lexeme} {b : syntax.Body} → IsBody ts b → AreNumbersIn (tokens_in_body b) ts
+of_body (grammar.pattern_body q) = of_pattern q
+of_body (grammar.grammar_body cs is) = rw is (of_components cs)
+
+of_file : {ts : List Lexeme} {f : syntax.File} → IsFile ts f → AreNumbersIn (tokens_in_body f.body) ts
+of_file (grammar.file ds b parts) = rw parts (numbers_after _ (of_body b))
+
+-- ---- a file tree has the mentions of its syntax tree
+
+abbrev tokens_of : List MentionedFile → List ℕ
+tokens_of ms = map (λ m. (mention_of m).token) ms
+
+-- what there is has these tokens
+data Has {A : Type 0} (tokens : A → List ℕ) : Option A → List ℕ → Type 0 where
+  is_none : {ns : List ℕ} → Has tokens None ns
+  has_these : {x : A} {ns : List ℕ} → tokens x ≡ ns → Has tokens (Some x) ns
+
+-- what is made of one part, or after a part that has none
+one : {A B : Type 0} {tokens : A → List ℕ} {all : B → List ℕ} {ns : List ℕ} (o : Option A) (f : A → B) → ((x : A) → all (f x) ≡ tokens x)
+    → Has tokens o ns → Has all (o >>= λ x. Some (f x)) ns
+one None f same has = is_none
+one (Some x) f same (has_these has) = has_these (same x ∙ has)
+
+then : {A B : Type 0} {all : B → List ℕ} {ns : List ℕ} (o : Option A) (f : A → Option B) → ((x : A) → Has all (f x) ns) → Has all (o >>= f) ns
+then None f has = is_none
+then (Some x) f has = has x
+
+-- what is made of two
+two : {A B C : Type 0} {first : A → List ℕ} {second : B → List ℕ} {all : C → List ℕ} {ns ms : List ℕ} (o : Option A) (q : Option B) (f : A → B → C)
+    → ((x : A) (y : B) → all (f x y) ≡ first x ++ second y) → Has first o ns → Has second q ms → Has all (o >>= λ x. q >>= λ y. Some (f x y)) (ns ++ ms)
+two None q f same has more = is_none
+two (Some x) None f same has more = is_none
+two (Some x) (Some y) f same (has_these has) (has_these more) = has_these (same x y ∙ ap₂ (λ ns ms. ns ++ ms) has more)
+
+abbrev of_a_pattern : tree.Pattern → List ℕ
+of_a_pattern p = tokens_of (mentions_of_pattern p)
+
+abbrev of_patterns : tree.Patterns → List ℕ
+of_patterns ps = tokens_of (mentions_of_patterns ps)
+
+abbrev of_a_component : tree.Component → List ℕ
+of_a_component c = tokens_of (mentions_of_component c)
+
+abbrev of_the_components : tree.Components → List ℕ
+of_the_components cs = tokens_of (mentions_of_components cs)
+
+abbrev of_a_mention : tree.Mention → List ℕ
+of_a_mention m = m.token ∷ []
+
+mention_has : (s : Scope) (m : syntax.Mention) → Has of_a_mention (mention_in s m) (m.token ∷ [])
+mention_has s m = then (handed_on s m.inherit) _ (λ u. has_these refl)
+
+mutual
+  pattern_has : (s : Scope) (p : syntax.Pattern) → Has of_a_pattern (pattern_in s p) (tokens_in p)
+  pattern_has s (syntax.element c p) = then (class_in s (default_of s) c) _ (λ c. one (pattern_in s p) (tree.element c) (λ p. refl) (pattern_has s p))
+  pattern_has s (syntax.attribute c p) = then (class_in s (given []) c) _ (λ c. one (pattern_in s p) (tree.attribute c) (λ p. refl) (pattern_has s p))
+  pattern_has s (syntax.list p) = one (pattern_in s p) tree.list (λ p. refl) (pattern_has s p)
+  pattern_has s (syntax.mixed p) = one (pattern_in s p) tree.mixed (λ p. refl) (pattern_has s p)
+  pattern_has s (syntax.optional p) = one (pattern_in s p) tree.optional (λ p. refl) (pattern_has s p)
+  pattern_has s (syntax.zero_or_more p) = one (pattern_in s p) tree.zero_or_more (λ p. refl) (pattern_has s p)
+  pattern_has s (syntax.one_or_more p) = one (pattern_in s p) tree.one_or_more (λ p. refl) (pattern_has s p)
+  pattern_has s (syntax.ref n) = has_these refl
+  pattern_has s (syntax.parent_ref n) = has_these refl
+  pattern_has s syntax.empty = has_these refl
+  pattern_has s syntax.text = has_these refl
+  pattern_has s syntax.not_allowed = has_these refl
+  pattern_has s (syntax.value d v) = then (type_in s d) _ (λ d. has_these refl)
+  pattern_has s (syntax.data_of d ps) = then (type_in s d) _ (λ d. has_these refl)
+  pattern_has s (syntax.data_except d ps p) = then (type_in s d) _ (λ d. one (pattern_in s p) (tree.data_except d ps) (λ p. refl) (pattern_has s p))
+  pattern_has s (syntax.external m) = one (mention_in s m) tree.external (λ m. refl) (mention_has s m)
+  pattern_has s (syntax.grammar cs) = one (components_in s cs) tree.grammar (λ cs. refl) (components_have s cs)
+  pattern_has s (syntax.joined k ps) = one (patterns_in s ps) (tree.joined k) (λ ps. refl) (patterns_have s ps)
+
+  patterns_have : (s : Scope) (ps : syntax.Patterns) → Has of_patterns (patterns_in s ps) (tokens_in_patterns ps)
+  patterns_have s syntax.no_patterns = has_these refl
+  patterns_have s (syntax.pattern_and p ps) =
+      two (pattern_in s p) (patterns_in s ps) tree.pattern_and (λ p ps. map-append _ (mentions_of_pattern p) (mentions_of_patterns ps)) (pattern_has s p)
+      (patterns_have s ps)
+
+  component_has : (s : Scope) (c : syntax.Component) → Has of_a_component (component_in s c) (tokens_in_component c)
+  component_has s (syntax.start m p) = one (pattern_in s p) (tree.start m) (λ p. refl) (pattern_has s p)
+  component_has s (syntax.define n m p) = one (pattern_in s p) (tree.define n m) (λ p. refl) (pattern_has s p)
+  component_has s (syntax.div cs) = one (components_in s cs) tree.div (λ cs. refl) (components_have s cs)
+  component_has s (syntax.include m cs) =
+      two (mention_in s m) (components_in s cs) tree.include (λ m cs. refl) (mention_has s m) (components_have s cs)
+
+  components_have : (s : Scope) (cs : syntax.Components) → Has of_the_components (components_in s cs) (tokens_in_components cs)
+  components_have s syntax.no_components = has_these refl
+  components_have s (syntax.component_and c cs) =
+      two (component_in s c) (components_in s cs) tree.component_and (λ c cs. map-append _ (mentions_of_component c) (mentions_of_components cs))
+      (component_has s c) (components_have s cs)
+
+abbrev of_a_file : tree.FileTree → List ℕ
+of_a_file t = tokens_of (mentions_of t)
+
+body_has : (s : Scope) (b : syntax.Body) → Has of_a_file (body_in s b) (tokens_in_body b)
+body_has s (syntax.pattern_body p) = one (pattern_in s p) tree.pattern_file (λ p. refl) (pattern_has s p)
+body_has s (syntax.grammar_body cs) = one (components_in s cs) tree.grammar_file (λ cs. refl) (components_have s cs)
+
+file_has : (f : syntax.File) → Has of_a_file (file_tree f) (tokens_in_body f.body)
+unfolding file_tree
+file_has f = then (declare_all nothing_declared f.declarations) _ (λ s. body_has s f.body)
+
+-- ---- so they stand in the order of their tokens
+
+found : {A : Type 0} {tokens : A → List ℕ} {ns : List ℕ} (x : A) → Has tokens (Some x) ns → tokens x ≡ ns
+found x (has_these has) = has
+
+pub mentions_in_order : (ts : List Token) (t : tree.FileTree) → IsFileTree (lexemes ts) t
+    → IsStrictlyIncreasing (map (λ m. (mention_of m).token) (mentions_of t))
+mentions_in_order ts t is =
+    let same : of_a_file t ≡ tokens_in_body is.file.body = found t (rw is.tree at (file_has is.file)) in
+    rw same (numbers_increase ts (tokens_in_body is.file.body) (of_file is.sentence))
