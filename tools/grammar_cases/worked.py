@@ -67,6 +67,10 @@ PATTERNS = {
     ),
     # two mentions, and their places
     "external 'b' , external 'c'": t.group(t.external(t.mention("b", None, 1)), t.external(t.mention("c", None, 4))),
+    # mentions in an element and in a nested grammar
+    "element a { external 'b' , grammar { div { include 'c' } } }": t.element(
+        A, t.group(t.external(t.mention("b", None, 4)), t.grammar(t.div(t.include(t.mention("c", None, 11)))))
+    ),
     # patterns that are no grammars
     "grammar { } ?": t.optional(t.grammar()),
     "grammar { } , x": t.group(t.grammar(), X),
@@ -162,6 +166,10 @@ GRAMMARS = {
     '[ x ] include "b" { [ y ] start = text }': [t.include(t.mention("b", None, 4), t.start("Plain", t.TEXT))],
     '[ include "c" ] start = x [ y ] z = x [ ] y &= z': [t.start("Plain", X), t.define("z", "Plain", X), t.define("y", "Interleave", Z)],
     "x = string [ b ] y = z": [t.define("x", "Plain", t.data(t.STRING)), t.define("y", "Plain", Z)],
+    "include 'b' { x = external 'c' } y = external 'b'": [
+        t.include(t.mention("b", None, 1), t.define("x", "Plain", t.external(t.mention("c", None, 6)))),
+        t.define("y", "Plain", t.external(t.mention("b", None, 11))),
+    ],
     "include 'b' { div { start |= x } y = z }": [
         t.include(t.mention("b", None, 1), t.div(t.start("Choice", X)), t.define("y", "Plain", Z))
     ],

@@ -1,6 +1,7 @@
 """Writes the rows and the wanted output of `rnc_grammar_cases` into its folder: run.sh says more."""
 import os
 import random
+import re
 import sys
 
 from productions import judged
@@ -10,19 +11,34 @@ from worked import cases
 OTHERS = "x \\start xml:lang xml:* 'a' element empty grammar include inherit namespace parent start string = , | * - { } ( ) [ ] ~".split()
 
 
-def components_of(printed):
-    """How many components the grammar has that a file with this printed tree is; None of another file."""
-    inner = printed.removeprefix("Pattern(").removesuffix(")") if printed.startswith("Pattern(Grammar(") else printed
-    if not inner.startswith("Grammar(["):
-        return None
+MENTION = re.compile(r'(External|Include)\(Mention { href: ("(?:[^"\\]|\\.)*"), namespace: (?:Inherited|Given\("(?:[^"\\]|\\.)*"\)), token: (\d+) }(?:, )?')
+
+
+def members(printed):
+    """How many members the list has that this text begins with."""
     depth, count, quoted, before = 0, 0, False, ""
-    for it in inner[len("Grammar(") : -1]:
+    for it in printed:
         quoted ^= it == '"' and before != "\\"
         if not quoted:
             depth += (it in "([{") - (it in ")]}")
             count += depth == 1 and it == ","
         before = it if before != "\\" else ""
-    return 0 if inner == "Grammar([])" else count + 1
+        if not depth:
+            break
+    return 0 if printed.startswith("[]") else count + 1
+
+
+def components_of(printed):
+    """How many components the grammar has that a file with this printed tree is; None of another file."""
+    inner = printed.removeprefix("Pattern(").removesuffix(")") if printed.startswith("Pattern(Grammar(") else printed
+    return members(inner[len("Grammar(") :]) if inner.startswith("Grammar([") else None
+
+
+def mentions(printed):
+    """The files that one with this printed tree mentions, as the program prints them: an include with how many components stand in its braces."""
+    for it in MENTION.finditer(printed):
+        kind, href, token = it.groups()
+        yield f" external {href} at {token}" if kind == "External" else f" include {href} at {token} over {members(printed[it.end() :])}"
 
 
 def answer(printed):
@@ -30,7 +46,8 @@ def answer(printed):
     if printed.startswith("clause"):
         return printed
     count = components_of(printed)
-    return printed if count is None else f"{printed} is a grammar of {count}"
+    grammar = "" if count is None else f" is a grammar of {count}"
+    return "".join([printed, grammar, *mentions(printed)])
 
 
 def row(text):

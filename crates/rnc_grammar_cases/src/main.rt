@@ -1,11 +1,12 @@
 //! Prints what `rnc_grammar` answers for the texts in the rows of its data.
 //!
-//! Of `worked.txt` and `sentences.txt` it prints the tree or the broken clause, of `neighbors.txt`, whose texts may declare
-//! anything, only whether they are sentences. `tools/grammar_cases` writes the rows and what is to be printed.
+//! Of `worked.txt` and `sentences.txt` it prints the tree, with what it is a grammar of and which files it mentions, or the
+//! broken clause; of `neighbors.txt`, whose texts may declare anything, only whether they are sentences.
+//! `tools/grammar_cases` writes the rows and what is to be printed.
 #![tactic(auto)]
 
 use case_rows::rows;
-use rnc_grammar::{FileTree, ParseFault, parse};
+use rnc_grammar::{FileTree, MentionedFile, ParseFault, parse};
 use rnc_text::{TextFault, read_text, tokens};
 use std::alloc::{AllocError, Global};
 use std::io;
@@ -43,10 +44,40 @@ fn grammar_note(alloc: Global, tree: &FileTree) -> Result<String, AllocError> {
     }
 }
 
+/// A file that another one mentions, as it is printed: an include with how many components stand in its braces.
+fn mention_note(alloc: Global, file: MentionedFile<'_>) -> Result<String, AllocError> {
+    match file {
+        MentionedFile::External(mention) => {
+            format!(in alloc; " external {:?} at {}", mention.href, mention.token)
+        }
+        MentionedFile::Included(mention, overriding) => {
+            format!(in alloc;
+                " include {:?} at {} over {}",
+                mention.href,
+                mention.token,
+                overriding.len()
+            )
+        }
+    }
+}
+
+/// The files that a file mentions, as they are printed.
+fn mentions_note(alloc: Global, tree: &FileTree) -> Result<String, AllocError> {
+    let Ok(files) = tree.mentioned_files(alloc) else {
+        return String::from_str(alloc, " out of memory");
+    };
+    let mut note = String::new(alloc);
+    for file in &files {
+        note.push_str(mention_note(alloc, *file)?.as_str())?;
+    }
+    Ok(note)
+}
+
 /// A tree as it is printed.
 fn tree_line(alloc: Global, tree: &FileTree) -> Result<String, AllocError> {
     let mut line = format!(in alloc; "{tree:?}")?;
     line.push_str(grammar_note(alloc, tree)?.as_str())?;
+    line.push_str(mentions_note(alloc, tree)?.as_str())?;
     Ok(line)
 }
 
