@@ -64,69 +64,69 @@ tokens_in_body (syntax.grammar_body cs) = tokens_in_components cs
 -- ---- they are numbers of keywords, in order
 
 mutual
-  of_pattern : {ts : List Lexeme} {p : syntax.Pattern} → IsPattern ts p → AreNumbersIn (tokens_in p) ts
-  of_pattern (grammar.one_particle q) = of_particle q
-  of_pattern (grammar.particles k q more parts is) = rw (parts, is) (numbers_of_both (of_particle q) (of_more more))
-  of_pattern (grammar.data_except x n type ps q parts) = rw parts (numbers_after _ (numbers_later (numbers_after _ (numbers_later (of_primary q)))))
+  pattern_within : {ts : List Lexeme} {p : syntax.Pattern} → IsPattern ts p → AreNumbersIn (tokens_in p) ts
+  pattern_within (grammar.one_particle q) = particle_within q
+  pattern_within (grammar.particles k q more parts is) = rw (parts, is) (numbers_of_both (particle_within q) (more_within more))
+  pattern_within (grammar.data_except x n type ps q parts) = rw parts (numbers_after _ (numbers_later (numbers_after _ (numbers_later (primary_within q)))))
 
-  of_more : {s : Sign} {ts : List Lexeme} {ps : List syntax.Pattern} → AreMore s ts ps → AreNumbersIn (tokens_in_patterns (syntax.patterns_of ps)) ts
-  of_more (grammar.last_particle q parts) = rw (parts, append-nil) (numbers_later (of_particle q))
-  of_more (grammar.more_particles q more parts) = rw parts (numbers_later (numbers_of_both (of_particle q) (of_more more)))
+  more_within : {s : Sign} {ts : List Lexeme} {ps : List syntax.Pattern} → AreMore s ts ps → AreNumbersIn (tokens_in_patterns (syntax.patterns_of ps)) ts
+  more_within (grammar.last_particle q parts) = rw (parts, append-nil) (numbers_later (particle_within q))
+  more_within (grammar.more_particles q more parts) = rw parts (numbers_later (numbers_of_both (particle_within q) (more_within more)))
 
-  of_particle : {ts : List Lexeme} {p : syntax.Pattern} → IsParticle ts p → AreNumbersIn (tokens_in p) ts
-  of_particle (grammar.once q) = of_primary q
-  of_particle (grammar.optional q parts) = rw parts (numbers_before _ (of_primary q))
-  of_particle (grammar.zero_or_more q parts) = rw parts (numbers_before _ (of_primary q))
-  of_particle (grammar.one_or_more q parts) = rw parts (numbers_before _ (of_primary q))
+  particle_within : {ts : List Lexeme} {p : syntax.Pattern} → IsParticle ts p → AreNumbersIn (tokens_in p) ts
+  particle_within (grammar.once q) = primary_within q
+  particle_within (grammar.optional q parts) = rw parts (numbers_before _ (primary_within q))
+  particle_within (grammar.zero_or_more q parts) = rw parts (numbers_before _ (primary_within q))
+  particle_within (grammar.one_or_more q parts) = rw parts (numbers_before _ (primary_within q))
 
-  of_primary : {ts : List Lexeme} {p : syntax.Pattern} → IsPrimary ts p → AreNumbersIn (tokens_in p) ts
-  of_primary (grammar.annotated_primary n q parts) = rw parts (numbers_after _ (of_bare_primary q))
+  primary_within : {ts : List Lexeme} {p : syntax.Pattern} → IsPrimary ts p → AreNumbersIn (tokens_in p) ts
+  primary_within (grammar.annotated_primary n q parts) = rw parts (numbers_after _ (bare_primary_within q))
 
-  of_bare_primary : {ts : List Lexeme} {p : syntax.Pattern} → IsBarePrimary ts p → AreNumbersIn (tokens_in p) ts
-  of_bare_primary (grammar.element c q parts) = rw parts (numbers_later (numbers_after _ (of_braced q)))
-  of_bare_primary (grammar.attribute c q parts) = rw parts (numbers_later (numbers_after _ (of_braced q)))
-  of_bare_primary (grammar.list q parts) = rw parts (numbers_later (of_braced q))
-  of_bare_primary (grammar.mixed q parts) = rw parts (numbers_later (of_braced q))
-  of_bare_primary (grammar.ref parts) = no_numbers
-  of_bare_primary (grammar.parent_ref parts) = no_numbers
-  of_bare_primary (grammar.empty parts) = no_numbers
-  of_bare_primary (grammar.text parts) = no_numbers
-  of_bare_primary (grammar.not_allowed parts) = no_numbers
-  of_bare_primary (grammar.untyped_value v) = no_numbers
-  of_bare_primary (grammar.value type v parts) = no_numbers
-  of_bare_primary (grammar.data_of type ps parts) = no_numbers
-  of_bare_primary (grammar.external v p parts is) = rw (parts, is) (number_here refl no_numbers)
-  of_bare_primary (grammar.grammar cs parts is) = rw (parts, is) (numbers_later (numbers_later (numbers_before _ (of_components cs))))
-  of_bare_primary (grammar.in_parens q parts) = rw parts (numbers_later (numbers_before _ (of_pattern q)))
+  bare_primary_within : {ts : List Lexeme} {p : syntax.Pattern} → IsBarePrimary ts p → AreNumbersIn (tokens_in p) ts
+  bare_primary_within (grammar.element c q parts) = rw parts (numbers_later (numbers_after _ (braced_within q)))
+  bare_primary_within (grammar.attribute c q parts) = rw parts (numbers_later (numbers_after _ (braced_within q)))
+  bare_primary_within (grammar.list q parts) = rw parts (numbers_later (braced_within q))
+  bare_primary_within (grammar.mixed q parts) = rw parts (numbers_later (braced_within q))
+  bare_primary_within (grammar.ref parts) = no_numbers
+  bare_primary_within (grammar.parent_ref parts) = no_numbers
+  bare_primary_within (grammar.empty parts) = no_numbers
+  bare_primary_within (grammar.text parts) = no_numbers
+  bare_primary_within (grammar.not_allowed parts) = no_numbers
+  bare_primary_within (grammar.untyped_value v) = no_numbers
+  bare_primary_within (grammar.value type v parts) = no_numbers
+  bare_primary_within (grammar.data_of type ps parts) = no_numbers
+  bare_primary_within (grammar.external v p parts is) = rw (parts, is) (number_here refl no_numbers)
+  bare_primary_within (grammar.grammar cs parts is) = rw (parts, is) (numbers_later (numbers_later (numbers_before _ (components_within cs))))
+  bare_primary_within (grammar.in_parens q parts) = rw parts (numbers_later (numbers_before _ (pattern_within q)))
 
-  of_braced : {ts : List Lexeme} {p : syntax.Pattern} → IsBraced ts p → AreNumbersIn (tokens_in p) ts
-  of_braced (grammar.in_braces q parts) = rw parts (numbers_later (numbers_before _ (of_pattern q)))
+  braced_within : {ts : List Lexeme} {p : syntax.Pattern} → IsBraced ts p → AreNumbersIn (tokens_in p) ts
+  braced_within (grammar.in_braces q parts) = rw parts (numbers_later (numbers_before _ (pattern_within q)))
 
-  of_components : {w : Setting} {ts : List Lexeme} {cs : List syntax.Component} → AreComponents w ts cs
+  components_within : {w : Setting} {ts : List Lexeme} {cs : List syntax.Component} → AreComponents w ts cs
       → AreNumbersIn (tokens_in_components (syntax.components_of cs)) ts
-  of_components (grammar.no_components parts) = no_numbers
-  of_components (grammar.and_component c cs parts) = rw parts (numbers_of_both (of_component c) (of_components cs))
+  components_within (grammar.no_components parts) = no_numbers
+  components_within (grammar.and_component c cs parts) = rw parts (numbers_of_both (component_within c) (components_within cs))
 
-  of_component : {w : Setting} {ts : List Lexeme} {c : syntax.Component} → IsComponent w ts c → AreNumbersIn (tokens_in_component c) ts
-  of_component (grammar.annotated_component n c parts) = rw parts (numbers_after _ (of_bare_component c))
+  component_within : {w : Setting} {ts : List Lexeme} {c : syntax.Component} → IsComponent w ts c → AreNumbersIn (tokens_in_component c) ts
+  component_within (grammar.annotated_component n c parts) = rw parts (numbers_after _ (bare_component_within c))
 
-  of_bare_component : {w : Setting} {ts : List Lexeme} {c : syntax.Component} → IsBareComponent w ts c → AreNumbersIn (tokens_in_component c) ts
-  of_bare_component (grammar.start m q parts) = rw parts (numbers_later (numbers_later (of_pattern q)))
-  of_bare_component (grammar.define m q parts) = rw parts (numbers_later (numbers_later (of_pattern q)))
-  of_bare_component (grammar.div cs parts is) = rw (parts, is) (numbers_later (numbers_later (numbers_before _ (of_components cs))))
-  of_bare_component (grammar.include setting v p over parts is) =
-      rw (parts, is) (number_here refl (numbers_after _ (numbers_after _ (of_overrides over))))
+  bare_component_within : {w : Setting} {ts : List Lexeme} {c : syntax.Component} → IsBareComponent w ts c → AreNumbersIn (tokens_in_component c) ts
+  bare_component_within (grammar.start m q parts) = rw parts (numbers_later (numbers_later (pattern_within q)))
+  bare_component_within (grammar.define m q parts) = rw parts (numbers_later (numbers_later (pattern_within q)))
+  bare_component_within (grammar.div cs parts is) = rw (parts, is) (numbers_later (numbers_later (numbers_before _ (components_within cs))))
+  bare_component_within (grammar.include setting v p over parts is) =
+      rw (parts, is) (number_here refl (numbers_after _ (numbers_after _ (overrides_within over))))
 
-  of_overrides : {ts : List Lexeme} {cs : List syntax.Component} → MayOverride ts cs → AreNumbersIn (tokens_in_components (syntax.components_of cs)) ts
-  of_overrides (grammar.without_overrides parts) = no_numbers
-  of_overrides (grammar.with_overrides cs parts) = rw parts (numbers_later (numbers_before _ (of_components cs)))
+  overrides_within : {ts : List Lexeme} {cs : List syntax.Component} → MayOverride ts cs → AreNumbersIn (tokens_in_components (syntax.components_of cs)) ts
+  overrides_within (grammar.without_overrides parts) = no_numbers
+  overrides_within (grammar.with_overrides cs parts) = rw parts (numbers_later (numbers_before _ (components_within cs)))
 
-of_body : {ts : List Lexeme} {b : syntax.Body} → IsBody ts b → AreNumbersIn (tokens_in_body b) ts
-of_body (grammar.pattern_body q) = of_pattern q
-of_body (grammar.grammar_body cs is) = rw is (of_components cs)
+body_within : {ts : List Lexeme} {b : syntax.Body} → IsBody ts b → AreNumbersIn (tokens_in_body b) ts
+body_within (grammar.pattern_body q) = pattern_within q
+body_within (grammar.grammar_body cs is) = rw is (components_within cs)
 
-of_file : {ts : List Lexeme} {f : syntax.File} → IsFile ts f → AreNumbersIn (tokens_in_body f.body) ts
-of_file (grammar.file ds b parts) = rw parts (numbers_after _ (of_body b))
+file_within : {ts : List Lexeme} {f : syntax.File} → IsFile ts f → AreNumbersIn (tokens_in_body f.body) ts
+file_within (grammar.file ds b parts) = rw parts (numbers_after _ (body_within b))
 
 -- ---- a file tree has the mentions of its syntax tree
 
@@ -138,43 +138,44 @@ data Has {A : Type 0} (tokens : A → List ℕ) : Option A → List ℕ → Type
   is_none : {ns : List ℕ} → Has tokens None ns
   has_these : {x : A} {ns : List ℕ} → tokens x ≡ ns → Has tokens (Some x) ns
 
--- what is made of one part, or after a part that has none
+-- what is made of one part has its tokens
 one : {A B : Type 0} {tokens : A → List ℕ} {all : B → List ℕ} {ns : List ℕ} (o : Option A) (f : A → B) → ((x : A) → all (f x) ≡ tokens x)
     → Has tokens o ns → Has all (o >>= λ x. Some (f x)) ns
 one None f same has = is_none
 one (Some x) f same (has_these has) = has_these (same x ∙ has)
 
+-- what comes after a part that has none
 then : {A B : Type 0} {all : B → List ℕ} {ns : List ℕ} (o : Option A) (f : A → Option B) → ((x : A) → Has all (f x) ns) → Has all (o >>= f) ns
 then None f has = is_none
 then (Some x) f has = has x
 
--- what is made of two
+-- what is made of two has theirs
 two : {A B C : Type 0} {first : A → List ℕ} {second : B → List ℕ} {all : C → List ℕ} {ns ms : List ℕ} (o : Option A) (q : Option B) (f : A → B → C)
     → ((x : A) (y : B) → all (f x y) ≡ first x ++ second y) → Has first o ns → Has second q ms → Has all (o >>= λ x. q >>= λ y. Some (f x y)) (ns ++ ms)
 two None q f same has more = is_none
 two (Some x) None f same has more = is_none
 two (Some x) (Some y) f same (has_these has) (has_these more) = has_these (same x y ∙ ap₂ (λ ns ms. ns ++ ms) has more)
 
-abbrev of_a_pattern : tree.Pattern → List ℕ
-of_a_pattern p = tokens_of (mentions_of_pattern p)
+abbrev tokens_of_pattern : tree.Pattern → List ℕ
+tokens_of_pattern p = tokens_of (mentions_of_pattern p)
 
-abbrev of_patterns : tree.Patterns → List ℕ
-of_patterns ps = tokens_of (mentions_of_patterns ps)
+abbrev tokens_of_patterns : tree.Patterns → List ℕ
+tokens_of_patterns ps = tokens_of (mentions_of_patterns ps)
 
-abbrev of_a_component : tree.Component → List ℕ
-of_a_component c = tokens_of (mentions_of_component c)
+abbrev tokens_of_component : tree.Component → List ℕ
+tokens_of_component c = tokens_of (mentions_of_component c)
 
-abbrev of_the_components : tree.Components → List ℕ
-of_the_components cs = tokens_of (mentions_of_components cs)
+abbrev tokens_of_components : tree.Components → List ℕ
+tokens_of_components cs = tokens_of (mentions_of_components cs)
 
-abbrev of_a_mention : tree.Mention → List ℕ
-of_a_mention m = m.token ∷ []
+abbrev token_of_mention : tree.Mention → List ℕ
+token_of_mention m = m.token ∷ []
 
-mention_has : (s : Scope) (m : syntax.Mention) → Has of_a_mention (mention_in s m) (m.token ∷ [])
+mention_has : (s : Scope) (m : syntax.Mention) → Has token_of_mention (mention_in s m) (m.token ∷ [])
 mention_has s m = then (handed_on s m.inherit) _ (λ u. has_these refl)
 
 mutual
-  pattern_has : (s : Scope) (p : syntax.Pattern) → Has of_a_pattern (pattern_in s p) (tokens_in p)
+  pattern_has : (s : Scope) (p : syntax.Pattern) → Has tokens_of_pattern (pattern_in s p) (tokens_in p)
   pattern_has s (syntax.element c p) = then (class_in s (default_of s) c) _ (λ c. one (pattern_in s p) (tree.element c) (λ p. refl) (pattern_has s p))
   pattern_has s (syntax.attribute c p) = then (class_in s (given []) c) _ (λ c. one (pattern_in s p) (tree.attribute c) (λ p. refl) (pattern_has s p))
   pattern_has s (syntax.list p) = one (pattern_in s p) tree.list (λ p. refl) (pattern_has s p)
@@ -194,33 +195,33 @@ mutual
   pattern_has s (syntax.grammar cs) = one (components_in s cs) tree.grammar (λ cs. refl) (components_have s cs)
   pattern_has s (syntax.joined k ps) = one (patterns_in s ps) (tree.joined k) (λ ps. refl) (patterns_have s ps)
 
-  patterns_have : (s : Scope) (ps : syntax.Patterns) → Has of_patterns (patterns_in s ps) (tokens_in_patterns ps)
+  patterns_have : (s : Scope) (ps : syntax.Patterns) → Has tokens_of_patterns (patterns_in s ps) (tokens_in_patterns ps)
   patterns_have s syntax.no_patterns = has_these refl
   patterns_have s (syntax.pattern_and p ps) =
       two (pattern_in s p) (patterns_in s ps) tree.pattern_and (λ p ps. map-append _ (mentions_of_pattern p) (mentions_of_patterns ps)) (pattern_has s p)
       (patterns_have s ps)
 
-  component_has : (s : Scope) (c : syntax.Component) → Has of_a_component (component_in s c) (tokens_in_component c)
+  component_has : (s : Scope) (c : syntax.Component) → Has tokens_of_component (component_in s c) (tokens_in_component c)
   component_has s (syntax.start m p) = one (pattern_in s p) (tree.start m) (λ p. refl) (pattern_has s p)
   component_has s (syntax.define n m p) = one (pattern_in s p) (tree.define n m) (λ p. refl) (pattern_has s p)
   component_has s (syntax.div cs) = one (components_in s cs) tree.div (λ cs. refl) (components_have s cs)
   component_has s (syntax.include m cs) =
       two (mention_in s m) (components_in s cs) tree.include (λ m cs. refl) (mention_has s m) (components_have s cs)
 
-  components_have : (s : Scope) (cs : syntax.Components) → Has of_the_components (components_in s cs) (tokens_in_components cs)
+  components_have : (s : Scope) (cs : syntax.Components) → Has tokens_of_components (components_in s cs) (tokens_in_components cs)
   components_have s syntax.no_components = has_these refl
   components_have s (syntax.component_and c cs) =
       two (component_in s c) (components_in s cs) tree.component_and (λ c cs. map-append _ (mentions_of_component c) (mentions_of_components cs))
       (component_has s c) (components_have s cs)
 
-abbrev of_a_file : tree.FileTree → List ℕ
-of_a_file t = tokens_of (mentions_of t)
+abbrev tokens_of_file : tree.FileTree → List ℕ
+tokens_of_file t = tokens_of (mentions_of t)
 
-body_has : (s : Scope) (b : syntax.Body) → Has of_a_file (body_in s b) (tokens_in_body b)
+body_has : (s : Scope) (b : syntax.Body) → Has tokens_of_file (body_in s b) (tokens_in_body b)
 body_has s (syntax.pattern_body p) = one (pattern_in s p) tree.pattern_file (λ p. refl) (pattern_has s p)
 body_has s (syntax.grammar_body cs) = one (components_in s cs) tree.grammar_file (λ cs. refl) (components_have s cs)
 
-file_has : (f : syntax.File) → Has of_a_file (file_tree f) (tokens_in_body f.body)
+file_has : (f : syntax.File) → Has tokens_of_file (file_tree f) (tokens_in_body f.body)
 unfolding file_tree
 file_has f = then (declare_all nothing_declared f.declarations) _ (λ s. body_has s f.body)
 
@@ -232,5 +233,5 @@ found x (has_these has) = has
 pub mentions_in_order : (ts : List Token) (t : tree.FileTree) → IsFileTree (lexemes ts) t
     → IsStrictlyIncreasing (map (λ m. (mention_of m).token) (mentions_of t))
 mentions_in_order ts t is =
-    let same : of_a_file t ≡ tokens_in_body is.file.body = found t (rw is.tree at (file_has is.file)) in
-    rw same (numbers_increase ts (tokens_in_body is.file.body) (of_file is.sentence))
+    let same : tokens_of_file t ≡ tokens_in_body is.file.body = found t (rw is.tree at (file_has is.file)) in
+    rw same (numbers_increase ts (tokens_in_body is.file.body) (file_within is.sentence))
