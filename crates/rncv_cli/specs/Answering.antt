@@ -3,8 +3,9 @@ use Rattle.std.specs.Prelude.{◌≡◌, ℕ, ◌≤◌, List, length, map, Opti
 use Rattle.std.specs.List.{All}
 use Rattle.std.specs.Io.KnownBytes.{Keeps}
 use Rattle.std.proofs.Common.{String, Vec, Global}
+use Rattle.rng_load.specs.FilesView.{named_files}
 use Rattle.rng_run.specs.Answer.{Answer}
-use Rattle.rng_run.specs.Run.{IsAnswer, WritesBeginning, main_file}
+use Rattle.rng_run.specs.Run.{IsAnswer, WritesBeginning, main_name}
 use Rattle.rng_run.specs.declared.running.Command.{Command}
 use Rattle.rncv_cli.specs.declared.fault.Fault.{Fault}
 use Rattle.rncv_cli.specs.declared.fault.Fault.TheVariants.{Memory, Read, Write, File, Usage}
@@ -23,7 +24,7 @@ pub record IsAnswerOver (command : Command) (names : List (String Global)) (inpu
   pub files : List (String Global × Vec ℕ Global)
   pub are_read : AreRead names files
   pub left : Option (List ℕ)
-  pub is : IsAnswer command (main_file files) input left answer
+  pub is : IsAnswer command (named_files files) (main_name files) input left answer
 
 -- the same, of some command over files of some names
 abbrev pub IsAnswerOverSome : Option (List ℕ) → Answer → Type 0

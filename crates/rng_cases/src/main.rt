@@ -19,7 +19,7 @@ mod written_tables;
 use case_rows::rows;
 use document::read_document;
 use rng_deriv::is_valid;
-use rng_model::{OutOfMemory, SchemaFault, SimpleGrammar};
+use rng_model::{OutOfMemory, SimpleGrammar};
 use rng_simple::{Schema, simplify};
 use std::io;
 use well_formed::is_well_formed;
@@ -61,7 +61,7 @@ fn print_simple_form(rt: &(impl Print + AllocGlobal), row: &str) -> io::Result<(
     };
     match simplify(rt.alloc(), &Schema::single(pattern)) {
         Ok(grammar) => tables::print_tables(rt, &grammar),
-        Err(SchemaFault::Memory) => println!(rt; "out of memory"),
+        Err(OutOfMemory) => println!(rt; "out of memory"),
     }
 }
 

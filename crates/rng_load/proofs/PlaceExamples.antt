@@ -1,13 +1,17 @@
--- Small schemas of two files: which components their main grammar gets.
-use Rattle.std.proofs.Common.{refl, List, ℕ, [], ◌∷◌, Option, Some, None, codes}
-use Rattle.rng_model.specs.Lists.{here}
+-- Small schemas of a few files: which components their grammars get, and one whole schema.
+use Rattle.std.proofs.Common.{◌≡◌, refl, sym, subst, List, ℕ, zero, suc, [], ◌∷◌, Option, Some, None, codes, map, if◌then◌else◌}
+use Rattle.std.specs.Str.{bytes_eq}
+use Rattle.rng_model.specs.Lists.{Among, here, there}
+use Rattle.rng_model.specs.Patterns.{Place}
+use Rattle.rng_model.specs.Schema.{Schema, Component}
 use Rattle.rng_model.specs.Names as names
 use Rattle.rng_model.specs.Patterns as pattern
 use Rattle.rng_model.specs.declared.method.Method.TheVariants as methods
 use Rattle.rnc_grammar.specs.FileTree as tree
 use Rattle.rnc_grammar.specs.FileTree.{FileTree, Namespace, inherited, given, grammar_file, pattern_file}
 use Rattle.rng_load.specs.Places.{Gathered, Gathers, nothing, a_start, a_define, an_include, ref_is, element_is, empty_is, grammar_is}
-use Rattle.rng_load.specs.Places.{Reads, pattern_file_is, grammar_file_is, HasGrammar, main_is, nested_is}
+use Rattle.rng_load.specs.Places.{Reads, pattern_file_is, grammar_file_is, HasGrammar, main_is, nested_is, Nested, IsSchemaOf}
+use Rattle.rng_load.proofs.NameLists.{in_none}
 
 -- every mention is of this file
 abbrev always : FileTree → List ℕ → Option FileTree
@@ -45,6 +49,32 @@ including = tree.component_and
 overridden : Gathers (always (grammar_file two_of_x)) [] [] 0 including
     (a_component None (pattern.ref (codes "x")) ∷ a_component (Some (codes "x")) (read_element [] (codes "y")) ∷ [])
 overridden = an_include refl refl (a_start ref_is (a_define (element_is empty_is) (a_define (element_is empty_is) nothing)))
+    (a_define (element_is empty_is) nothing) nothing refl
+
+-- ---- a name that is overridden twice
+
+-- a mention of b.rnc is of the first file, and any other of the second
+abbrev first_or_second : FileTree → FileTree → List ℕ → Option FileTree
+first_or_second b c h = if bytes_eq h (codes "b.rnc") then Some b else Some c
+
+-- c.rnc: start = x   x = element w { empty }
+abbrev one_of_x : tree.Components
+one_of_x =
+    tree.component_and (tree.start methods.Plain (tree.ref (codes "x")))
+    (tree.component_and (tree.define (codes "x") methods.Plain (empty_element inherited (codes "w"))) tree.no_components)
+
+-- b.rnc: include "c.rnc" { x = element z { empty } }
+abbrev including_c : tree.Components
+including_c = tree.component_and
+    (tree.include (record { href = codes "c.rnc"; namespace = inherited; token = 1 })
+    (tree.component_and (tree.define (codes "x") methods.Plain (empty_element inherited (codes "z"))) tree.no_components))
+    tree.no_components
+
+-- what overrides in b.rnc is overridden where b.rnc is included: of three components of the name one is left
+overridden_twice : Gathers (first_or_second (grammar_file including_c) (grammar_file one_of_x)) [] [] 0 including
+    (a_component None (pattern.ref (codes "x")) ∷ a_component (Some (codes "x")) (read_element [] (codes "y")) ∷ [])
+overridden_twice = an_include refl refl
+    (an_include refl refl (a_start ref_is (a_define (element_is empty_is) nothing)) (a_define (element_is empty_is) nothing) nothing refl)
     (a_define (element_is empty_is) nothing) nothing refl
 
 -- ---- a namespace that is handed on
@@ -88,3 +118,80 @@ outer_components =
 -- it stands in the body of the first component's pattern, and the grammar around it is the main one
 nested_place : HasGrammar (always (grammar_file outer_components)) (grammar_file outer_components) (0 ∷ 0 ∷ []) (Some []) [] inner_components
 nested_place = nested_is (main_is refl) (a_start (element_is grammar_is) (a_define (element_is empty_is) nothing)) here here
+
+-- ---- a whole schema
+
+-- start = empty
+abbrev empty_start : tree.Components
+empty_start = tree.component_and (tree.start methods.Plain tree.empty) tree.no_components
+
+-- start = grammar { start = empty }
+abbrev grammar_start : tree.Components
+grammar_start = tree.component_and (tree.start methods.Plain (tree.grammar empty_start)) tree.no_components
+
+abbrev no_files : List ℕ → Option FileTree
+no_files h = None
+
+abbrev start_of : pattern.Pattern → List Component
+start_of p = record { name = None; method = methods.Plain; pattern = p } ∷ []
+
+-- the main grammar is at the empty place, the other is its first component's pattern, and no other is there
+abbrev two_components : Place → Option (List Component)
+two_components [] = Some (start_of (pattern.grammar (0 ∷ [])))
+two_components (zero ∷ []) = Some (start_of pattern.empty)
+two_components (zero ∷ (c ∷ x)) = None
+two_components (suc n ∷ x) = None
+
+abbrev around_two : Place → Option Place
+around_two [] = None
+around_two (zero ∷ []) = Some []
+around_two (zero ∷ (c ∷ x)) = None
+around_two (suc n ∷ x) = None
+
+abbrev two_grammars : Schema
+two_grammars = record { main = []; components = two_components; outer = around_two }
+
+-- the two, at their places
+data IsOneOfTwo : Place → Option Place → List ℕ → tree.Components → Type 0 where
+  the_main : IsOneOfTwo [] None [] grammar_start
+  the_other : IsOneOfTwo (0 ∷ []) (Some []) [] empty_start
+
+nested_in_one : {x : Place} {o : Option Place} {u : List ℕ} {cs : tree.Components} {all : List Gathered} {g : Gathered} {n : Nested}
+    → IsOneOfTwo x o u cs → Gathers no_files u x 0 cs all → Among g all → Among n g.nested → IsOneOfTwo n.place (Some x) n.uri n.components
+nested_in_one the_main (a_start grammar_is nothing) here here = the_other
+nested_in_one the_main (a_start grammar_is nothing) here (there j) = absurd (in_none j)
+nested_in_one the_main (a_start grammar_is nothing) (there i) j = absurd (in_none i)
+nested_in_one the_other (a_start empty_is nothing) here j = absurd (in_none j)
+nested_in_one the_other (a_start empty_is nothing) (there i) j = absurd (in_none i)
+
+one_of_two : {x : Place} {o : Option Place} {u : List ℕ} {cs : tree.Components} → HasGrammar no_files (grammar_file grammar_start) x o u cs
+    → IsOneOfTwo x o u cs
+one_of_two (main_is e) = subst (λ cs. IsOneOfTwo [] None [] cs) (sym e) the_main
+one_of_two (nested_is h d i j) = nested_in_one (one_of_two h) d i j
+
+components_there : {x : Place} {o : Option Place} {u : List ℕ} {cs : tree.Components} → IsOneOfTwo x o u cs
+    → (gathered : List Gathered) × Gathers no_files u x 0 cs gathered × (two_components x ≡ Some (map (λ g. g.component) gathered)) × (around_two x ≡ o)
+components_there the_main = (_, a_start grammar_is nothing, refl, refl)
+components_there the_other = (_, a_start empty_is nothing, refl, refl)
+
+grammar_there : (x : Place) (all : List Component) → two_components x ≡ Some all
+    → (o : Option Place) × (u : List ℕ) × (cs : tree.Components) × HasGrammar no_files (grammar_file grammar_start) x o u cs
+grammar_there [] all e = (None, [], grammar_start, main_is refl)
+grammar_there (zero ∷ []) all e = (Some [], [], empty_start, nested_is (main_is refl) (a_start grammar_is nothing) here here)
+grammar_there (zero ∷ (c ∷ x)) all e = absurd cc
+grammar_there (suc n ∷ x) all e = absurd cc
+
+none_elsewhere : (x : Place) → two_components x ≡ None → around_two x ≡ None
+none_elsewhere [] e = refl
+none_elsewhere (zero ∷ []) e = absurd cc
+none_elsewhere (zero ∷ (c ∷ x)) e = refl
+none_elsewhere (suc n ∷ x) e = refl
+
+-- they are the schema of the file
+two_are_schema : IsSchemaOf no_files (grammar_file grammar_start) two_grammars
+two_are_schema = record {
+  main_place = refl;
+  there = λ x o u cs h. components_there (one_of_two h);
+  only_there = grammar_there;
+  none_around = none_elsewhere;
+}

@@ -1,4 +1,13 @@
-pub mod LoadOrder
-pub mod Mentions
+pub mod SchemaFile
+pub mod FileFaults
+pub mod MentionPaths
+pub mod GrammarNames
 pub mod Places
 pub mod Loading
+pub mod FilesView
+pub mod LoadingFaults
+pub mod Counting
+pub mod ComponentNames
+pub mod PlainReading
+pub mod ReadPatterns
+pub mod GatheredComponents

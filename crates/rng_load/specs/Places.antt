@@ -2,13 +2,14 @@
 -- with its namespace (RELAX NG Specification, sections 4.6, 4.7, 4.9, 4.11 and 4.18; Compact Syntax, "Declarations").
 --
 -- A place is the way to a grammar in the tree of the main file with each mention followed: the number of the child at each level,
--- the innermost first. Of an include its file is the child 0 and its braces the child 1; the pattern of an external is its child 0.
+-- the innermost first. Of an include its file is the child 0 and its braces the child 1; the pattern of an external is its child 0, and grammar
+-- content of an external's file is a grammar at the external's own place.
 use Rattle.std.specs.Prelude.{◌≡◌, ℕ, ◌+◌, List, [], ◌∷◌, ◌++◌, filter, map, not, Option, Some, None, Bool}
 use Rattle.std.specs.List.{list_any}
 use Rattle.rng_model.specs.Lists.{Among}
 use Rattle.rng_model.specs.Names as names
-use Rattle.rng_model.specs.Tree.{Datatype, Connector, choice, group, interleave}
-use Rattle.rng_model.specs.Patterns.{Place, Pattern, Patterns}
+use Rattle.rng_model.specs.Tree.{Datatype, Connector}
+use Rattle.rng_model.specs.Patterns.{Place, Pattern, members}
 use Rattle.rng_model.specs.Patterns as pattern
 use Rattle.rng_model.specs.Schema.{Schema, Component, same_name}
 use Rattle.rng_model.specs.declared.method.Method.{Method}
@@ -47,24 +48,13 @@ datatype_in d ps = record { library = d.library; name = d.name; parameters = ps 
 abbrev pub Way : Type 0
 Way = List ℕ
 
--- a list of members about a connector: one alone is itself (section 4.12); none, which no file has, change nothing beside others
-abbrev pub members : Connector → List Pattern → Pattern
-members choice [] = pattern.not_allowed
-members group [] = pattern.empty
-members interleave [] = pattern.empty
-members k (p ∷ []) = p
-members k (p ∷ (q ∷ ps)) = pattern.joined k p q (patterns_of ps) where
-  patterns_of : List Pattern → Patterns
-  patterns_of [] = pattern.no_patterns
-  patterns_of (p ∷ ps) = pattern.pattern_and p (patterns_of ps)
-
 -- a grammar that is nested in another: its place, the namespace that its file inherits, and its components
 pub record Nested : Type 0 where
   pub place : Place
   pub uri : List ℕ
   pub components : tree.Components
 
--- a component that its grammar gets, and the grammars that are nested in it
+-- a component that its grammar gets, and the grammars that are nested in it directly, in no other
 pub record Gathered : Type 0 where
   pub component : Component
   pub nested : List Nested
@@ -83,7 +73,7 @@ main_grammar (grammar_file cs) = cs
 main_grammar (pattern_file p) = grammar_or_start p (whole_grammar p)
 
 module _ (files : List ℕ → Option FileTree) where
-  -- in a file that inherits this namespace the pattern, at this way, is that one, and these grammars are nested in it
+  -- in a file that inherits this namespace the pattern, at this way, is that one, and these grammars are nested in it directly
   mutual
     pub data Reads : List ℕ → Way → tree.Pattern → Pattern → List Nested → Type 0 where
       element_is : {u : List ℕ} {x : Way} {c : tree.NameClass} {a : tree.Pattern} {p : Pattern} {gs : List Nested} → Reads u (0 ∷ x) a p gs
@@ -146,18 +136,18 @@ module _ (files : List ℕ → Option FileTree) where
         all ≡ (filter (λ g. not (is_overridden overriding g)) included ++ overriding) ++ rest →
         Gathers u x n (tree.component_and (tree.include m over) cs) all
 
-  -- at the place there is a grammar of these components, in a file that inherits this namespace (the main file none); and around it is the one at the
+  -- at the place there is a grammar of these components, in a file that inherits this namespace (the main file the empty one); and around it is the one at the
   -- other place, if there is one
   pub data HasGrammar (main : FileTree) : Place → Option Place → List ℕ → tree.Components → Type 0 where
     main_is : {cs : tree.Components} → cs ≡ main_grammar main → HasGrammar main [] None [] cs
     nested_is : {x : Place} {o : Option Place} {u : List ℕ} {cs : tree.Components} {gathered : List Gathered} {g : Gathered} {n : Nested} →
         HasGrammar main x o u cs → Gathers u x 0 cs gathered → Among g gathered → Among n g.nested → HasGrammar main n.place (Some x) n.uri n.components
 
-  -- the schema of these files
+  -- The schema of these files, where they break none of S1 to S10: at each place at which a grammar is, its components and the place of the grammar around it; at any other place nothing.
   pub record IsSchemaOf (main : FileTree) (s : Schema) : Type 0 where
     pub main_place : s.main ≡ []
-    pub components : (x : Place) (o : Option Place) (u : List ℕ) (cs : tree.Components) → HasGrammar main x o u cs →
-        (gathered : List Gathered) × Gathers u x 0 cs gathered × (s.components x ≡ Some (map (λ g. g.component) gathered))
-    pub outer : (x : Place) (o : Option Place) (u : List ℕ) (cs : tree.Components) → HasGrammar main x o u cs → s.outer x ≡ o
-    pub none_else : (x : Place) → ((o : Option Place) (u : List ℕ) (cs : tree.Components) → ¬ (HasGrammar main x o u cs)) →
-        (s.components x ≡ None) × (s.outer x ≡ None)
+    pub there : (x : Place) (o : Option Place) (u : List ℕ) (cs : tree.Components) → HasGrammar main x o u cs →
+        (gathered : List Gathered) × Gathers u x 0 cs gathered × (s.components x ≡ Some (map (λ g. g.component) gathered)) × (s.outer x ≡ o)
+    pub only_there : (x : Place) (all : List Component) → s.components x ≡ Some all →
+        (o : Option Place) × (u : List ℕ) × (cs : tree.Components) × HasGrammar main x o u cs
+    pub none_around : (x : Place) → s.components x ≡ None → s.outer x ≡ None

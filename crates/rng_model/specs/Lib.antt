@@ -33,6 +33,7 @@ pub mod DatatypeTests
 pub mod Least
 pub mod Patterns
 pub mod Schema
+pub mod SchemaView
 pub mod Unfolding
 pub mod Simplification
 pub mod Depth

@@ -2,7 +2,7 @@
 -- Where an element stands, its position says, so that two equal ones are told apart.
 use Rattle.std.specs.Prelude.{ℕ, ◌+◌, List, [], ◌∷◌}
 use Rattle.rng_model.specs.Names.{NameClass}
-use Rattle.rng_model.specs.Tree.{Datatype, Connector}
+use Rattle.rng_model.specs.Tree.{Datatype, Connector, choice, group, interleave}
 use Rattle.rng_model.specs.Tree.{Tree, Trees}
 use Rattle.rng_model.specs.Tree as tree
 
@@ -44,6 +44,18 @@ mutual
   pub data Patterns : Type 0 where
     no_patterns : Patterns
     pattern_and : Pattern → Patterns → Patterns
+
+abbrev pub patterns_of : List Pattern → Patterns
+patterns_of [] = no_patterns
+patterns_of (p ∷ ps) = pattern_and p (patterns_of ps)
+
+-- a list of members about a connector: one alone is itself (section 4.12); none, which no file has, change nothing beside others
+abbrev pub members : Connector → List Pattern → Pattern
+members choice [] = not_allowed
+members group [] = empty
+members interleave [] = empty
+members k (p ∷ []) = p
+members k (p ∷ (q ∷ ps)) = joined k p q (patterns_of ps)
 
 -- the datatype of this name in this library, with no parameters
 abbrev pub without_parameters : List ℕ → List ℕ → Datatype

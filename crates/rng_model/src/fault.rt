@@ -23,6 +23,11 @@ impl<T: Drop> From<AllocFailed<T>> for OutOfMemory {
 /// Why a schema has no answer.
 #[derive(Debug, Drop)]
 pub enum SchemaFault {
+    /// The schema file of this name is the first to break a clause by itself, and this is the first that it breaks: 1
+    /// to 8.
+    File { clause: u8, name: String },
+    /// The schema breaks this clause first, 9 or more.
+    Clause(u8),
     /// There was no memory for what the call had to keep.
     Memory,
 }

@@ -7,6 +7,7 @@
 
 mod blanks;
 mod character;
+mod component;
 mod datatype;
 mod device;
 mod document;
@@ -15,10 +16,13 @@ mod grammar;
 mod method;
 mod name;
 mod pattern;
+mod place;
+mod schema_pattern;
 mod simple;
 
 pub use blanks::{Pieces, collapse, split_blanks};
 pub use character::{is_name_char, is_name_start, is_ncname, is_xml_char};
+pub use component::Component;
 pub use datatype::{Datatype, datatype_laws};
 pub use device::{Device, DeviceFault};
 pub use document::{Attr, Item};
@@ -27,4 +31,6 @@ pub use grammar::SimpleGrammar;
 pub use method::Method;
 pub use name::{Name, NameClass};
 pub use pattern::Pattern;
+pub use place::Place;
+pub use schema_pattern::SchemaPattern;
 pub use simple::{ElementId, PatternId, Simple};

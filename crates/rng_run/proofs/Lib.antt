@@ -1,6 +1,5 @@
 mod AnswerLines
 mod LineCount
-mod SchemaFile
 pub mod ServedPatterns
 pub mod FilePatterns
 mod StringCuts

@@ -1,9 +1,10 @@
 -- What an answer of the code is.
+use Rattle.std.specs.Prelude.{string_bytes}
 use Rattle.rng_run.specs.declared.answer.Answer.{Answer}
 use Rattle.rng_run.specs.declared.answer.Answer.TheVariants as answers
 use Rattle.rng_run.specs.Answer as answer
 
 abbrev pub answer_of : Answer → answer.Answer
 answer_of (answers.Refused clause) = answer.refused clause
-answer_of (answers.RefusedFile clause name) = answer.refused_file clause name.now
+answer_of (answers.RefusedFile clause name) = answer.refused_file clause (string_bytes name)
 answer_of (answers.Judged verdict) = answer.judged verdict

@@ -1,9 +1,7 @@
 pub mod Answer
 pub mod AnswerView
 pub mod Verdict
-pub mod SchemaFile
 pub mod Fragment
-pub mod FileFaults
 pub mod FragmentFaults
 pub mod Compiled
 pub mod Run

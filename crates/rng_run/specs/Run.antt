@@ -5,7 +5,8 @@ use Rattle.rng_model.specs.Texts.{TextTests, texts_of}
 use Rattle.rng_model.specs.Written.{Pattern, IsValidWritten}
 use Rattle.rnc_grammar.specs.FileTree.{FileTree}
 use Rattle.rng_run.specs.Answer.{Answer, refused, refused_file, judged, line_of, status_of}
-use Rattle.rng_run.specs.SchemaFile.{FileVerdict, too_long, breaks, has_tree, IsTheFileVerdict}
+use Rattle.rng_load.specs.Loading.{FilesVerdict, file_breaks, together_break, are_taken, IsTheFilesVerdict, tree_in}
+use Rattle.rng_load.specs.SchemaFile.{NamedFile}
 use Rattle.rng_run.specs.Fragment.{served_file}
 use Rattle.rng_run.specs.Verdict.{IsOnlyVerdict, IsVerdict}
 use Rattle.rng_run.specs.declared.answer.Status.{Status}
@@ -16,15 +17,10 @@ use Rattle.rng_run.specs.declared.running.RunFault.{RunFault}
 use Rattle.rng_run.specs.declared.running.RunFault.TheVariants.{Memory, Read, Write}
 use Rattle.std.proofs.Common.{String, Vec, Global}
 
--- a file: its name and its bytes
-pub record NamedFile : Type 0 where
-  pub name : List ℕ
-  pub bytes : List ℕ
-
--- the first file
-abbrev pub main_file : List (String Global × Vec ℕ Global) → NamedFile
-main_file [] = record { name = []; bytes = [] }
-main_file (file ∷ files) = record { name = string_bytes file.0; bytes = file.1.items }
+-- the name of the first file, which is the main one
+abbrev pub main_name : List (String Global × Vec ℕ Global) → List ℕ
+main_name [] = []
+main_name (file ∷ files) = string_bytes file.0
 
 -- The verdict is that of the definition, and no other is, for the bytes that the reader had left, all of which were read, by this pattern as
 -- it is written, whatever is known of texts.
@@ -35,33 +31,35 @@ pub record IsJudged (p : Pattern) (verdict : Verdict) (input_old input_new : Opt
   pub verdict_is : (tests : TextTests) → IsVerdict (IsValidWritten (texts_of tests) p) document verdict
   pub only : (tests : TextTests) → IsOnlyVerdict (IsValidWritten (texts_of tests) p) document verdict
 
--- the pattern by which the command judges a document, where a file has this tree: `check` judges none
-abbrev pub pattern_by : Command → FileTree → Option Pattern
-pattern_by Valid t = served_file t
+-- the pattern by which the command judges a document, where the main file has this tree: `check` judges none
+abbrev pub pattern_by : Command → Option FileTree → Option Pattern
+pattern_by Valid None = None
+pattern_by Valid (Some t) = served_file t
 pattern_by Check t = None
 
--- no document is judged by a file of this verdict
-abbrev pub JudgesNone : Command → FileVerdict → Type 0
-JudgesNone command too_long = Unit {0}
-JudgesNone command (breaks clause) = Unit {0}
-JudgesNone command (has_tree t) = pattern_by command t ≡ None
+-- no document is judged where this is the verdict on the files, of which the main one has this name
+abbrev pub JudgesNone : Command → List ℕ → FilesVerdict → Type 0
+JudgesNone command main (file_breaks f clause) = Unit {0}
+JudgesNone command main (together_break clause) = Unit {0}
+JudgesNone command main (are_taken read) = pattern_by command (tree_in read main) ≡ None
 
 -- the answer where a document is judged by this pattern, or where by none: then the schema is outside what is served
 abbrev pub IsAnswerBy : Option Pattern → Option (List ℕ) → Option (List ℕ) → Answer → Type 0
 IsAnswerBy None input_old input_new answer = answer ≡ refused 0
 IsAnswerBy (Some p) input_old input_new answer = (verdict : Verdict) × (answer ≡ judged verdict) × IsJudged p verdict input_old input_new
 
--- the answer for a file of this name and this verdict: a broken clause is told with the name
-abbrev pub IsAnswerTo : Command → List ℕ → FileVerdict → Option (List ℕ) → Option (List ℕ) → Answer → Type 0
-IsAnswerTo command name too_long input_old input_new answer = answer ≡ refused 0
-IsAnswerTo command name (breaks clause) input_old input_new answer = answer ≡ refused_file clause name
-IsAnswerTo command name (has_tree t) input_old input_new answer = IsAnswerBy (pattern_by command t) input_old input_new answer
+-- The answer for files of this verdict: a broken clause is told, with the name of the file that breaks it by itself; else it is that of the main
+-- file's tree.
+abbrev pub IsAnswerTo : Command → List ℕ → FilesVerdict → Option (List ℕ) → Option (List ℕ) → Answer → Type 0
+IsAnswerTo command main (file_breaks f clause) input_old input_new answer = answer ≡ refused_file clause f
+IsAnswerTo command main (together_break clause) input_old input_new answer = answer ≡ refused clause
+IsAnswerTo command main (are_taken read) input_old input_new answer = IsAnswerBy (pattern_by command (tree_in read main)) input_old input_new answer
 
--- the answer follows from the verdict on the file, which is the only one
-pub record IsAnswer (command : Command) (file : NamedFile) (input_old input_new : Option (List ℕ)) (answer : Answer) : Type 0 where
-  pub verdict : FileVerdict
-  pub is_verdict : IsTheFileVerdict file.bytes verdict
-  pub follows : IsAnswerTo command file.name verdict input_old input_new answer
+-- the answer follows from the verdict on the files, which is the only one
+pub record IsAnswer (command : Command) (files : List NamedFile) (main : List ℕ) (input_old input_new : Option (List ℕ)) (answer : Answer) : Type 0 where
+  pub verdict : FilesVerdict
+  pub is_verdict : IsTheFilesVerdict files main verdict
+  pub follows : IsAnswerTo command main verdict input_old input_new answer
 
 -- The line of the answer is all that was written, and the status is that of the line.
 pub record WritesLine (answers : Answer → Type 0) (status : Status) (old new : Option (List ℕ)) : Type 0 where

@@ -26,19 +26,19 @@ pub enum Status {
 }
 
 /// What a run answers with one line.
-#[derive(Clone, Copy)]
-pub enum Answer<'a> {
+#[derive(Drop)]
+pub enum Answer {
     /// The schema breaks this clause, or is outside what is served: clause 0.
     Refused(u8),
     /// The file of this name breaks this clause.
-    RefusedFile { clause: u8, name: &'a str },
+    RefusedFile { clause: u8, name: String },
     Judged(Verdict),
 }
 
-impl Answer<'_> {
+impl Answer {
     /// The status that goes with the line. Takes no memory.
-    pub fn status(self) -> Status
-        ensures { result ≡ status_of (answer_of self.entry) }
+    pub fn status(&self) -> Status
+        ensures { result ≡ status_of (answer_of self.now) }
     {
         match self {
             Answer::Refused(_) | Answer::RefusedFile { .. } => Status::Refused,
@@ -49,16 +49,20 @@ impl Answer<'_> {
     }
 
     /// The line, ended by a line feed.
-    pub fn line(self, alloc: Global) -> Result<String, AllocError>
-        ensures { IfOk result (λ line. string_bytes line ≡ line_of (answer_of self.entry)) }
+    pub fn line(&self, alloc: Global) -> Result<String, AllocError>
+        ensures { IfOk result (λ line. string_bytes line ≡ line_of (answer_of self.now)) }
     {
         match self {
             Answer::Refused(clause) => format!(in alloc; "refused S{clause}\n"),
-            Answer::RefusedFile { clause, name } => refused_file_line(alloc, clause, name),
+            Answer::RefusedFile { clause, name } => refused_file_line(
+                alloc,
+                *clause,
+                name.as_str(),
+            ),
             Answer::Judged(Verdict::Valid) => String::from_str(alloc, "valid\n"),
             Answer::Judged(Verdict::Invalid(line)) => format!(in alloc; "invalid line {line}\n"),
             Answer::Judged(Verdict::Malformed { clause, line }) => {
-                malformed_line(alloc, clause, line)
+                malformed_line(alloc, *clause, *line)
             }
         }
     }

@@ -1,20 +1,20 @@
 // From files and a document to one line.
-ghost use Rattle.std.specs.Prelude.{◌≡◌, ◌-◌, ◌^◌, ◌<◌, length, None, IfOk, IfErr, OnOk, IsErrOf};
+ghost use Rattle.std.specs.Prelude.{◌≡◌, ◌-◌, ◌^◌, ◌<◌, length, None, IfOk, IfErr, OnOk, IsErrOf, option_map};
 ghost use Rattle.rng_model.specs.Device.{device_inner, device_failures};
 ghost use Rattle.rng_run.specs.Answer.{status_of};
 ghost use Rattle.rng_run.specs.AnswerView.{answer_of};
 ghost use Rattle.rnc_grammar.specs.View.{file_of};
-ghost use Rattle.rng_run.specs.Run.{IsAnswer, IsAnswerBy, JudgesNone, WritesLine, WrittenAfter, main_file, pattern_by};
-ghost use Rattle.rng_run.specs.SchemaFile.{FileVerdict, IsTheFileVerdict};
+ghost use Rattle.rng_load.specs.FilesView.{named_files};
+ghost use Rattle.rng_load.specs.Loading.{FilesVerdict, IsTheFilesVerdict};
+ghost use Rattle.rng_run.specs.Run.{IsAnswer, IsAnswerBy, JudgesNone, WritesLine, WrittenAfter, main_name, pattern_by};
 ghost use Rattle.rng_run.specs.Compiled.{IsCompiled};
 
 use crate::answer::{Answer, Status};
-use crate::fault::FileFault;
 use crate::fragment::{FragmentFault, pattern_of_file};
 use crate::judging::document_verdict;
-use crate::schema_file::tree_of_file;
 use crate::streams::{StreamFault, read_whole, write_whole};
 use rnc_grammar::FileTree;
+use rng_load::load_files;
 use rng_model::{Device, OutOfMemory, SchemaFault, SimpleGrammar};
 use rng_simple::{Schema, simplify};
 use std::alloc::Global;
@@ -40,16 +40,18 @@ pub enum RunFault {
     Memory,
 }
 
-/// Does what the command asks for with the schema in the first of the files, and writes one line.
+/// Does what the command asks for with the schema of these files, of which the first is the main one, and writes one
+/// line.
 ///
-/// The line is `refused S0` where the file has more than 1,048,576 bytes, whatever they are; else `refused Sk file NAME`
-/// where it breaks a clause of the compact syntax, with the least k of 3 to 8 and the file's name as it is; else for
-/// `Check`, and for `Valid` where the schema is outside what is served, `refused S0`; and else `valid`, `invalid line N`
-/// or `malformed Pk line N`, as the definition says for the document that `input` has left and the pattern of the file's
-/// tree. A line feed ends it. A refused schema leaves the input unread, and the other files are ignored.
-/// `RunFault::Read` and `RunFault::Write` come only where that device counted a failed call, `RunFault::Memory` only where
-/// neither did; after `Read` and `Memory` nothing was written, after `Write` a beginning of the line was. The file and the
-/// document are kept whole; time is in proportion to the file, and then what `simplify` and `is_valid` take.
+/// The line is `refused Sk file NAME` where a file breaks a clause by itself, with the first such file in load order
+/// and the clause that it breaks first, 1 to 8; else `refused S9` or `refused S10` where the files break that together, S9 before S10;
+/// else, for `Check`, and for `Valid` where the schema is outside what is served, `refused S0`; and else `valid`,
+/// `invalid line N` or `malformed Pk line N`, as the definition says for the document that `input` has left and the
+/// pattern of the main file's tree. A line feed ends it. A refused schema leaves the input unread; the bytes of
+/// files that are not reached from the main one are not looked at. `RunFault::Read` and `RunFault::Write` come only where that device
+/// counted a failed call, `RunFault::Memory` only where neither did; after `Read` and `Memory` nothing was written,
+/// after `Write` a beginning of the line was. The files and the document are kept whole; time is what `load_files`
+/// takes, and then what `simplify` and `is_valid` take.
 pub fn run<R: Read, W: Write>(
     alloc: Global,
     command: Command,
@@ -65,11 +67,11 @@ pub fn run<R: Read, W: Write>(
     ensures calm_input { OnOk result (device_failures input.new ≡ device_failures input.old) }
     ensures calm_output { OnOk result (device_failures output.new ≡ device_failures output.old) }
     ensures line { IfOk result (λ status. WritesLine
-        (IsAnswer command (main_file files.now) (R.remaining (device_inner input.old)) (R.remaining (device_inner input.new)))
+        (IsAnswer command (named_files files.now) (main_name files.now) (R.remaining (device_inner input.old)) (R.remaining (device_inner input.new)))
         status (W.contents (device_inner output.old)) (W.contents (device_inner output.new))) }
 
-    // Where no document is judged by the file, none is read.
-    ensures unread { (verdict : FileVerdict) → IsTheFileVerdict (main_file files.now).bytes verdict → JudgesNone command verdict → input.new ≡ input.old }
+    // Where no document is judged by the files, none is read.
+    ensures unread { (verdict : FilesVerdict) → IsTheFilesVerdict (named_files files.now) (main_name files.now) verdict → JudgesNone command (main_name files.now) verdict → input.new ≡ input.old }
 
     // A fault of a device is answered only where that device counted one.
     ensures read { IsErrOf result RunFault.Read → device_failures input.old < device_failures input.new }
@@ -77,11 +79,10 @@ pub fn run<R: Read, W: Write>(
     ensures memory { IsErrOf result RunFault.Memory →
         (device_failures input.new ≡ device_failures input.old) × (device_failures output.new ≡ device_failures output.old) }
     ensures written { IfErr result (λ fault. WrittenAfter
-        (IsAnswer command (main_file files.now) (R.remaining (device_inner input.old)) (R.remaining (device_inner input.new)))
+        (IsAnswer command (named_files files.now) (main_name files.now) (R.remaining (device_inner input.old)) (R.remaining (device_inner input.new)))
         fault (W.contents (device_inner output.old)) (W.contents (device_inner output.new))) }
 {
-    let (name, bytes) = first_file(files);
-    let answer = answer_for(alloc, command, name, bytes, input)?;
+    let answer = answer_for(alloc, command, files, first_name(files), input)?;
     let Ok(line) = answer.line(alloc) else {
         return Err(RunFault::Memory);
     };
@@ -91,55 +92,55 @@ pub fn run<R: Read, W: Write>(
     Ok(answer.status())
 }
 
-/// The name and the bytes of the first file.
-fn first_file(files: &[(String, Vec<u8>)]) -> (&str, &[u8])
+/// The name of the first file.
+fn first_name(files: &[(String, Vec<u8>)]) -> &str
     requires { 0 < length files.now }
-    ensures { record { name = result.0.now; bytes = result.1.now } ≡ main_file files.now }
+    ensures { result.now ≡ main_name files.now }
 {
     match files {
-        [(name, bytes), ..] => (name.as_str(), bytes.as_slice()),
+        [(name, _), ..] => name.as_str(),
         [] => unreachable!(),
     }
 }
 
-/// What is to be said of the document by the schema in the file of this name.
-fn answer_for<'n, R: Read>(
+/// What is to be said of the document by the schema of these files, of which the main one has this name.
+fn answer_for<R: Read>(
     alloc: Global,
     command: Command,
-    name: &'n str,
-    bytes: &[u8],
+    files: &[(String, Vec<u8>)],
+    main: &str,
     input: &mut Device<R>,
-) -> Result<Answer<'n>, RunFault>
+) -> Result<Answer, RunFault>
     requires { device_failures input.old < 2 ^ 64 - 1 }
     ensures calm { OnOk result (device_failures input.new ≡ device_failures input.old) }
-    ensures unread { (verdict : FileVerdict) → IsTheFileVerdict bytes.now verdict → JudgesNone command verdict → input.new ≡ input.old }
+    ensures unread { (verdict : FilesVerdict) → IsTheFilesVerdict (named_files files.now) main.now verdict → JudgesNone command main.now verdict → input.new ≡ input.old }
     ensures read { IsErrOf result RunFault.Read → device_failures input.old < device_failures input.new }
     ensures memory { IsErrOf result RunFault.Memory → device_failures input.new ≡ device_failures input.old }
     ensures no_write { IsErrOf result RunFault.Write → ⊥ }
-    ensures answer { IfOk result (λ answer. IsAnswer command (record { name = name.now; bytes = bytes.now }) (R.remaining (device_inner input.old)) (R.remaining (device_inner input.new)) (answer_of answer)) }
+    ensures answer { IfOk result (λ answer. IsAnswer command (named_files files.now) main.now (R.remaining (device_inner input.old)) (R.remaining (device_inner input.new)) (answer_of answer)) }
 {
-    match tree_of_file(alloc, bytes) {
-        Ok(tree) => answer_by(alloc, command, &tree, input),
-        Err(FileFault::Clause(clause)) => Ok(Answer::RefusedFile { clause, name }),
-        Err(FileFault::TooLong) => Ok(Answer::Refused(0)),
-        Err(FileFault::Memory) => Err(RunFault::Memory),
+    match load_files(alloc, files, main) {
+        Ok(schema_files) => answer_by(alloc, command, schema_files.tree(main), input),
+        Err(SchemaFault::File { clause, name }) => Ok(Answer::RefusedFile { clause, name }),
+        Err(SchemaFault::Clause(clause)) => Ok(Answer::Refused(clause)),
+        Err(SchemaFault::Memory) => Err(RunFault::Memory),
     }
 }
 
-/// What is to be said of the document by a schema file of this tree.
-fn answer_by<'n, R: Read>(
+/// What is to be said of the document by a schema whose main file has this tree.
+fn answer_by<R: Read>(
     alloc: Global,
     command: Command,
-    tree: &FileTree,
+    tree: Option<&FileTree>,
     input: &mut Device<R>,
-) -> Result<Answer<'n>, RunFault>
+) -> Result<Answer, RunFault>
     requires { device_failures input.old < 2 ^ 64 - 1 }
     ensures calm { OnOk result (device_failures input.new ≡ device_failures input.old) }
-    ensures unread { pattern_by command (file_of tree.now) ≡ None → input.new ≡ input.old }
+    ensures unread { pattern_by command (option_map (λ t. file_of t.now) tree.entry) ≡ None → input.new ≡ input.old }
     ensures read { IsErrOf result RunFault.Read → device_failures input.old < device_failures input.new }
     ensures memory { IsErrOf result RunFault.Memory → device_failures input.new ≡ device_failures input.old }
     ensures no_write { IsErrOf result RunFault.Write → ⊥ }
-    ensures answer { IfOk result (λ answer. IsAnswerBy (pattern_by command (file_of tree.now)) (R.remaining (device_inner input.old)) (R.remaining (device_inner input.new)) (answer_of answer)) }
+    ensures answer { IfOk result (λ answer. IsAnswerBy (pattern_by command (option_map (λ t. file_of t.now) tree.entry)) (R.remaining (device_inner input.old)) (R.remaining (device_inner input.new)) (answer_of answer)) }
 {
     let grammar = match compiled(alloc, command, tree) {
         Ok(Some(grammar)) => grammar,
@@ -161,19 +162,16 @@ fn answer_by<'n, R: Read>(
 fn compiled(
     alloc: Global,
     command: Command,
-    tree: &FileTree,
+    tree: Option<&FileTree>,
 ) -> Result<Option<SimpleGrammar>, OutOfMemory>
-    ensures { IfOk result (IsCompiled (pattern_by command (file_of tree.now))) }
+    ensures { IfOk result (IsCompiled (pattern_by command (option_map (λ t. file_of t.now) tree.entry))) }
 {
-    match command {
-        Command::Check => Ok(None),
-        Command::Valid => match pattern_of_file(alloc, tree) {
-            Ok(pattern) => match simplify(alloc, &Schema::single(pattern)) {
-                Ok(grammar) => Ok(Some(grammar)),
-                Err(SchemaFault::Memory) => Err(OutOfMemory),
-            },
+    match (command, tree) {
+        (Command::Valid, Some(tree)) => match pattern_of_file(alloc, tree) {
+            Ok(pattern) => Ok(Some(simplify(alloc, &Schema::single(pattern))?)),
             Err(FragmentFault::NotServed) => Ok(None),
             Err(FragmentFault::Memory) => Err(OutOfMemory),
         },
+        (Command::Valid, None) | (Command::Check, _) => Ok(None),
     }
 }

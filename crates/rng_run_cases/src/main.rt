@@ -1,5 +1,6 @@
-//! Prints what `run` answers and writes for each row of `data/cases.txt` and `data/sizes.txt`; then for each document of
-//! `data/documents.txt` a line with a letter for each schema of `data/schemas.txt`, V for valid and I for invalid.
+//! Prints what `run` answers and writes for each row of `data/cases.txt`, `data/sizes.txt` and `data/files.txt`; then
+//! for each document of `data/documents.txt` a line with a letter for each schema of `data/schemas.txt`, V for valid
+//! and I for invalid.
 //!
 //! The documents, the schemas and their letters come from a second program, `tools/all_splits`.
 #![tactic(auto)]
@@ -21,6 +22,11 @@ fn main(rt: HostRuntime) -> io::Result<()> {
         let line = line_of(rt.alloc(), &row, schema.as_slice(), row.bytes(2)?)?;
         print!(rt; "{line}")?;
     }
+    for row in rows(&rt, "files.txt")? {
+        let files = files_of(rt.alloc(), &row)?;
+        let line = line_over(rt.alloc(), &row, files.as_slice(), row.bytes(1)?)?;
+        print!(rt; "{line}")?;
+    }
     let schemas = rows(&rt, "schemas.txt")?;
     for document in rows(&rt, "documents.txt")? {
         let letters = letters_of(rt.alloc(), schemas.as_slice(), document.bytes(0)?)?;
@@ -33,30 +39,60 @@ fn main(rt: HostRuntime) -> io::Result<()> {
 fn outcome(
     alloc: Global,
     command: Command,
-    name: &str,
-    schema: &[u8],
+    files: &[(String, Vec<u8>)],
     document: &[u8],
 ) -> io::Result<(Status, Vec<u8>)> {
-    let file = (
-        String::from_str(alloc, name)?,
-        Vec::from_slice(alloc, schema)?,
-    );
+    if files.is_empty() {
+        return Err(io::Error::from(io::ErrorKind::InvalidData));
+    }
     let mut written = Vec::new(alloc);
     let mut input = Device::new(document);
     let mut output = Device::new(&mut written);
-    match run(alloc, command, &[file], &mut input, &mut output) {
+    match run(alloc, command, files, &mut input, &mut output) {
         Ok(status) => Ok((status, written)),
         Err(_) => Err(io::Error::from(io::ErrorKind::Other)),
     }
 }
 
-/// What a run answers and writes, by the command and the file's name that a row begins with.
+/// A file of this name.
+fn file_of(alloc: Global, name: &str, schema: &[u8]) -> io::Result<(String, Vec<u8>)> {
+    Ok((
+        String::from_str(alloc, name)?,
+        Vec::from_slice(alloc, schema)?,
+    ))
+}
+
+/// The files from the third field on.
+fn files_of(alloc: Global, row: &Row) -> io::Result<Vec<(String, Vec<u8>)>> {
+    let mut files = Vec::new(alloc);
+    for field in (2..row.field_count()).step_by(3) {
+        let mut bytes = Vec::new(alloc);
+        for _ in 0..times_of(row, field.wrapping_add(2)) {
+            bytes.extend_from_slice(row.bytes(field.wrapping_add(1))?)?;
+        }
+        files.push((String::from_str(alloc, row.text(field)?)?, bytes))?;
+    }
+    Ok(files)
+}
+
+/// What a run over one file answers and writes, by the command and the file's name that a row begins with.
 fn line_of(alloc: Global, row: &Row, schema: &[u8], document: &[u8]) -> io::Result<String> {
+    let file = file_of(alloc, row.text(1)?, schema)?;
+    line_over(alloc, row, &[file], document)
+}
+
+/// What a run answers and writes, by the command that a row begins with.
+fn line_over(
+    alloc: Global,
+    row: &Row,
+    files: &[(String, Vec<u8>)],
+    document: &[u8],
+) -> io::Result<String> {
     let command = match row.text(0)? {
         "check" => Command::Check,
         _ => Command::Valid,
     };
-    let (status, written) = outcome(alloc, command, row.text(1)?, schema, document)?;
+    let (status, written) = outcome(alloc, command, files, document)?;
     match str::from_utf8(written.as_slice()) {
         Ok(line) => Ok(format!(in alloc; "{status:?} {line}")?),
         Err(_) => Err(io::Error::from(io::ErrorKind::InvalidData)),
@@ -87,7 +123,8 @@ fn times_of(row: &Row, field: usize) -> u32 {
 fn letters_of(alloc: Global, schemas: &[Row], document: &[u8]) -> io::Result<String> {
     let mut letters = String::new(alloc);
     for schema in schemas {
-        let (status, _) = outcome(alloc, Command::Valid, "s.rnc", schema.bytes(0)?, document)?;
+        let file = file_of(alloc, "s.rnc", schema.bytes(0)?)?;
+        let (status, _) = outcome(alloc, Command::Valid, &[file], document)?;
         letters.push(match status {
             Status::Good => 'V',
             Status::Invalid => 'I',

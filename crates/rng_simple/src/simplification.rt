@@ -19,7 +19,7 @@ ghost use Rattle.rng_simple.specs.SimpleOf.{join};
 use crate::grammar_builder::{GrammarBuilder, Mark};
 use crate::name_class::nested;
 use crate::schema::Schema;
-use rng_model::{Pattern, PatternId, SchemaFault, Simple, SimpleGrammar};
+use rng_model::{OutOfMemory, Pattern, PatternId, Simple, SimpleGrammar};
 use std::alloc::Global;
 
 /// What a pattern has become. `NotAllowed` and `Empty` have no place in the table yet, since the pattern around them
@@ -37,7 +37,7 @@ pub enum Simplified {
 /// elements, and a document is valid by it exactly if it is valid by the schema as written. Elements that the start
 /// does not reach are not in it. The only fault is want of memory. Takes time and memory in proportion to the schema,
 /// and recurses as deep as it nests.
-pub fn simplify(alloc: Global, schema: &Schema) -> Result<SimpleGrammar, SchemaFault>
+pub fn simplify(alloc: Global, schema: &Schema) -> Result<SimpleGrammar, OutOfMemory>
     ensures syntax { IfOk result (λ g. IsInSimpleSyntax (grammar_of g)) }
     ensures simple_form { IfOk result (λ g. IsSimpleGrammarOf (start_of schema.now) (grammar_of g)) }
     ensures only { IfOk result (λ g. IsOnlySimpleGrammarOf (start_of schema.now) (grammar_of g)) }
@@ -55,7 +55,7 @@ fn simplify_pattern(
     alloc: Global,
     builder: &mut GrammarBuilder,
     pattern: &Pattern,
-) -> Result<Simplified, SchemaFault>
+) -> Result<Simplified, OutOfMemory>
     ensures extends { OnOk result (Extends builder.old builder.new) }
     ensures simplified { IfOk result (IsSimplified builder.new.patterns) }
     ensures represents { IfOk result (λ simplified. Represents builder.old builder.new (simplified_tree builder.new.patterns simplified) (pattern_of pattern.now)) }
@@ -90,7 +90,7 @@ fn simplify_group(
     alloc: Global,
     builder: &mut GrammarBuilder,
     all: &[Pattern],
-) -> Result<Simplified, SchemaFault>
+) -> Result<Simplified, OutOfMemory>
     ensures extends { OnOk result (Extends builder.old builder.new) }
     ensures simplified { IfOk result (IsSimplified builder.new.patterns) }
     ensures represents { IfOk result (λ simplified. Represents builder.old builder.new (simplified_tree builder.new.patterns simplified) (members group (map pattern_of all.now))) }
@@ -110,7 +110,7 @@ fn simplify_choice(
     alloc: Global,
     builder: &mut GrammarBuilder,
     all: &[Pattern],
-) -> Result<Simplified, SchemaFault>
+) -> Result<Simplified, OutOfMemory>
     ensures extends { OnOk result (Extends builder.old builder.new) }
     ensures simplified { IfOk result (IsSimplified builder.new.patterns) }
     ensures represents { IfOk result (λ simplified. Represents builder.old builder.new (simplified_tree builder.new.patterns simplified) (members choice (map pattern_of all.now))) }
@@ -129,7 +129,7 @@ fn group(
     mark: Mark,
     a: Simplified,
     b: Simplified,
-) -> Result<Simplified, SchemaFault>
+) -> Result<Simplified, OutOfMemory>
     requires builder { AreTables (cut mark builder.old) }
     requires first { IsSimplified builder.old.patterns a }
     requires second { IsSimplified builder.old.patterns b }
@@ -156,7 +156,7 @@ fn choice(
     builder: &mut GrammarBuilder,
     a: Simplified,
     b: Simplified,
-) -> Result<Simplified, SchemaFault>
+) -> Result<Simplified, OutOfMemory>
     requires first { IsSimplified builder.old.patterns a }
     requires second { IsSimplified builder.old.patterns b }
     ensures kept { OnOk result (Keeps builder.old builder.new) }
@@ -176,7 +176,7 @@ fn choice(
 }
 
 /// A choice of empty and a pattern of the table.
-fn empty_or(builder: &mut GrammarBuilder, other: PatternId) -> Result<Simplified, SchemaFault>
+fn empty_or(builder: &mut GrammarBuilder, other: PatternId) -> Result<Simplified, OutOfMemory>
     requires { IsSimplified builder.old.patterns (Simplified.Pattern other) }
     ensures kept { OnOk result (Keeps builder.old builder.new) }
     ensures simplified { IfOk result (IsSimplified builder.new.patterns) }
@@ -188,7 +188,7 @@ fn empty_or(builder: &mut GrammarBuilder, other: PatternId) -> Result<Simplified
 }
 
 /// The place of a simplified pattern in the table, where it may stand as a whole start or body.
-fn placed(builder: &mut GrammarBuilder, simplified: Simplified) -> Result<PatternId, SchemaFault>
+fn placed(builder: &mut GrammarBuilder, simplified: Simplified) -> Result<PatternId, OutOfMemory>
     requires { IsSimplified builder.old.patterns simplified }
     ensures kept { OnOk result (Keeps builder.old builder.new) }
     ensures there { IfOk result (λ id. id.0 < length builder.new.patterns) }

@@ -1,4 +1,4 @@
-use Rattle.std.proofs.Common.{ℕ, List, Option, Some, None, refl, subst}
+use Rattle.std.proofs.Common.{ℕ, List, Option, Some, None, refl, subst, option_map}
 use Rattle.std.specs.Io.KnownBytes.{Consumes, IsAtEnd}
 use Rattle.rng_model.specs.Table.{Table, grammar_of, IsValidBy}
 use Rattle.rng_model.specs.Texts.{TextTests, texts_of}
@@ -31,6 +31,6 @@ judged_by (Some p) g old new document verdict same read end is = (
 
 pub returns-in-Ok-document_verdict-clause-answer : goal.returns-in-Ok-document_verdict-clause-answer
 returns-in-Ok-document_verdict-clause-answer g c =
-    let compiled = subst (IsCompiled (pattern_by c.args.command (file_of c.args.tree.now))) c.in-Ok-Some.field-0-is c.in-Ok-Some.ensures in
+    let compiled = subst (IsCompiled (pattern_by c.args.command (option_map (λ t. file_of t.now) c.args.tree))) c.in-Ok-Some.field-0-is c.in-Ok-Some.ensures in
     judged_by _ _ _ _ _ _ compiled c.in-Ok.ensures.bytes c.in-Ok.ensures.end
     (λ tests. rw c.as_slice.ensures.value at c.in-Ok-document_verdict.ensures.verdict tests)

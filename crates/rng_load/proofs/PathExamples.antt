@@ -1,0 +1,62 @@
+-- Small schemas whose files mention one another: which go round, and how many paths of mentions there are.
+use Rattle.std.proofs.Common.{refl, [], ◌∷◌, arith, inl, codes}
+use Rattle.rng_model.specs.Lists.{here}
+use Rattle.rng_model.specs.Tree.{group}
+use Rattle.rnc_grammar.specs.FileTree as tree
+use Rattle.rnc_grammar.specs.FileTree.{FileTree, inherited, pattern_file}
+use Rattle.rng_load.specs.Counting.{paths, paths_along, HasPaths, has, have_none, have_more}
+use Rattle.rng_load.specs.Loading.{TakenFiles, hrefs_in}
+use Rattle.rng_load.specs.MentionPaths.{IsCyclic, HasMorePathsThan, directly, through}
+use Rattle.rng_load.specs.SchemaFile.{Name}
+use Rattle.rng_load.proofs.CountedPaths.{at_most}
+use Rattle.rng_load.proofs.EachPath.{more_here, more_found}
+
+abbrev a : Name
+a = codes "a.rnc"
+
+abbrev b : Name
+b = codes "b.rnc"
+
+abbrev mention : Name → tree.Pattern
+mention f = tree.external (record { href = f; namespace = inherited; token = 0 })
+
+-- ---- files that go round
+
+-- a.rnc: external "a.rnc"
+abbrev one_file : TakenFiles
+one_file = (a, pattern_file (mention a)) ∷ []
+
+mentions_itself : IsCyclic (hrefs_in one_file) a
+mentions_itself = (a, inl refl, directly here)
+
+-- a.rnc: external "b.rnc"   b.rnc: external "a.rnc"
+abbrev ring : TakenFiles
+ring = (a, pattern_file (mention b)) ∷ (b, pattern_file (mention a)) ∷ []
+
+goes_round : IsCyclic (hrefs_in ring) a
+goes_round = (a, inl refl, through (directly here) here)
+
+-- ---- paths of mentions
+
+-- a.rnc: external "b.rnc", external "b.rnc"   b.rnc: empty
+abbrev two_mentions : TakenFiles
+two_mentions =
+    (a, pattern_file (tree.joined group (tree.pattern_and (mention b) (tree.pattern_and (mention b) tree.no_patterns))))
+    ∷ (b, pattern_file tree.empty) ∷ []
+
+-- the empty path, and one along each mention
+three_paths : HasPaths (hrefs_in two_mentions) a 3
+three_paths = has (have_more leaf (have_more leaf (have_none refl) refl) refl) refl where
+  leaf : HasPaths (hrefs_in two_mentions) b 1
+  leaf = has (have_none refl) refl
+
+more_than_two : HasMorePathsThan (hrefs_in two_mentions) 2 a
+unfolding paths paths_along
+more_than_two = more_here (hrefs_in two_mentions) 2 1 (omega arith)
+
+not_more_than_three : ¬ (HasMorePathsThan (hrefs_in two_mentions) 3 a)
+not_more_than_three m =
+    let found = more_found (hrefs_in two_mentions) 3 m in
+    let few = at_most (hrefs_in two_mentions) three_paths found.0 in
+    let more = found.1 in
+    omega (arith, few, more)

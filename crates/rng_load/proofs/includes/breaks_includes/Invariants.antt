@@ -1,0 +1,9 @@
+use Rattle.std.proofs.Common.{map, take}
+use Rattle.rnc_grammar.specs.View.{file_of}
+use Rattle.rng_load.specs.FilesView.{taken_files_of}
+use Rattle.rng_load.specs.Loading.{HasBrokenInclude}
+use Rattle.rng_load.proofs.BrokenIncludes.{OneOf}
+use Rattle.rng_load.proofs.includes.breaks_includes.Given as goal
+
+abbrev pub invariant-loop-tree : goal.invariant-loop-tree
+invariant-loop-tree l = ¬ (OneOf (HasBrokenInclude (taken_files_of l.trees)) (map file_of (take l.tree-index l.tree-items)))

@@ -1,0 +1,10 @@
+use Rattle.std.proofs.Common.{◌-◌, length}
+use Rattle.rng_load.specs.FilesView.{names_of, named_files, taken_files_of}
+use Rattle.rng_load.proofs.TakenFiles.{IsFirm}
+use Rattle.rng_load.proofs.order.load_in_order.Given as goal
+
+abbrev pub invariant-files : goal.invariant-files
+invariant-files l = IsFirm (named_files l.files) l.main (taken_files_of l.trees) (names_of l.names)
+
+abbrev pub decreases-files : goal.decreases-files
+decreases-files l = length l.files - length l.trees.entries

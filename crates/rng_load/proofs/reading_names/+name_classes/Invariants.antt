@@ -1,0 +1,10 @@
+use Rattle.std.proofs.Common.{◌≡◌, ◌++◌, map, drop}
+use Rattle.rng_model.specs.View.{class_of}
+use Rattle.rnc_grammar.specs.FileTree.{classes_of}
+use Rattle.rnc_grammar.specs.View as file
+use Rattle.rng_load.specs.Places.{classes_in}
+use Rattle.rng_load.proofs.reading_names.+name_classes.Given as goal
+
+abbrev pub invariant-name_classes-loop-class : goal.invariant-name_classes-loop-class
+invariant-name_classes-loop-class l = classes_in l.inherited (classes_of (map file.class_of l.all)) ≡ map class_of l.classes.items
+    ++ classes_in l.inherited (classes_of (map file.class_of (drop l.class-index l.all)))

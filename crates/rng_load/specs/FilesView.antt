@@ -1,0 +1,24 @@
+-- What files of the code are, apart from where they lie in memory.
+use Rattle.std.specs.Prelude.{ℕ, List, map, string_bytes, String, Vec}
+use Rattle.std.specs.Global.{Global}
+use Rattle.indexmap.specs.IndexMap.{IndexMap}
+use Rattle.indexmap.specs.IndexSet.{IndexSet}
+use Rattle.rnc_grammar.specs.declared.file_tree.FileTree as declared
+use Rattle.rnc_grammar.specs.View.{file_of}
+use Rattle.rng_load.specs.declared.loading.SchemaFiles.{SchemaFiles}
+use Rattle.rng_load.specs.Loading.{TakenFiles}
+use Rattle.rng_load.specs.SchemaFile.{Name, NamedFile}
+
+abbrev pub named_files : List (String Global × Vec ℕ Global) → List NamedFile
+named_files files = map (λ f. record { name = string_bytes f.0; bytes = f.1.items }) files
+
+module _ {S : Type 0} where
+  abbrev pub taken_files_of : IndexMap (String Global) declared.FileTree S → TakenFiles
+  taken_files_of trees = map (λ e. (string_bytes e.0, file_of e.1)) trees.entries
+
+  -- names, in order
+  abbrev pub names_of : IndexSet (String Global) S → List Name
+  names_of names = map string_bytes names.keys
+
+abbrev pub files_of : SchemaFiles → TakenFiles
+files_of files = taken_files_of files.trees

@@ -1,0 +1,47 @@
+-- What the calls that take files in load order answer.
+use Rattle.std.specs.Prelude.{◌≡◌, List, Result, Ok, Err, Option, Some, None, string_bytes, String}
+use Rattle.std.specs.Global.{Global}
+use Rattle.indexmap.specs.IndexMap.{IndexMap}
+use Rattle.rng_model.specs.declared.fault.SchemaFault.{SchemaFault}
+use Rattle.rng_model.specs.declared.fault.SchemaFault.TheVariants as faults
+use Rattle.rnc_grammar.specs.declared.file_tree.FileTree as declared
+use Rattle.rnc_grammar.specs.View.{file_of}
+use Rattle.rng_load.specs.FilesView.{files_of, taken_files_of}
+use Rattle.rng_load.specs.declared.loading.SchemaFiles.{SchemaFiles}
+use Rattle.rng_load.specs.Loading.{FilesVerdict, file_breaks, together_break, are_taken, AreTaken, IsFirstBroken}
+use Rattle.rng_load.specs.SchemaFile.{Name, NamedFile, breaks, has_tree, IsTheFileVerdict}
+
+-- the verdict that a fault tells, unless memory ran out
+abbrev pub verdict_of_fault : SchemaFault → Option FilesVerdict
+verdict_of_fault (faults.File clause name) = Some (file_breaks (string_bytes name) clause)
+verdict_of_fault (faults.Clause clause) = Some (together_break clause)
+verdict_of_fault faults.Memory = None
+
+module _ {S : Type 0} where
+  -- what is told where each file is only judged by itself
+  abbrev pub reading_of : Result (IndexMap (String Global) declared.FileTree S) SchemaFault → Option FilesVerdict
+  reading_of (Ok trees) = Some (are_taken (taken_files_of trees))
+  reading_of (Err fault) = verdict_of_fault fault
+
+-- the verdict that is told, unless memory ran out
+abbrev pub files_verdict_of : Result SchemaFiles SchemaFault → Option FilesVerdict
+files_verdict_of (Ok files) = Some (are_taken (files_of files))
+files_verdict_of (Err fault) = verdict_of_fault fault
+
+-- of the verdict what is known once each file is read: the files, or the first that breaks a clause by itself
+abbrev pub IsReading : List NamedFile → Name → FilesVerdict → Type 0
+IsReading files main (file_breaks f k) = IsFirstBroken files main f k
+IsReading files main (together_break k) = ⊥
+IsReading files main (are_taken read) = AreTaken files main read
+
+-- this is known, and nothing else
+pub record IsTheReading (files : List NamedFile) (main : Name) (v : FilesVerdict) : Type 0 where
+  pub is : IsReading files main v
+  pub only : (other : FilesVerdict) → IsReading files main other → v ≡ other
+
+-- what is told of the file of this name, unless memory ran out: its tree, or the clause that it breaks first, with its name
+abbrev pub IsNamedTree : List NamedFile → Name → Name → Result declared.FileTree SchemaFault → Type 0
+IsNamedTree files main f (Ok tree) = IsTheFileVerdict files main f (has_tree (file_of tree))
+IsNamedTree files main f (Err (faults.File clause name)) = (string_bytes name ≡ f) × IsTheFileVerdict files main f (breaks clause)
+IsNamedTree files main f (Err (faults.Clause clause)) = ⊥
+IsNamedTree files main f (Err faults.Memory) = Unit {0}

@@ -1,0 +1,17 @@
+-- What code reads of the patterns of files, apart from where it lies in memory.
+use Rattle.std.specs.Prelude.{ℕ, List, map, Option}
+use Rattle.rng_model.specs.SchemaView.{place_of}
+use Rattle.rnc_grammar.specs.FileTree.{FileTree, components_of}
+use Rattle.rnc_grammar.specs.View.{component_of}
+use Rattle.rng_load.specs.declared.reading_patterns.NestedGrammar.{NestedGrammar}
+use Rattle.rng_load.specs.declared.reading_patterns.TreeReader.{TreeReader}
+use Rattle.rng_load.specs.FilesView.{taken_files_of}
+use Rattle.rng_load.specs.Loading.{tree_in}
+use Rattle.rng_load.specs.Places.{Nested}
+
+abbrev pub nested_of : NestedGrammar → Nested
+nested_of g = record { place = place_of g.place; uri = g.uri.now; components = components_of (map component_of g.components.now) }
+
+-- the trees by name
+abbrev pub files_in : TreeReader → List ℕ → Option FileTree
+files_in r = tree_in (taken_files_of r.trees.now)

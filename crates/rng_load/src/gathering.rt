@@ -1,0 +1,239 @@
+// From the components of files to those of the grammars of a schema.
+ghost use Rattle.std.specs.Prelude.{◌≡◌, ◌∷◌, ◌++◌, IfOk, OnOk, map, option_map, reverse, string_bytes};
+ghost use Rattle.rng_model.specs.Schema as schema;
+ghost use Rattle.rnc_grammar.specs.FileTree.{components_of};
+ghost use Rattle.rnc_grammar.specs.View.{component_of, mention_of, pattern_of};
+ghost use Rattle.rng_load.specs.GatheredComponents.{gathered_of};
+ghost use Rattle.rng_load.specs.Loading.{grammar_if};
+ghost use Rattle.rng_load.specs.Places.{is_overridden as is_overridden_by, uri_in};
+ghost use Rattle.rng_load.specs.PlainReading.{gather_at, gather_below, gather_one_at, gathered_as, included_with, read_at, replaced_by};
+ghost use Rattle.rng_load.specs.ReadPatterns.{files_in};
+
+use crate::component_names::grammar_of;
+use crate::reading_names::namespace_uri;
+use crate::reading_patterns::{NestedGrammar, TreeReader};
+use rnc_grammar::{Mention, Method, Pattern};
+use rng_model::{Component, OutOfMemory};
+
+/// A component that its grammar gets, and the grammars that are nested in it.
+///
+/// RELAX NG Specification, sections 4.7 and 4.18.
+#[derive(Drop)]
+pub(crate) struct GatheredComponent<'a> {
+    pub component: Component,
+    pub grammars: Vec<NestedGrammar<'a>>,
+}
+
+impl<'a> TreeReader<'a> {
+    /// Puts the components that these give their grammar at the end of `all`, in order, with includes followed for so many levels. `uri`
+    /// is the namespace that their file inherits, and `way` leads to what they stand in, the outermost number first.
+    ///
+    /// Of an include these are the components of its file that its braces do not override, and then those of its braces. Where
+    /// the file is no grammar, or no level is left, it gives those of its braces alone.
+    ///
+    /// RELAX NG Specification, sections 4.7, 4.9 and 4.11.
+    #[cycle(gathering)]
+    pub(crate) fn gather_all(
+        self,
+        levels: u32,
+        uri: &'a str,
+        way: &mut Vec<usize>,
+        components: &'a [rnc_grammar::Component],
+        all: &mut Vec<GatheredComponent<'a>>,
+    ) -> Result<(), OutOfMemory>
+        ensures gathered { OnOk result (map gathered_of all.new.items ≡ map gathered_of all.old.items ++ gather_at (files_in self.entry) levels uri.now (reverse way.old.items) 0 (components_of (map component_of components.now))) }
+        ensures way { OnOk result (way.new.items ≡ way.old.items) }
+    {
+        for (number, component) in components.iter().enumerate() {
+            self.gather_child(levels, uri, way, number, component, all)?;
+        }
+        Ok(())
+    }
+
+    /// Puts those of the component there that is the child with this number.
+    #[cycle(gathering)]
+    fn gather_child(
+        self,
+        levels: u32,
+        uri: &'a str,
+        way: &mut Vec<usize>,
+        number: usize,
+        component: &'a rnc_grammar::Component,
+        all: &mut Vec<GatheredComponent<'a>>,
+    ) -> Result<(), OutOfMemory>
+        ensures gathered { OnOk result (map gathered_of all.new.items ≡ map gathered_of all.old.items ++ gather_one_at (files_in self.entry) levels uri.now (number ∷ reverse way.old.items) (component_of component.now)) }
+        ensures way { OnOk result (way.new.items ≡ way.old.items) }
+    {
+        way.push(number)?;
+        self.gather(levels, uri, way, component, all)?;
+        way.pop();
+        Ok(())
+    }
+
+    /// Puts those of one component there.
+    #[cycle(gathering)]
+    #[tactic(auto, unfolding(crate::specs::PlainReading::gather_with))]
+    fn gather(
+        self,
+        levels: u32,
+        uri: &'a str,
+        way: &mut Vec<usize>,
+        component: &'a rnc_grammar::Component,
+        all: &mut Vec<GatheredComponent<'a>>,
+    ) -> Result<(), OutOfMemory>
+        ensures gathered { OnOk result (map gathered_of all.new.items ≡ map gathered_of all.old.items ++ gather_one_at (files_in self.entry) levels uri.now (reverse way.old.items) (component_of component.now)) }
+        ensures way { OnOk result (way.new.items ≡ way.old.items) }
+    {
+        match component {
+            rnc_grammar::Component::Start(method, body) => {
+                let start = self.gathered(levels, uri, way, None, *method, body)?;
+                Ok(all.push(start)?)
+            }
+            rnc_grammar::Component::Define(name, method, body) => {
+                let name = String::from_str(self.alloc, name.as_str())?;
+                let define = self.gathered(levels, uri, way, Some(name), *method, body)?;
+                Ok(all.push(define)?)
+            }
+            rnc_grammar::Component::Div(components) => {
+                self.gather_all(levels, uri, way, components, all)
+            }
+            rnc_grammar::Component::Include(mention, overriding) => {
+                self.include(levels, uri, way, mention, overriding, all)
+            }
+        }
+    }
+
+    /// Puts those of an include there, with the components in its braces.
+    ///
+    /// RELAX NG Specification, section 4.7.
+    #[cycle(gathering)]
+    fn include(
+        self,
+        levels: u32,
+        uri: &'a str,
+        way: &mut Vec<usize>,
+        mention: &'a Mention,
+        overriding: &'a [rnc_grammar::Component],
+        all: &mut Vec<GatheredComponent<'a>>,
+    ) -> Result<(), OutOfMemory>
+        ensures gathered { OnOk result (map gathered_of all.new.items ≡ map gathered_of all.old.items ++ replaced_by (included_with (gather_below (files_in self.entry) levels) (uri_in uri.now (mention_of mention.now).namespace) (reverse way.old.items) (grammar_if (files_in self.entry (mention_of mention.now).href))) (gather_at (files_in self.entry) levels uri.now (1 ∷ reverse way.old.items) 0 (components_of (map component_of overriding.now)))) }
+        ensures way { OnOk result (way.new.items ≡ way.old.items) }
+    {
+        let included = self.included(levels, uri, way, mention)?;
+        let mut replacing = Vec::new(self.alloc);
+        self.gather_under(levels, uri, way, 1, overriding, &mut replacing)?;
+        replace(all, included, replacing)
+    }
+
+    /// The components of the file that is included.
+    #[cycle(gathering)]
+    #[tactic(auto, unfolding(crate::specs::PlainReading::included_with, crate::specs::PlainReading::gather_below))]
+    fn included(
+        self,
+        levels: u32,
+        uri: &'a str,
+        way: &mut Vec<usize>,
+        mention: &'a Mention,
+    ) -> Result<Vec<GatheredComponent<'a>>, OutOfMemory>
+        ensures gathered { IfOk result (λ all. map gathered_of all.items ≡ included_with (gather_below (files_in self.entry) levels) (uri_in uri.now (mention_of mention.now).namespace) (reverse way.old.items) (grammar_if (files_in self.entry (mention_of mention.now).href))) }
+        ensures way { OnOk result (way.new.items ≡ way.old.items) }
+    {
+        let uri = namespace_uri(&mention.namespace, uri);
+        let mut all = Vec::new(self.alloc);
+        let Some(components) = grammar_of(self.trees, mention.href.as_str()) else {
+            return Ok(all);
+        };
+        if levels == 0 {
+            return Ok(all);
+        }
+        self.gather_under(levels - 1, uri, way, 0, components, &mut all)?;
+        Ok(all)
+    }
+
+    /// Puts those of the components there that stand in the child with this number.
+    #[cycle(gathering)]
+    fn gather_under(
+        self,
+        levels: u32,
+        uri: &'a str,
+        way: &mut Vec<usize>,
+        number: usize,
+        components: &'a [rnc_grammar::Component],
+        all: &mut Vec<GatheredComponent<'a>>,
+    ) -> Result<(), OutOfMemory>
+        ensures gathered { OnOk result (map gathered_of all.new.items ≡ map gathered_of all.old.items ++ gather_at (files_in self.entry) levels uri.now (number ∷ reverse way.old.items) 0 (components_of (map component_of components.now))) }
+        ensures way { OnOk result (way.new.items ≡ way.old.items) }
+    {
+        way.push(number)?;
+        self.gather_all(levels, uri, way, components, all)?;
+        way.pop();
+        Ok(())
+    }
+
+    /// The component of this name with the grammars that are nested in its pattern.
+    fn gathered(
+        self,
+        levels: u32,
+        uri: &'a str,
+        way: &mut Vec<usize>,
+        name: Option<String>,
+        method: Method,
+        pattern: &'a Pattern,
+    ) -> Result<GatheredComponent<'a>, OutOfMemory>
+        ensures gathered { IfOk result (λ g. gathered_of g ≡ gathered_as (option_map (λ y. string_bytes y) name) method (read_at (files_in self.entry) levels uri.now (reverse way.old.items) (pattern_of pattern.now))) }
+        ensures way { OnOk result (way.new.items ≡ way.old.items) }
+    {
+        let mut grammars = Vec::new(self.alloc);
+        let pattern = self.pattern(levels, uri, way, pattern, &mut grammars)?;
+        let component = Component {
+            name,
+            method,
+            pattern,
+        };
+        Ok(GatheredComponent {
+            component,
+            grammars,
+        })
+    }
+}
+
+/// Puts the included components that are not overridden at the end of `all`, and then the overriding ones.
+///
+/// RELAX NG Specification, section 4.7.
+fn replace<'a>(
+    all: &mut Vec<GatheredComponent<'a>>,
+    mut included: Vec<GatheredComponent<'a>>,
+    mut overriding: Vec<GatheredComponent<'a>>,
+) -> Result<(), OutOfMemory>
+    ensures { OnOk result (map gathered_of all.new.items ≡ map gathered_of all.old.items ++ replaced_by (map gathered_of included.entry.items) (map gathered_of overriding.entry.items)) }
+{
+    included.retain(|component| !is_overridden(&overriding, component));
+    all.append(&mut included)?;
+    all.append(&mut overriding)?;
+    Ok(())
+}
+
+/// Whether one of these has the name of the component, or both are starts.
+fn is_overridden(overriding: &[GatheredComponent<'_>], component: &GatheredComponent<'_>) -> bool
+    ensures { result ≡ is_overridden_by (map gathered_of overriding.now) (gathered_of component.now) }
+{
+    for other in overriding {
+        if same_name(&other.component.name, &component.component.name) {
+            return true;
+        }
+    }
+    false
+}
+
+/// Whether both are the same name, or both are starts, which have none.
+fn same_name(one: &Option<String>, other: &Option<String>) -> bool
+    ensures { result ≡ schema.same_name (option_map (λ y. string_bytes y) one.now) (option_map (λ y. string_bytes y) other.now) }
+{
+    match one {
+        None => other.is_none(),
+        Some(one) => match other {
+            None => false,
+            Some(other) => one.as_str() == other.as_str(),
+        },
+    }
+}

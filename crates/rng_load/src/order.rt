@@ -1,0 +1,89 @@
+// The files of a schema, in load order.
+ghost use Rattle.std.specs.Prelude.{◌≡◌, fold, map, string_bytes, IfOk, IfSome, OnOk};
+ghost use Rattle.std.specs.String.{string_eq};
+ghost use Rattle.indexmap.specs.IndexMap.{insert_entry};
+ghost use Rattle.rnc_grammar.specs.View.{file_of};
+ghost use Rattle.rng_load.specs.FilesView.{names_of, named_files, taken_files_of};
+ghost use Rattle.rng_load.specs.Loading.{hrefs_of, with_name};
+ghost use Rattle.rng_load.specs.LoadingFaults.{IsNamedTree, IsTheReading, reading_of};
+
+use crate::fault::FileFault;
+use crate::mentioned::hrefs;
+use crate::reading::tree_of_file;
+use indexmap::{IndexMap, IndexSet};
+use rnc_grammar::FileTree;
+use rng_model::{OutOfMemory, SchemaFault};
+use std::alloc::Global;
+
+/// The files that the main one reaches, by name in load order, each with its tree.
+///
+/// The load order begins with the main file; then, for each file in load order, come the files that it mentions, in the
+/// order of its tokens, each that is not there yet. `File` names the first file in load order that breaks a clause by
+/// itself, and its least clause, 1 to 8; what comes after it is not looked at. `Clause` is not answered.
+///
+/// Each file is decoded and parsed once, however often it is mentioned.
+pub fn load_in_order(
+    alloc: Global,
+    files: &[(String, Vec<u8>)],
+    main: &str,
+) -> Result<IndexMap<String, FileTree>, SchemaFault>
+    ensures { IfSome (reading_of result) (IsTheReading (named_files files.now) main.now) }
+{
+    let mut names = IndexSet::new(alloc);
+    names.insert(String::from_str(alloc, main)?)?;
+    let mut trees = IndexMap::new(alloc);
+    'files: while let Some(name) = names.get_index(trees.len()) {
+        let name = String::from_str(alloc, name.as_str())?;
+        let tree = named_tree(alloc, files, main, name.as_str())?;
+        note_all(alloc, &mut names, &tree)?;
+        put(&mut trees, name, tree)?;
+    }
+    Ok(trees)
+}
+
+/// The tree of the file of this name; `File` with its name where it breaks a clause by itself.
+fn named_tree(
+    alloc: Global,
+    files: &[(String, Vec<u8>)],
+    main: &str,
+    name: &str,
+) -> Result<FileTree, SchemaFault>
+    ensures { IsNamedTree (named_files files.now) main.now name.now result }
+{
+    match tree_of_file(alloc, files, main, name) {
+        Ok(tree) => Ok(tree),
+        Err(FileFault::Clause(clause)) => Err(SchemaFault::File {
+            clause,
+            name: String::from_str(alloc, name)?,
+        }),
+        Err(FileFault::Memory) => Err(SchemaFault::Memory),
+    }
+}
+
+/// Puts the names that a file mentions at the end of these, each that is not there yet.
+fn note_all(alloc: Global, names: &mut IndexSet<String>, tree: &FileTree) -> Result<(), OutOfMemory>
+    ensures { OnOk result (names_of names.new ≡ fold with_name (names_of names.old) (hrefs_of (file_of tree.now))) }
+{
+    let mentioned = hrefs(alloc, tree)?;
+    for name in mentioned.iter() {
+        note(alloc, names, name)?;
+    }
+    Ok(())
+}
+
+fn note(alloc: Global, names: &mut IndexSet<String>, name: &str) -> Result<(), OutOfMemory>
+    ensures { OnOk result (names_of names.new ≡ with_name (names_of names.old) name.now) }
+{
+    if !names.contains(name) {
+        names.insert(String::from_str(alloc, name)?)?;
+    }
+    Ok(())
+}
+
+/// Puts a value under this name, in the place of the one that is there.
+fn put<V: Drop>(map: &mut IndexMap<String, V>, name: String, value: V) -> Result<(), OutOfMemory>
+    ensures { OnOk result (map.new.entries ≡ insert_entry string_eq map.old.entries name value) }
+{
+    map.insert(name, value)?;
+    Ok(())
+}

@@ -1,0 +1,83 @@
+// From the files that are handed in to the tree of one of them.
+ghost use Rattle.std.specs.Prelude.{◌↔◌, ◌⊎◌, IfSome, IsTrue, MatchOption};
+ghost use Rattle.rng_load.specs.FileFaults.{verdict_of};
+ghost use Rattle.rng_load.specs.FilesView.{named_files};
+ghost use Rattle.rng_load.specs.SchemaFile.{
+  IsHandedIn,
+  IsHandedInTwice,
+  IsMissing,
+  IsTheContentVerdict,
+  IsTheFileVerdict,
+  BreaksLimit,
+};
+
+use crate::fault::FileFault;
+use rnc_grammar::{FileTree, parse};
+use rnc_text::{read_text, tokens};
+use std::alloc::Global;
+
+/// How many bytes a file may have.
+const SIZE_LIMIT: usize = 1_048_576;
+
+/// How many files may be handed in.
+const FILE_LIMIT: usize = 64;
+
+/// The tree of the file of this name, among these files, of which the main one has the other name.
+///
+/// `Clause` names the least clause that the file breaks: 1 where it is not handed in, or more than once; 2 where it is
+/// the main one and more than 64 files are handed in, or it has more than 1,048,576 bytes, and then none of them is
+/// looked at; 3 where they are not UTF-8, 4 where a character is none of XML's or an escape is bad, 5 where neither a
+/// blank, a comment nor a token begins, 7 where up to some token the opening brackets exceed the closing ones by more
+/// than 128, 6 where 7 is not broken and the tokens are no sentence of the grammar, 8 where a declaration or a prefix
+/// breaks a rule.
+pub fn tree_of_file(
+    alloc: Global,
+    files: &[(String, Vec<u8>)],
+    main: &str,
+    name: &str,
+) -> Result<FileTree, FileFault>
+    ensures { IfSome (verdict_of result) (IsTheFileVerdict (named_files files.now) main.now name.now) }
+{
+    let Some(bytes) = bytes_of(files, name) else {
+        return Err(FileFault::Clause(1));
+    };
+    if is_too_large(files, main, name, bytes) {
+        return Err(FileFault::Clause(2));
+    }
+    tree_of_content(alloc, bytes)
+}
+
+/// Whether the file of this name is the main one and too many files are handed in, or has too many bytes.
+fn is_too_large(files: &[(String, Vec<u8>)], main: &str, name: &str, bytes: &[u8]) -> bool
+    ensures { IsTrue result ↔ BreaksLimit (named_files files.now) main.now name.now bytes.now }
+{
+    let has_too_many_files = name == main && files.len() > FILE_LIMIT;
+    has_too_many_files || bytes.len() > SIZE_LIMIT
+}
+
+/// The bytes of the one file of this name; `None` where none is handed in, or more than one.
+fn bytes_of<'a>(files: &'a [(String, Vec<u8>)], name: &str) -> Option<&'a [u8]>
+    ensures { MatchOption result
+        (IsMissing (named_files files.now) name.now ⊎ IsHandedInTwice (named_files files.now) name.now)
+        (λ bytes. IsHandedIn (named_files files.now) name.now bytes.now) }
+{
+    let mut found = None;
+    for (other, bytes) in files {
+        if other.as_str() == name {
+            if found.is_some() {
+                return None;
+            }
+            found = Some(bytes.as_slice());
+        }
+    }
+    found
+}
+
+/// The tree of bytes of any number.
+fn tree_of_content(alloc: Global, bytes: &[u8]) -> Result<FileTree, FileFault>
+    ensures { IfSome (verdict_of result) (IsTheContentVerdict bytes.now) }
+{
+    let text = read_text(alloc, bytes)?;
+    let tokens = tokens(alloc, &text)?;
+    Ok(parse(alloc, &tokens)?)
+}

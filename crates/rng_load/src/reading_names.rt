@@ -1,0 +1,84 @@
+// Names of a file tree, with the namespace that their file inherits.
+ghost use Rattle.std.specs.Prelude.{◌≡◌, IfOk, map};
+ghost use Rattle.rng_model.specs.View.{class_of, name_of};
+ghost use Rattle.rnc_grammar.specs.FileTree.{classes_of};
+ghost use Rattle.rnc_grammar.specs.View as file;
+ghost use Rattle.rng_load.specs.Places.{class_in, classes_in, name_in, uri_in};
+
+use rnc_grammar::{ExpandedName, Namespace};
+use rng_model::{Name, NameClass, OutOfMemory};
+use std::alloc::Global;
+
+/// The uri of a namespace, in a file that inherits this one. Takes no memory.
+///
+/// RELAX NG Specification, sections 4.6, 4.7 and 4.9.
+pub(crate) fn namespace_uri<'a>(namespace: &'a Namespace, inherited: &'a str) -> &'a str
+    ensures { result.now ≡ uri_in inherited.now (file.namespace_of namespace.now) }
+{
+    match namespace {
+        Namespace::Inherited => inherited,
+        Namespace::Given(uri) => uri.as_str(),
+    }
+}
+
+/// The name, in a file that inherits this namespace.
+///
+/// RELAX NG Specification, section 4.9.
+fn expanded_name(alloc: Global, name: &ExpandedName, inherited: &str) -> Result<Name, OutOfMemory>
+    ensures { IfOk result (λ n. name_of n ≡ name_in inherited.now (file.name_of name.now)) }
+{
+    let ns = String::from_str(alloc, namespace_uri(&name.namespace, inherited))?;
+    let local = String::from_str(alloc, name.local.as_str())?;
+    Ok(Name { ns, local })
+}
+
+/// The name class, in a file that inherits this namespace.
+///
+/// RELAX NG Specification, section 4.9.
+#[cycle(name_classes)]
+pub(crate) fn name_class(
+    alloc: Global,
+    class: &rnc_grammar::NameClass,
+    inherited: &str,
+) -> Result<NameClass, OutOfMemory>
+    ensures { IfOk result (λ c. class_of c ≡ class_in inherited.now (file.class_of class.now)) }
+{
+    match class {
+        rnc_grammar::NameClass::Any => Ok(NameClass::Any),
+        rnc_grammar::NameClass::AnyExcept(except) => {
+            let except = name_class(alloc, except, inherited)?;
+            Ok(NameClass::AnyExcept(Box::new(alloc, except)?))
+        }
+        rnc_grammar::NameClass::Ns(namespace) => Ok(NameClass::Ns(String::from_str(
+            alloc,
+            namespace_uri(namespace, inherited),
+        )?)),
+        rnc_grammar::NameClass::NsExcept(namespace, except) => {
+            let ns = String::from_str(alloc, namespace_uri(namespace, inherited))?;
+            let except = name_class(alloc, except, inherited)?;
+            Ok(NameClass::NsExcept(ns, Box::new(alloc, except)?))
+        }
+        rnc_grammar::NameClass::Name(name) => {
+            Ok(NameClass::Name(expanded_name(alloc, name, inherited)?))
+        }
+        rnc_grammar::NameClass::Choice(all) => {
+            Ok(NameClass::Choice(name_classes(alloc, all, inherited)?))
+        }
+    }
+}
+
+/// Those of the classes, in order.
+#[cycle(name_classes)]
+fn name_classes(
+    alloc: Global,
+    all: &[rnc_grammar::NameClass],
+    inherited: &str,
+) -> Result<Vec<NameClass>, OutOfMemory>
+    ensures { IfOk result (λ classes. map class_of classes.items ≡ classes_in inherited.now (classes_of (map file.class_of all.now))) }
+{
+    let mut classes = Vec::new(alloc);
+    for class in all {
+        classes.push(name_class(alloc, class, inherited)?)?;
+    }
+    Ok(classes)
+}

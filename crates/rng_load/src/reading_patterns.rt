@@ -1,0 +1,298 @@
+// From the patterns of files to those of a schema.
+ghost use Rattle.std.specs.Prelude.{◌≡◌, ◌∷◌, ◌++◌, IfOk, OnOk, map, option_map, reverse, string_bytes};
+ghost use Rattle.rng_model.specs.Patterns as schema;
+ghost use Rattle.rng_model.specs.SchemaView.{schema_pattern_of};
+ghost use Rattle.rng_model.specs.Types.{datatype_of, parameter_of};
+ghost use Rattle.rnc_grammar.specs.FileTree.{components_of, patterns_of};
+ghost use Rattle.rnc_grammar.specs.View.{component_of, file_of, mention_of, pattern_of, type_of};
+ghost use Rattle.rng_load.specs.Places.{datatype_in, uri_in};
+ghost use Rattle.rng_load.specs.PlainReading.{external_with, nested_here, read_all_at, read_at, read_below};
+ghost use Rattle.rng_load.specs.ReadPatterns.{files_in, nested_of};
+
+use crate::reading_names::{name_class, namespace_uri};
+use indexmap::IndexMap;
+use rnc_grammar::{Component, DatatypeName, FileTree, Mention, Pattern};
+use rng_model::{Datatype, OutOfMemory, Place, SchemaPattern};
+use std::alloc::Global;
+
+/// A grammar that is nested in another: where it stands, the namespace that its file inherits, and its components.
+///
+/// RELAX NG Specification, sections 4.6 and 4.18.
+#[derive(Drop)]
+pub(crate) struct NestedGrammar<'a> {
+    pub place: Place,
+    pub uri: &'a str,
+    pub components: &'a [Component],
+}
+
+/// What the reading of patterns stands on: the trees of the files, by name.
+#[derive(Clone, Copy)]
+pub(crate) struct TreeReader<'a> {
+    pub alloc: Global,
+    pub trees: &'a IndexMap<String, FileTree>,
+}
+
+impl<'a> TreeReader<'a> {
+    /// The pattern of the schema that a pattern of a file is, with mentions followed for so many levels. `uri` is the namespace that its
+    /// file inherits, and `way` leads to it, the outermost number first. The grammars that are nested in it are put at the end of `grammars`.
+    ///
+    /// Where a mentioned file is not there, or no level is left, nothing is allowed.
+    ///
+    /// RELAX NG Specification, sections 4.6, 4.9 and 4.18.
+    #[cycle(reading)]
+    #[tactic(auto, unfolding(crate::specs::PlainReading::read_with))]
+    pub(crate) fn pattern(
+        self,
+        levels: u32,
+        uri: &'a str,
+        way: &mut Vec<usize>,
+        pattern: &'a Pattern,
+        grammars: &mut Vec<NestedGrammar<'a>>,
+    ) -> Result<SchemaPattern, OutOfMemory>
+        ensures pattern { IfOk result (λ p. schema_pattern_of p ≡ (read_at (files_in self.entry) levels uri.now (reverse way.old.items) (pattern_of pattern.now)).0) }
+        ensures nested { OnOk result (map nested_of grammars.new.items ≡ map nested_of grammars.old.items ++ (read_at (files_in self.entry) levels uri.now (reverse way.old.items) (pattern_of pattern.now)).1) }
+        ensures way { OnOk result (way.new.items ≡ way.old.items) }
+    {
+        match pattern {
+            Pattern::Element(class, body) => {
+                let class = name_class(self.alloc, class, uri)?;
+                Ok(SchemaPattern::Element(class, self.body(levels, uri, way, body, grammars)?))
+            }
+            Pattern::Attribute(class, body) => {
+                let class = name_class(self.alloc, class, uri)?;
+                Ok(SchemaPattern::Attribute(class, self.body(levels, uri, way, body, grammars)?))
+            }
+            Pattern::List(body) => Ok(SchemaPattern::List(self.body(
+                levels, uri, way, body, grammars,
+            )?)),
+            Pattern::Mixed(body) => Ok(SchemaPattern::Mixed(self.body(
+                levels, uri, way, body, grammars,
+            )?)),
+            Pattern::Optional(body) => Ok(SchemaPattern::Optional(self.body(
+                levels, uri, way, body, grammars,
+            )?)),
+            Pattern::ZeroOrMore(body) => Ok(SchemaPattern::ZeroOrMore(self.body(
+                levels, uri, way, body, grammars,
+            )?)),
+            Pattern::OneOrMore(body) => Ok(SchemaPattern::OneOrMore(self.body(
+                levels, uri, way, body, grammars,
+            )?)),
+            Pattern::Ref(name) => Ok(SchemaPattern::Ref(String::from_str(
+                self.alloc,
+                name.as_str(),
+            )?)),
+            Pattern::ParentRef(name) => Ok(SchemaPattern::ParentRef(String::from_str(
+                self.alloc,
+                name.as_str(),
+            )?)),
+            Pattern::Empty => Ok(SchemaPattern::Empty),
+            Pattern::Text => Ok(SchemaPattern::Text),
+            Pattern::NotAllowed => Ok(SchemaPattern::NotAllowed),
+            Pattern::Value { type_name, text } => value(self.alloc, type_name, text.as_str()),
+            Pattern::Data {
+                type_name,
+                parameters,
+                except,
+            } => {
+                let datatype = datatype(self.alloc, type_name, parameters)?;
+                match except {
+                    None => Ok(SchemaPattern::Data {
+                        datatype,
+                        except: None,
+                    }),
+                    Some(except) => {
+                        let except = self.body(levels, uri, way, except, grammars)?;
+                        Ok(SchemaPattern::Data {
+                            datatype,
+                            except: Some(except),
+                        })
+                    }
+                }
+            }
+            Pattern::External(mention) => self.external(levels, uri, way, mention, grammars),
+            Pattern::Grammar(components) => {
+                grammar(self.alloc, uri, way.as_slice(), components, grammars)
+            }
+            Pattern::Group(members) => Ok(SchemaPattern::Group(self.members(
+                levels, uri, way, members, grammars,
+            )?)),
+            Pattern::Interleave(members) => Ok(SchemaPattern::Interleave(self.members(
+                levels, uri, way, members, grammars,
+            )?)),
+            Pattern::Choice(members) => Ok(SchemaPattern::Choice(self.members(
+                levels, uri, way, members, grammars,
+            )?)),
+        }
+    }
+
+    /// The child with this number.
+    #[cycle(reading)]
+    fn child(
+        self,
+        levels: u32,
+        uri: &'a str,
+        way: &mut Vec<usize>,
+        number: usize,
+        pattern: &'a Pattern,
+        grammars: &mut Vec<NestedGrammar<'a>>,
+    ) -> Result<SchemaPattern, OutOfMemory>
+        ensures pattern { IfOk result (λ p. schema_pattern_of p ≡ (read_at (files_in self.entry) levels uri.now (number ∷ reverse way.old.items) (pattern_of pattern.now)).0) }
+        ensures nested { OnOk result (map nested_of grammars.new.items ≡ map nested_of grammars.old.items ++ (read_at (files_in self.entry) levels uri.now (number ∷ reverse way.old.items) (pattern_of pattern.now)).1) }
+        ensures way { OnOk result (way.new.items ≡ way.old.items) }
+    {
+        way.push(number)?;
+        let read = self.pattern(levels, uri, way, pattern, grammars)?;
+        way.pop();
+        Ok(read)
+    }
+
+    /// The only child.
+    #[cycle(reading)]
+    fn body(
+        self,
+        levels: u32,
+        uri: &'a str,
+        way: &mut Vec<usize>,
+        pattern: &'a Pattern,
+        grammars: &mut Vec<NestedGrammar<'a>>,
+    ) -> Result<Box<SchemaPattern>, OutOfMemory>
+        ensures pattern { IfOk result (λ p. schema_pattern_of p.value ≡ (read_at (files_in self.entry) levels uri.now (0 ∷ reverse way.old.items) (pattern_of pattern.now)).0) }
+        ensures nested { OnOk result (map nested_of grammars.new.items ≡ map nested_of grammars.old.items ++ (read_at (files_in self.entry) levels uri.now (0 ∷ reverse way.old.items) (pattern_of pattern.now)).1) }
+        ensures way { OnOk result (way.new.items ≡ way.old.items) }
+    {
+        let read = self.child(levels, uri, way, 0, pattern, grammars)?;
+        Ok(Box::new(self.alloc, read)?)
+    }
+
+    /// The children, in order.
+    #[cycle(reading)]
+    fn members(
+        self,
+        levels: u32,
+        uri: &'a str,
+        way: &mut Vec<usize>,
+        patterns: &'a [Pattern],
+        grammars: &mut Vec<NestedGrammar<'a>>,
+    ) -> Result<Vec<SchemaPattern>, OutOfMemory>
+        ensures patterns { IfOk result (λ ps. map schema_pattern_of ps.items ≡ (read_all_at (files_in self.entry) levels uri.now (reverse way.old.items) 0 (patterns_of (map pattern_of patterns.now))).0) }
+        ensures nested { OnOk result (map nested_of grammars.new.items ≡ map nested_of grammars.old.items ++ (read_all_at (files_in self.entry) levels uri.now (reverse way.old.items) 0 (patterns_of (map pattern_of patterns.now))).1) }
+        ensures way { OnOk result (way.new.items ≡ way.old.items) }
+    {
+        let mut members = Vec::new(self.alloc);
+        for (number, pattern) in patterns.iter().enumerate() {
+            members.push(self.child(levels, uri, way, number, pattern, grammars)?)?;
+        }
+        Ok(members)
+    }
+
+    /// The pattern of a file that is mentioned; of a grammar a nested one.
+    ///
+    /// RELAX NG Specification, section 4.6.
+    #[cycle(reading)]
+    #[tactic(auto, unfolding(crate::specs::PlainReading::external_with, crate::specs::PlainReading::read_below))]
+    fn external(
+        self,
+        levels: u32,
+        uri: &'a str,
+        way: &mut Vec<usize>,
+        mention: &'a Mention,
+        grammars: &mut Vec<NestedGrammar<'a>>,
+    ) -> Result<SchemaPattern, OutOfMemory>
+        ensures pattern { IfOk result (λ p. schema_pattern_of p ≡ (external_with (read_below (files_in self.entry) levels) (uri_in uri.now (mention_of mention.now).namespace) (reverse way.old.items) (files_in self.entry (mention_of mention.now).href)).0) }
+        ensures nested { OnOk result (map nested_of grammars.new.items ≡ map nested_of grammars.old.items ++ (external_with (read_below (files_in self.entry) levels) (uri_in uri.now (mention_of mention.now).namespace) (reverse way.old.items) (files_in self.entry (mention_of mention.now).href)).1) }
+        ensures way { OnOk result (way.new.items ≡ way.old.items) }
+    {
+        let uri = namespace_uri(&mention.namespace, uri);
+        let Some(tree) = self.tree(mention.href.as_str()) else {
+            return Ok(SchemaPattern::NotAllowed);
+        };
+        match tree {
+            FileTree::Grammar(components) => {
+                let nested = grammar(self.alloc, uri, way.as_slice(), components, grammars)?;
+                Ok(SchemaPattern::External(Box::new(self.alloc, nested)?))
+            }
+            FileTree::Pattern(pattern) => {
+                if levels == 0 {
+                    let nothing = Box::new(self.alloc, SchemaPattern::NotAllowed)?;
+                    return Ok(SchemaPattern::External(nothing));
+                }
+                let body = self.body(levels - 1, uri, way, pattern, grammars)?;
+                Ok(SchemaPattern::External(body))
+            }
+        }
+    }
+
+    /// The tree of the file of this name.
+    fn tree(self, name: &str) -> Option<&'a FileTree>
+        ensures { option_map (λ t. file_of t.now) result ≡ files_in self.entry name.now }
+    {
+        self.trees.get(name)
+    }
+}
+
+/// The pattern that stands for a nested grammar, which is put at the end of `grammars`.
+///
+/// RELAX NG Specification, section 4.18.
+fn grammar<'a>(
+    alloc: Global,
+    uri: &'a str,
+    way: &[usize],
+    components: &'a [Component],
+    grammars: &mut Vec<NestedGrammar<'a>>,
+) -> Result<SchemaPattern, OutOfMemory>
+    ensures pattern { IfOk result (λ p. schema_pattern_of p ≡ schema.grammar (reverse way.now)) }
+    ensures nested { OnOk result (map nested_of grammars.new.items ≡ map nested_of grammars.old.items ++ nested_here (reverse way.now) uri.now (components_of (map component_of components.now))) }
+{
+    grammars.push(NestedGrammar {
+        place: Place::from_outermost(alloc, way)?,
+        uri,
+        components,
+    })?;
+    Ok(SchemaPattern::Grammar(Place::from_outermost(alloc, way)?))
+}
+
+/// A text of a datatype.
+fn value(alloc: Global, type_name: &DatatypeName, text: &str) -> Result<SchemaPattern, OutOfMemory>
+    ensures { IfOk result (λ p. schema_pattern_of p ≡ schema.value (type_of type_name.now).library (type_of type_name.now).name text.now) }
+{
+    let library = String::from_str(alloc, type_name.library.as_str())?;
+    let name = String::from_str(alloc, type_name.name.as_str())?;
+    let text = String::from_str(alloc, text)?;
+    Ok(SchemaPattern::Value {
+        library,
+        name,
+        text,
+    })
+}
+
+/// A datatype with its parameters.
+fn datatype(
+    alloc: Global,
+    type_name: &DatatypeName,
+    parameters: &[(String, String)],
+) -> Result<Datatype, OutOfMemory>
+    ensures { IfOk result (λ d. datatype_of d ≡ datatype_in (type_of type_name.now) (map (λ p. (string_bytes p.0, string_bytes p.1)) parameters.now)) }
+{
+    let library = String::from_str(alloc, type_name.library.as_str())?;
+    let name = String::from_str(alloc, type_name.name.as_str())?;
+    Ok(Datatype {
+        library,
+        name,
+        parameters: copied(alloc, parameters)?,
+    })
+}
+
+/// The same parameters.
+fn copied(
+    alloc: Global,
+    parameters: &[(String, String)],
+) -> Result<Vec<(String, String)>, OutOfMemory>
+    ensures { IfOk result (λ ps. map parameter_of ps.items ≡ map parameter_of parameters.now) }
+{
+    let mut all = Vec::new(alloc);
+    for (name, value) in parameters {
+        let name = String::from_str(alloc, name.as_str())?;
+        all.push((name, String::from_str(alloc, value.as_str())?))?;
+    }
+    Ok(all)
+}

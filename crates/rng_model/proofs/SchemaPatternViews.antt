@@ -1,0 +1,36 @@
+-- Patterns of a schema as they are seen: lists of members, and datatypes.
+use Rattle.std.proofs.Common.{◌≡◌, ap, ◌∙◌, [], ◌∷◌, map, rules, Vec, Global, Some, None, Box}
+use Rattle.rng_model.specs.declared.datatype.Datatype.{Datatype}
+use Rattle.rng_model.specs.declared.schema_pattern.SchemaPattern.{SchemaPattern, the_lemmas}
+use Rattle.rng_model.specs.declared.schema_pattern.SchemaPattern.TheVariants as patterns
+use Rattle.rng_model.specs.Tree.{group, choice, interleave}
+use Rattle.rng_model.specs.Types.{datatype_of}
+use Rattle.rng_model.specs.Patterns as pattern
+use Rattle.rng_model.specs.Patterns.{members}
+use Rattle.rng_model.specs.SchemaView.{schema_pattern_of}
+
+pub group_of : (all : Vec SchemaPattern Global) → schema_pattern_of (patterns.Group all) ≡ members group (map schema_pattern_of all.items)
+group_of all = search (rules, the_lemmas)
+
+pub interleave_of : (all : Vec SchemaPattern Global) → schema_pattern_of (patterns.Interleave all) ≡ members interleave (map schema_pattern_of all.items)
+interleave_of all = search (rules, the_lemmas)
+
+pub choice_of : (all : Vec SchemaPattern Global) → schema_pattern_of (patterns.Choice all) ≡ members choice (map schema_pattern_of all.items)
+choice_of all = search (rules, the_lemmas)
+
+pub plain_data : (d : Datatype) → schema_pattern_of (patterns.Data d None) ≡ pattern.data_of (datatype_of d)
+plain_data d = search (rules, the_lemmas)
+
+pub data_except : (d : Datatype) (b : Box SchemaPattern Global) →
+    schema_pattern_of (patterns.Data d (Some b)) ≡ pattern.data_except (datatype_of d) (schema_pattern_of b.value)
+data_except d b = search (rules, the_lemmas)
+
+-- a list of one member is that member, and one of none changes nothing beside others
+group_of_one : (all : Vec SchemaPattern Global) (p : SchemaPattern) → all.items ≡ p ∷ [] → schema_pattern_of (patterns.Group all) ≡ schema_pattern_of p
+group_of_one all p e = group_of all ∙ ap (λ ps. members group (map schema_pattern_of ps)) e
+
+choice_of_none : (all : Vec SchemaPattern Global) → all.items ≡ [] → schema_pattern_of (patterns.Choice all) ≡ pattern.not_allowed
+choice_of_none all e = choice_of all ∙ ap (λ ps. members choice (map schema_pattern_of ps)) e
+
+interleave_of_none : (all : Vec SchemaPattern Global) → all.items ≡ [] → schema_pattern_of (patterns.Interleave all) ≡ pattern.empty
+interleave_of_none all e = interleave_of all ∙ ap (λ ps. members interleave (map schema_pattern_of ps)) e

@@ -1,0 +1,14 @@
+// Components of the grammars of a schema.
+use crate::method::Method;
+use crate::schema_pattern::SchemaPattern;
+
+/// A part of a grammar that defines a name, or its start, which has none.
+///
+/// RELAX NG Specification, sections 3 (`grammarContent`) and 4.17 and 4.18.
+#[derive(Drop)]
+pub struct Component {
+    /// `None` for the start.
+    pub name: Option<String>,
+    pub method: Method,
+    pub pattern: SchemaPattern,
+}

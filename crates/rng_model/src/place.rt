@@ -1,0 +1,44 @@
+// The way to a grammar.
+ghost use Rattle.std.specs.Prelude.{◌≡◌, ◌∷◌, [], reverse, IfOk};
+ghost use Rattle.rng_model.specs.SchemaView.{place_of};
+
+use crate::fault::OutOfMemory;
+use std::alloc::Global;
+
+/// Where a grammar stands in a schema: the way to it from the main grammar, as the number of the child at each level.
+///
+/// RELAX NG Specification, sections 4.6, 4.7 and 4.18: a grammar may be nested in another, and stand in another file.
+#[derive(Drop, PartialEq, Eq, Hash)]
+pub struct Place {
+    /// The outermost first.
+    numbers: Vec<usize>,
+}
+
+impl Place {
+    /// The place of the main grammar. Takes no memory.
+    pub fn new(alloc: Global) -> Place
+        ensures { place_of result ≡ [] }
+    {
+        Place {
+            numbers: Vec::new(alloc),
+        }
+    }
+
+    /// The place to which these numbers lead, the outermost first.
+    pub fn from_outermost(alloc: Global, numbers: &[usize]) -> Result<Place, OutOfMemory>
+        ensures { IfOk result (λ p. place_of p ≡ reverse numbers.now) }
+    {
+        Ok(Place {
+            numbers: Vec::from_slice(alloc, numbers)?,
+        })
+    }
+
+    /// The place of the child with this number.
+    pub fn child(&self, alloc: Global, number: usize) -> Result<Place, OutOfMemory>
+        ensures { IfOk result (λ p. place_of p ≡ number ∷ place_of self.now) }
+    {
+        let mut numbers = Vec::from_slice(alloc, self.numbers.as_slice())?;
+        numbers.push(number)?;
+        Ok(Place { numbers })
+    }
+}

@@ -1,0 +1,50 @@
+// Patterns as they are written in a schema of any number of grammars.
+use crate::datatype::Datatype;
+use crate::name::NameClass;
+use crate::place::Place;
+
+/// A pattern as it is written in a schema of any number of grammars, with its members in their order and mentions of
+/// files followed.
+///
+/// RELAX NG Specification, section 3, and sections 4.6, 4.7 and 4.18 for other files and nested grammars. A choice of no
+/// members stands for `NotAllowed`, a group or an interleave of none for `Empty`; one of one member stands for that member.
+#[derive(Drop)]
+pub enum SchemaPattern {
+    /// What matches nothing.
+    NotAllowed,
+    Empty,
+    Text,
+    Element(NameClass, Box<SchemaPattern>),
+    Attribute(NameClass, Box<SchemaPattern>),
+    List(Box<SchemaPattern>),
+    /// A datatype, and what it excepts.
+    Data {
+        datatype: Datatype,
+        except: Option<Box<SchemaPattern>>,
+    },
+    /// A text of a datatype: the uri of its library, empty for the one built in, and its name there.
+    Value {
+        library: String,
+        name: String,
+        text: String,
+    },
+    Mixed(Box<SchemaPattern>),
+    /// `p?`
+    Optional(Box<SchemaPattern>),
+    /// `p*`
+    ZeroOrMore(Box<SchemaPattern>),
+    /// `p+`
+    OneOrMore(Box<SchemaPattern>),
+    /// Members joined by `,`.
+    Group(Vec<SchemaPattern>),
+    /// Members joined by `&`.
+    Interleave(Vec<SchemaPattern>),
+    /// Members joined by `|`.
+    Choice(Vec<SchemaPattern>),
+    Ref(String),
+    ParentRef(String),
+    /// A nested grammar, at its place.
+    Grammar(Place),
+    /// The pattern of another file, which is a nested grammar where the file is a grammar.
+    External(Box<SchemaPattern>),
+}
