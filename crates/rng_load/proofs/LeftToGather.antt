@@ -6,8 +6,11 @@ use Rattle.rng_load.specs.FilesView.{taken_files_of}
 use Rattle.rng_load.specs.Loading.{grammar_if}
 use Rattle.rng_load.specs.ReadPatterns.{files_in}
 use Rattle.rng_load.specs.declared.reading_patterns.TreeReader.{TreeReader}
-use Rattle.rng_load.proofs.LeftToRead.{below_four, left_in}
+use Rattle.rng_load.proofs.LeftToRead.{left_in}
 use Rattle.rng_load.proofs.TreeSizes.{size_of_all, size_of_component, size_of_components, falls_inside, falls_at_mention, grammar_of_file_fits}
+
+below_four : (a b : ℕ) → a < b → 4 * a + 2 < 4 * b
+below_four a b l = omega arith
 
 -- it falls to the components of a file, a level further down
 pub falls_to_grammar : (r : TreeReader) (levels : ℕ) (f : List ℕ) (cs : tree.Components) (k : ℕ) → 0 < levels

@@ -11,7 +11,7 @@ use Rattle.rng_load.proofs.TreeSizes.{left_to_read, size, size_of_all, size_of_p
 abbrev pub left_in : TreeReader → ℕ → ℕ → ℕ
 left_in r levels n = left_to_read (size_of_all (taken_files_of r.trees.now)) levels n
 
-pub below_four : (a b : ℕ) → a < b → 4 * a + 2 < 4 * b
+below_four : (a b : ℕ) → a < b → 4 * a + 2 < 4 * b
 below_four a b l = omega arith
 
 -- it falls to the pattern of a file, a level further down

@@ -32,13 +32,13 @@ module _ {files : List ℕ → Option FileTree} {levels : ℕ} {u : List ℕ} {x
       → AreRead files levels u x all before (i + 1) (map view (drop (i + 1) es)) more others
   goes_on view es i e read more found others inside is r grown put =
       let next : drop i es ≡ e ∷ drop (i + 1) es = drop_more es i e inside ∙ ap (λ y. y ∷ drop (i + 1) es) (sym is) in
-      rw (grown, put) (one_more i (view e) (map view (drop (i + 1) es)) read found (rw next at r))
+      rw (grown, put) (one_more i (view e) (map view (drop (i + 1) es)) read found
+      (rw next at r))
 
   pub all_patterns : {E : Type 0} (view : E → tree.Pattern) (es : List E) (i : ℕ) (read : List Pattern) (found : List Nested) → length es ≤ i
       → AreRead files levels u x all before i (map view (drop i es)) read found → read ≡ (read_all_at files levels u x 0 (patterns_of all)).0
   unfolding read_all_with
-  all_patterns view es i read found end r = sym (r.patterns
-      ∙ ap (λ es. read ++ (read_all_at files levels u x i (patterns_of (map view es))).0) (drop_all i es end)
+  all_patterns view es i read found end r = sym (r.patterns ∙ ap (λ es. read ++ (read_all_at files levels u x i (patterns_of (map view es))).0) (drop_all i es end)
       ∙ append-nil read)
 
   pub all_nested : {E : Type 0} (view : E → tree.Pattern) (es : List E) (i : ℕ) (read : List Pattern) (found : List Nested) → length es ≤ i
