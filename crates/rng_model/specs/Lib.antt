@@ -14,6 +14,7 @@ pub mod PyxFaults
 pub mod PyxLines
 pub mod PyxNamespaces
 pub mod PyxTrees
+pub mod EventView
 pub mod PyxClauses
 pub mod PyxHeld
 pub mod Texts

@@ -1,0 +1,108 @@
+-- What the cuts of a text are.
+use Rattle.std.proofs.Common.{◌≡◌, ℕ, ◌<◌, ◌+◌, List, [], ◌∷◌, length, drop, Option, Some, None, Err, refl, cond, eqb, ap, sym, arith, rules, suc, one-add}
+use Rattle.std.proofs.Common.{Bool, true, false, add-one}
+use Rattle.std.specs.Prelude.{◌≢◌, MatchOption}
+use Rattle.std.specs.List.{position_or_len, before_first, after_first}
+use Rattle.std.proofs.lemmas.Bool.{eqb-true}
+use Rattle.std.proofs.lemmas.Str.Pattern.{strip_prefix_char, split_once_first, IsSplitOnceResult}
+use Rattle.std.specs.Option.{option_map}
+use Rattle.std.specs.Str.Pattern.{FindsCharPrefix}
+use Rattle.pyx.specs.Cuts.{behind, at_byte, at_front, escape_of, either_way}
+use Rattle.pyx.specs.LineReader.{bytes_of, characters_of}
+use Rattle.std.specs.Str.{IsUtf8, is_utf8}
+use Rattle.std.proofs.lemmas.Str.{is_utf8-from_IsUtf8, IsUtf8-from_is_utf8}
+use denote.Ref.{Bor}
+
+eqb-same : (k : ℕ) → eqb k k ≡ true
+eqb-same k = search rules
+
+behind_here : (k : ℕ) (bs rest : List ℕ) → bs ≡ k ∷ rest → behind k bs ≡ Some rest
+behind_here k bs rest e = rw (e, eqb-same k) refl
+
+behind_not : (k : ℕ) (bs : List ℕ) → ((rest : List ℕ) → bs ≢ k ∷ rest) → behind k bs ≡ None
+behind_not k [] never = refl
+behind_not k (c ∷ cs) never = go (eqb c k) refl where
+  go : (b : Bool) → eqb c k ≡ b → cond b (Some cs) None ≡ None
+  go true e = absurd (never cs (ap (λ x. x ∷ cs) (eqb-true c k e)))
+  go false e = refl
+
+behind_cases : (k : ℕ) (bs : List ℕ) (r : Option (Bor (List ℕ))) → MatchOption r ((rest : List ℕ) → bs ≢ k ∷ rest) (λ x. bs ≡ k ∷ x.now)
+    → option_map (λ x. x.now) r ≡ behind k bs
+behind_cases k bs None h = sym (behind_not k bs h)
+behind_cases k bs (Some x) h = sym (behind_here k bs x.now h)
+
+pub behind_is : (k : ℕ) (bs : List ℕ) (r : Option (Bor (List ℕ))) → MatchOption r (FindsCharPrefix k bs None)
+    (λ x. (n : ℕ) × FindsCharPrefix k bs (Some n) × (x.now ≡ drop n bs) × (length x.now + n ≡ length bs)) → k < 128 → option_map (λ x. x.now) r ≡ behind k bs
+behind_is k bs r h small = behind_cases k bs r (strip_prefix_char k bs r h small)
+
+-- ---- the first of a byte
+
+first_at : (b : Bool) (k c : ℕ) (cs : List ℕ) → eqb c k ≡ b → position_or_len (λ x. eqb x k) (c ∷ cs) ≡ cond b 0 (suc (position_or_len (λ x. eqb x k) cs))
+first_at true k c cs e = rw e refl
+first_at false k c cs e = rw e (one-add _)
+
+at_here : (b : Bool) (k c : ℕ) (cs : List ℕ) → eqb c k ≡ b → at_byte k (c ∷ cs) ≡ cond b (Some ([], cs)) (at_front c (at_byte k cs))
+unfolding at_byte
+at_here b k c cs e = rw e refl
+
+at_nothing : (k : ℕ) → at_byte k [] ≡ None
+unfolding at_byte
+at_nothing k = refl
+
+at_byte_none : (k : ℕ) (bs : List ℕ) → position_or_len (λ x. eqb x k) bs ≡ length bs → at_byte k bs ≡ None
+at_byte_none k [] h = at_nothing k
+at_byte_none k (c ∷ cs) h = go (eqb c k) refl (at_byte_none k cs) where
+  go : (b : Bool) → eqb c k ≡ b → (position_or_len (λ x. eqb x k) cs ≡ length cs → at_byte k cs ≡ None) → at_byte k (c ∷ cs) ≡ None
+  go true e more = absurd (omega (arith, h, first_at true k c cs e))
+  go false e more = let n : position_or_len (λ x. eqb x k) cs ≡ length cs = omega (arith, h, first_at false k c cs e) in
+      rw (at_here false k c cs e, more n) refl
+
+at_byte_some : (k : ℕ) (bs : List ℕ) → position_or_len (λ x. eqb x k) bs < length bs
+    → at_byte k bs ≡ Some (before_first (λ x. eqb x k) bs, after_first (λ x. eqb x k) bs)
+at_byte_some k [] h = absurd (omega arith)
+at_byte_some k (c ∷ cs) h = go (eqb c k) refl (at_byte_some k cs) where
+  go : (b : Bool) → eqb c k ≡ b → (position_or_len (λ x. eqb x k) cs < length cs → at_byte k cs ≡ Some
+      (before_first (λ x. eqb x k) cs, after_first (λ x. eqb x k) cs)) → at_byte k (c ∷ cs) ≡ Some
+      (before_first (λ x. eqb x k) (c ∷ cs), after_first (λ x. eqb x k) (c ∷ cs))
+  go true e more = rw (at_here true k c cs e, first_at true k c cs e) refl
+  go false e more = let n : position_or_len (λ x. eqb x k) cs < length cs = omega (arith, h, first_at false k c cs e) in
+      rw (at_here false k c cs e, more n, first_at false k c cs e, add-one, add-one) refl
+
+at_byte_cases : (k : ℕ) (bs : List ℕ) (r : Option (Bor (List ℕ) × Bor (List ℕ))) → MatchOption r (position_or_len (λ b. eqb b k) bs ≡ length bs)
+    (λ x. (position_or_len (λ b. eqb b k) bs < length bs) × (x.0.now ≡ before_first (λ b. eqb b k) bs) × (x.1.now ≡ after_first (λ b. eqb b k) bs))
+    → option_map (λ x. (x.0.now, x.1.now)) r ≡ at_byte k bs
+at_byte_cases k bs None h = sym (at_byte_none k bs h)
+at_byte_cases k bs (Some x) h = rw (at_byte_some k bs h.0, h.1, h.2) refl
+
+pub at_byte_is : (k : ℕ) (bs : List ℕ) (r : Option (Bor (List ℕ) × Bor (List ℕ))) → IsSplitOnceResult k bs r → k < 128
+    → option_map (λ x. (x.0.now, x.1.now)) r ≡ at_byte k bs
+at_byte_is k bs r h small = at_byte_cases k bs r (split_once_first k bs r h small)
+
+-- an escape, by what stands in front
+abbrev Escape : Type 0
+Escape = Option (ℕ × List ℕ)
+
+escape_choice : (x y z : Bool) (a b c : ℕ × List ℕ) (cs : List ℕ) (f g h : List ℕ → ℕ × List ℕ) → f cs ≡ a → g cs ≡ b → h cs ≡ c →
+    cond {A = Escape} x (Some a) (cond y (Some b) (cond z (Some c) None)) ≡ either_way (cond x (Some cs) None)
+    (either_way (cond y (Some cs) None) (either_way (cond z (Some cs) None) None (λ rest. Some (h rest))) (λ rest. Some (g rest))) (λ rest. Some (f rest))
+escape_choice true y z a b c cs f g h p q r = ap Some (sym p)
+escape_choice false true z a b c cs f g h p q r = ap Some (sym q)
+escape_choice false false true a b c cs f g h p q r = ap Some (sym r)
+escape_choice false false false a b c cs f g h p q r = refl
+
+pub escape_by_front : (bs : List ℕ) → ◌≡◌ {A = Escape} (escape_of bs) (either_way (behind 110 bs)
+    (either_way (behind 116 bs) (either_way (behind 92 bs) None (λ rest. Some (92, rest))) (λ rest. Some (9, rest))) (λ rest. Some (10, rest)))
+escape_by_front [] = refl
+escape_by_front (c ∷ cs) = escape_choice (eqb c 110) (eqb c 116) (eqb c 92) (10, cs) (9, cs) (92, cs) cs (λ rest. (10, rest)) (λ rest. (9, rest))
+    (λ rest. (92, rest)) refl refl refl
+
+pub read_when_utf8 : (bs : List ℕ) → IsUtf8 bs → bytes_of bs ≡ characters_of bs
+unfolding bytes_of
+read_when_utf8 bs u = rw (is_utf8-from_IsUtf8 bs u) refl
+
+pub read_when_not : (bs : List ℕ) → ¬ (IsUtf8 bs) → bytes_of bs ≡ Err 2
+unfolding bytes_of
+read_when_not bs n = go (is_utf8 bs) refl where
+  go : (b : Bool) → is_utf8 bs ≡ b → cond b (characters_of bs) (Err 2) ≡ Err 2
+  go true e = absurd (n (IsUtf8-from_is_utf8 bs e))
+  go false e = refl

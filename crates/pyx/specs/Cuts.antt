@@ -1,0 +1,41 @@
+-- Where a line is cut, from left to right, and what its escapes stand for.
+use Rattle.std.specs.Prelude.{ℕ, ◌==◌, if◌then◌else◌, List, [], ◌∷◌, ◌++◌, Option, Some, None}
+
+-- what stands after this byte in front
+abbrev pub behind : ℕ → List ℕ → Option (List ℕ)
+behind k [] = None
+behind k (c ∷ cs) = if c == k then Some cs else None
+
+abbrev pub either_way : {A B : Type 0} → Option A → B → (A → B) → B
+either_way None b f = b
+either_way (Some a) b f = f a
+
+-- the bytes before the first of this byte, and those after it
+abbrev pub at_front : ℕ → Option (List ℕ × List ℕ) → Option (List ℕ × List ℕ)
+at_front c None = None
+at_front c (Some p) = Some (c ∷ p.0, p.1)
+
+unfoldable pub at_byte : ℕ → List ℕ → Option (List ℕ × List ℕ)
+at_byte k [] = None
+at_byte k (c ∷ cs) = if c == k then Some ([], cs) else at_front c (at_byte k cs)
+
+-- after a backslash: what the escape stands for, and the rest
+abbrev pub escape_of : List ℕ → Option (ℕ × List ℕ)
+escape_of [] = None
+escape_of (c ∷ cs) = if c == 110 then Some (10, cs) else (if c == 116 then Some (9, cs) else (if c == 92 then Some (92, cs) else None))
+
+-- with this in front, where there is something
+abbrev pub in_front : List ℕ → Option (List ℕ) → Option (List ℕ)
+in_front front None = None
+in_front front (Some rest) = Some (front ++ rest)
+
+-- what a text stands for, its escapes replaced
+unfoldable mutual
+  pub unescaped : List ℕ → Option (List ℕ)
+  unescaped [] = Some []
+  unescaped (c ∷ cs) = if c == 92 then escaped cs else in_front (c ∷ []) (unescaped cs)
+
+  pub escaped : List ℕ → Option (List ℕ)
+  escaped [] = None
+  escaped (c ∷ cs) = if c == 110 then in_front (10 ∷ []) (unescaped cs) else (if c == 116 then in_front (9 ∷ []) (unescaped cs)
+      else (if c == 92 then in_front (92 ∷ []) (unescaped cs) else None))

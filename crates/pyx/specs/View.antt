@@ -1,0 +1,129 @@
+-- What the values of the code are, and what a call that may run out of memory answers.
+use Rattle.std.specs.Prelude.{◌≡◌, ℕ, List, [], ◌∷◌, ◌++◌, map, reverse, option_map, Result, Ok, Err, Option, Some, None, string_bytes}
+use Rattle.rng_model.specs.Lines as lines
+use Rattle.rng_model.specs.PyxFaults.{Fault}
+use Rattle.rng_model.specs.PyxLines as pyx
+use Rattle.rng_model.specs.PyxNamespaces.{WrittenAttribute}
+use Rattle.rng_model.specs.PyxTrees.{Event}
+use Rattle.rng_model.specs.View.{name_of, attribute_of}
+use Rattle.pyx.specs.declared.escapes.Unescaped.{Unescaped}
+use Rattle.pyx.specs.declared.escapes.Unescaped.TheVariants as unescaped
+use Rattle.pyx.specs.declared.fault.LineFault.{LineFault}
+use Rattle.pyx.specs.declared.fault.LineFault.TheVariants as faults
+use Rattle.pyx.specs.declared.line.Line.{Line}
+use Rattle.pyx.specs.declared.line.Said.{Said}
+use Rattle.pyx.specs.declared.line.Said.TheVariants as said
+use Rattle.pyx.specs.declared.written.WrittenAttribute as written
+use Rattle.pyx.specs.declared.scope.OpenElement.{OpenElement}
+use Rattle.pyx.specs.declared.scope.Scope.{Scope}
+use Rattle.pyx.specs.LineReader.{written_of}
+use Rattle.pyx.specs.declared.fault.PyxFault.{PyxFault}
+use Rattle.pyx.specs.declared.fault.PyxFault.TheVariants as faults_at
+use Rattle.pyx.specs.declared.pieces.Pieces.{Pieces}
+use Rattle.pyx.specs.declared.scope.Element.{Element}
+use Rattle.pyx.specs.declared.state.State.{State}
+use Rattle.pyx.specs.declared.state.Tag.{Tag}
+use Rattle.pyx.specs.TagReader as tags
+use Rattle.pyx.specs.TagReader.{Declared}
+use Rattle.pyx.specs.DocumentReader as reader
+use Rattle.pyx.specs.DocumentReader.{Open, Turn, declared_in}
+use Rattle.pyx.specs.Pieces.{Progress}
+
+-- what a fault of a line says: nothing, where memory ran out
+abbrev pub clause_of : LineFault → Option ℕ
+clause_of faults.Memory = None
+clause_of (faults.Clause k) = Some k
+
+abbrev pub value_of : Unescaped → List ℕ
+value_of (unescaped.Same text) = text.now
+value_of (unescaped.Replaced text) = string_bytes text
+
+abbrev pub line_of : Line → lines.Line
+line_of l = record { bytes = l.bytes.now; ended = l.ended }
+
+abbrev pub said_view : Said → pyx.Said
+said_view (said.Start name) = pyx.start (written_of name.now)
+said_view (said.Attribute name value) = pyx.attribute (written_of name.now) (value_of value)
+said_view (said.Text value) = pyx.text (value_of value)
+said_view (said.End name) = pyx.end (written_of name.now)
+said_view said.Instruction = pyx.instruction
+
+-- a text that was read, or P5
+abbrev pub value_read : Option (List ℕ) → Result (List ℕ) ℕ
+value_read None = Err 5
+value_read (Some v) = Ok v
+
+abbrev pub written_attribute : written.WrittenAttribute → WrittenAttribute
+written_attribute a = record { name = written_of (string_bytes a.name); content = string_bytes a.value }
+
+abbrev pub open_of : OpenElement → Open
+open_of e = record { name = written_of (string_bytes e.name); declared = map written_attribute e.declarations.items }
+
+-- the open elements, the innermost first
+abbrev pub stack_of : List OpenElement → List Open
+stack_of opened = reverse (map open_of opened)
+
+abbrev pub scope_of : Scope → Declared
+scope_of s = map written_attribute s.declarations.now ∷ declared_in (stack_of s.opened.now)
+
+-- what a name stands for, or P11
+abbrev pub resolved : {A : Type 0} → Option A → Result A ℕ
+resolved None = Err 11
+resolved (Some a) = Ok a
+
+abbrev pub element_of : Element → tags.Element
+element_of e = record { name = name_of e.name; attrs = map attribute_of e.attrs.items }
+
+abbrev pub tag_of : Tag → reader.Tag
+tag_of t = record {
+  name = written_of (string_bytes t.name);
+  declared = map written_attribute t.declarations.items;
+  others = map written_attribute t.others.items;
+  bytes = t.bytes;
+}
+
+abbrev pub state_of : State → reader.State
+state_of s = record {
+  tag = option_map tag_of s.tag;
+  opened = stack_of s.opened.items;
+  joined = string_bytes s.joined;
+  root = s.root;
+  count = s.lines;
+}
+
+-- what a fault says of a document: nothing, where memory ran out
+abbrev pub broken_by : PyxFault → Option Fault
+broken_by faults_at.Memory = None
+broken_by (faults_at.At clause line) = Some (record { clause = clause; line = line })
+
+-- for each list that it stood for, a taker now stands for that list and these events
+abbrev pub Hands : {E : Type 0} → (E → List Event → Type 0) → E → E → List Event → Type 0
+Hands stands old new es = (sent : List Event) → stands old sent → stands new (sent ++ es)
+
+-- What a call answered is what this turn gives, unless memory ran out.
+abbrev pub Takes : {A S : Type 0} → Result A PyxFault → S → (List Event → Type 0) → Turn S → Type 0
+Takes (Ok x) new handed turn = (turn.0 ≡ Ok new) × handed turn.1
+Takes (Err faults_at.Memory) new handed turn = Unit {0}
+Takes (Err (faults_at.At clause line)) new handed turn = (turn.0 ≡ Err (record { clause = clause; line = line })) × handed turn.1
+
+-- The same of a call that hands out nothing.
+abbrev pub Adds : {A S : Type 0} → Result A PyxFault → S → Turn S → Type 0
+Adds result new turn = Takes result new (λ es. es ≡ []) turn
+
+-- What a call answered is this fault, or none, unless memory ran out.
+abbrev pub IsFault : PyxFault → Option Fault → Type 0
+IsFault faults_at.Memory fault = Unit {0}
+IsFault (faults_at.At clause line) fault = fault ≡ Some (record { clause = clause; line = line })
+
+abbrev pub EndsBy : {A : Type 0} → Result A PyxFault → Option Fault → Type 0
+EndsBy (Ok x) fault = fault ≡ None
+EndsBy (Err e) fault = IsFault e fault
+
+abbrev pub progress_of : Pieces → Progress
+progress_of p = record { begun = p.begun.items; state = state_of p.state }
+
+-- What a call that ends a document answered is what this turn gives, unless memory ran out.
+abbrev pub Concludes : {A S : Type 0} → Result A PyxFault → (List Event → Type 0) → Turn S → Type 0
+Concludes (Ok x) handed turn = ((s : _) × (turn.0 ≡ Ok s)) × handed turn.1
+Concludes (Err faults_at.Memory) handed turn = Unit {0}
+Concludes (Err (faults_at.At clause line)) handed turn = (turn.0 ≡ Err (record { clause = clause; line = line })) × handed turn.1

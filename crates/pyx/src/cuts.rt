@@ -1,0 +1,20 @@
+// Where a text is cut.
+ghost use Rattle.std.specs.Prelude.{◌≡◌, ◌<◌};
+ghost use Rattle.std.specs.Option.{option_map};
+ghost use Rattle.pyx.specs.Cuts.{behind, at_byte};
+
+/// What stands after this character in front.
+pub fn behind(kind: char, text: &str) -> Option<&str>
+    requires { kind < 128 }
+    ensures { option_map (λ x. x.now) result ≡ behind kind text.now }
+{
+    text.strip_prefix(kind)
+}
+
+/// What stands before the first of this character, and after it.
+pub fn cut_at(mark: char, text: &str) -> Option<(&str, &str)>
+    requires { mark < 128 }
+    ensures { option_map (λ x. (x.0.now, x.1.now)) result ≡ at_byte mark text.now }
+{
+    text.split_once(mark)
+}

@@ -1,0 +1,15 @@
+//! PYX documents to events, however the bytes are cut.
+#![tactic(auto)]
+
+mod cuts;
+mod escapes;
+mod fault;
+mod line;
+mod pieces;
+mod reader;
+mod scope;
+mod state;
+mod written;
+
+pub use fault::PyxFault;
+pub use reader::Reader;

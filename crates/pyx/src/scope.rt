@@ -1,0 +1,198 @@
+// What names stand for inside the tags that are open.
+ghost use Rattle.std.specs.Prelude.{◌≡◌, ◌<◌, [], ◌∷◌, MatchOption, IfSome, Ok, map, length};
+ghost use Rattle.std.specs.Option.{option_map};
+ghost use Rattle.rng_model.specs.Answers.{Gives};
+ghost use Rattle.rng_model.specs.View.{name_of, attribute_of};
+ghost use Rattle.pyx.specs.LineReader.{written_of};
+ghost use Rattle.pyx.specs.TagReader.{beforehand, namespace_of, element_name, attribute_name, expanded, same_name, is_named_in, is_named_twice, tag_read};
+ghost use Rattle.pyx.specs.View.{clause_of, element_of, resolved, written_attribute, open_of, stack_of, scope_of};
+ghost use Rattle.pyx.specs.DocumentReader.{declared_in};
+
+use crate::cuts::cut_at;
+use crate::fault::LineFault;
+use crate::written::{WrittenAttribute, XML_URI, any_forbidden, found_in, is_written_twice};
+use rng_model::{Attr, Name};
+use std::alloc::Global;
+
+/// An element whose end was not read.
+#[derive(Drop)]
+pub struct OpenElement {
+    /// As it is written.
+    pub name: String,
+    /// The declarations of its tag, in order.
+    pub declarations: Vec<WrittenAttribute>,
+}
+
+/// The declarations of a tag, and the elements that are open around it, the innermost last.
+#[derive(Clone, Copy)]
+pub struct Scope<'a> {
+    pub declarations: &'a [WrittenAttribute],
+    pub opened: &'a [OpenElement],
+}
+
+/// What is declared beforehand: `xml`, and that names without a prefix have no namespace.
+fn beforehand(prefix: Option<&str>) -> Option<&'static str>
+    ensures { option_map (λ x. x.now) result ≡ beforehand (option_map (λ x. x.now) prefix.entry) }
+{
+    match prefix {
+        None => Some(""),
+        Some("xml") => Some(XML_URI),
+        Some(_) => None,
+    }
+}
+
+/// The innermost of the elements, and those around it.
+pub fn innermost(opened: &[OpenElement]) -> Option<(&OpenElement, &[OpenElement])>
+    ensures stack { MatchOption result (stack_of opened.now ≡ []) (λ x. stack_of opened.now ≡ open_of x.0.now ∷ stack_of x.1.now) }
+    ensures shorter { IfSome result (λ x. length x.1.now < length opened.now) }
+{
+    opened.split_last()
+}
+
+/// The namespace of a prefix, or the default one, inside these elements.
+#[tactic(auto, unfolding(crate::specs::TagReader::namespace_of))]
+fn outer_namespace<'a>(opened: &'a [OpenElement], prefix: Option<&str>) -> Option<&'a str>
+    ensures { option_map (λ x. x.now) result ≡ namespace_of (declared_in (stack_of opened.now)) (option_map (λ x. x.now) prefix.entry) }
+{
+    match innermost(opened) {
+        Some((element, outer)) => match found_in(prefix, element.declarations.as_slice()) {
+            Some(uri) => Some(uri),
+            None => outer_namespace(outer, prefix),
+        },
+        None => match beforehand(prefix) {
+            Some(uri) => Some(uri),
+            None => None,
+        },
+    }
+}
+
+/// An expanded name.
+fn expanded_name(alloc: Global, uri: &str, local: &str) -> Result<Name, LineFault>
+    ensures { Gives clause_of name_of result (Ok (record { ns = uri.now; local = local.now })) }
+{
+    Ok(Name {
+        ns: String::from_str(alloc, uri)?,
+        local: String::from_str(alloc, local)?,
+    })
+}
+
+impl<'a> Scope<'a> {
+    /// The namespace of a prefix, or the default one.
+    #[tactic(auto, unfolding(crate::specs::TagReader::namespace_of))]
+    fn namespace(self, prefix: Option<&str>) -> Option<&'a str>
+        ensures { option_map (λ x. x.now) result ≡ namespace_of (scope_of self.entry) (option_map (λ x. x.now) prefix.entry) }
+    {
+        match found_in(prefix, self.declarations) {
+            Some(uri) => Some(uri),
+            None => outer_namespace(self.opened, prefix),
+        }
+    }
+
+    /// The expanded name of an element. A prefix that is not declared breaks P11.
+    #[tactic(auto, unfolding(crate::specs::TagReader::element_name, crate::specs::LineReader::written_of))]
+    pub fn element_name(self, alloc: Global, name: &str) -> Result<Name, LineFault>
+        ensures { Gives clause_of name_of result (resolved (element_name (scope_of self.entry) (written_of name.now))) }
+    {
+        let (prefix, local) = match cut_at(':', name) {
+            Some((prefix, local)) => (Some(prefix), local),
+            None => (None, name),
+        };
+        match self.namespace(prefix) {
+            Some(uri) => expanded_name(alloc, uri, local),
+            None => Err(LineFault::Clause(11)),
+        }
+    }
+
+    /// That of an attribute.
+    #[tactic(auto, unfolding(crate::specs::TagReader::attribute_name, crate::specs::LineReader::written_of))]
+    fn attribute_name(self, alloc: Global, name: &str) -> Result<Name, LineFault>
+        ensures { Gives clause_of name_of result (resolved (attribute_name (scope_of self.entry) (written_of name.now))) }
+    {
+        match cut_at(':', name) {
+            Some((prefix, local)) => match self.namespace(Some(prefix)) {
+                Some(uri) => expanded_name(alloc, uri, local),
+                None => Err(LineFault::Clause(11)),
+            },
+            None => expanded_name(alloc, "", name),
+        }
+    }
+
+    /// The attributes with their expanded names.
+    pub fn attributes(
+        self,
+        alloc: Global,
+        others: Vec<WrittenAttribute>,
+    ) -> Result<Vec<Attr>, LineFault>
+        ensures { Gives clause_of (λ attrs. map attribute_of attrs.items) result (resolved (expanded (scope_of self.entry) (map written_attribute others.items))) }
+    {
+        let mut attrs = Vec::new(alloc);
+        'others: for attribute in others {
+            let name = self.attribute_name(alloc, attribute.name.as_str())?;
+            attrs.push(Attr {
+                name,
+                value: attribute.value,
+            })?;
+        }
+        Ok(attrs)
+    }
+}
+
+/// Two expanded names are one.
+fn is_same_name(name: &Name, other: &Name) -> bool
+    ensures { result ≡ same_name (name_of name.now) (name_of other.now) }
+{
+    name.local == other.local && name.ns == other.ns
+}
+
+/// One of these attributes has this name.
+#[tactic(auto, unfolding(crate::specs::TagReader::is_named_in))]
+fn is_named_in(name: &Name, attrs: &[Attr]) -> bool
+    ensures { result ≡ is_named_in (name_of name.now) (map attribute_of attrs.now) }
+{
+    match attrs {
+        [first, rest @ ..] => is_same_name(&first.name, name) || is_named_in(name, rest),
+        [] => false,
+    }
+}
+
+/// Two of these attributes have one name.
+#[tactic(auto, unfolding(crate::specs::TagReader::is_named_twice))]
+pub fn is_named_twice(attrs: &[Attr]) -> bool
+    ensures { result ≡ is_named_twice (map attribute_of attrs.now) }
+{
+    match attrs {
+        [first, rest @ ..] => is_named_in(&first.name, rest) || is_named_twice(rest),
+        [] => false,
+    }
+}
+
+/// The start of an element, its names expanded.
+#[derive(Drop)]
+pub struct Element {
+    pub name: Name,
+    pub attrs: Vec<Attr>,
+}
+
+/// The element of a tag with this name, these declarations and these other `A` lines, inside the elements that are open.
+///
+/// P11 is broken where a declaration is not allowed or a prefix is not declared, else P12 where two of its `A` lines
+/// have one name or two attributes one expanded name. Namespaces in XML 1.0, sections 3 to 6.
+#[tactic(auto, unfolding(crate::specs::TagReader::tag_read))]
+pub fn expand_element(
+    alloc: Global,
+    scope: Scope<'_>,
+    name: &str,
+    others: Vec<WrittenAttribute>,
+) -> Result<Element, LineFault>
+    ensures { Gives clause_of element_of result (tag_read (declared_in (stack_of scope.entry.opened.now)) (written_of name.now) (map written_attribute scope.entry.declarations.now) (map written_attribute others.items)) }
+{
+    if any_forbidden(scope.declarations) {
+        return Err(LineFault::Clause(11));
+    }
+    let name = scope.element_name(alloc, name)?;
+    let attrs = scope.attributes(alloc, others)?;
+    if is_written_twice(scope.declarations) || is_named_twice(attrs.as_slice()) {
+        return Err(LineFault::Clause(12));
+    }
+    Ok(Element { name, attrs })
+}

@@ -1,0 +1,312 @@
+// A document line by line.
+ghost use Rattle.std.specs.Prelude.{◌≡◌, ◌+◌, ◌<◌, ◌^◌, length, option_map};
+ghost use Rattle.pyx.specs.DocumentReader as reader;
+ghost use Rattle.pyx.specs.DocumentReader.{declared_in};
+ghost use Rattle.pyx.specs.LineReader.{written_of};
+ghost use Rattle.pyx.specs.TagReader.{tag_read};
+ghost use Rattle.pyx.specs.View.{Adds, EndsBy, Hands, IsFault, Takes, tag_of, line_of, said_view, state_of, stack_of, value_of, open_of};
+
+use crate::escapes::Unescaped;
+use crate::fault::{LineFault, PyxFault};
+use crate::line::{Line, Said, said_of};
+use crate::scope::{OpenElement, Scope, expand_element, innermost};
+use crate::written::{WrittenAttribute, declared_by, is_same};
+use rng_model::{Event, EventKind, Events};
+use std::alloc::Global;
+
+/// How many `A` lines a tag may have.
+const ATTRIBUTE_LIMIT: usize = 256;
+
+/// How many elements may be open at once.
+const OPEN_LIMIT: usize = 512;
+
+/// How many bytes a joined text may have.
+const TEXT_LIMIT: usize = 1_048_576;
+
+/// A tag whose lines are being read. Names are as they are written.
+#[derive(Drop)]
+pub struct Tag {
+    name: String,
+    declarations: Vec<WrittenAttribute>,
+    /// The `A` lines that declare nothing.
+    others: Vec<WrittenAttribute>,
+    /// How many bytes its lines have, without their line feeds.
+    bytes: u64,
+}
+
+/// What is kept from one line to the next.
+#[derive(Drop)]
+pub struct State {
+    alloc: Global,
+    /// The tag that the last line belongs to.
+    tag: Option<Tag>,
+    /// The elements that are open, the innermost last, without that of the tag.
+    opened: Vec<OpenElement>,
+    /// The text since the last tag.
+    joined: String,
+    /// A root has begun.
+    root: bool,
+    lines: u64,
+}
+
+/// Takes the innermost element away.
+fn close_innermost(opened: &mut Vec<OpenElement>)
+    ensures { stack_of opened.new.items ≡ reader.around (stack_of opened.old.items) }
+{
+    let _ = opened.pop();
+}
+
+impl State {
+    /// Nothing was read. Takes no memory.
+    pub fn new(alloc: Global) -> Self
+        ensures { state_of result ≡ reader.nothing_read }
+    {
+        State {
+            alloc,
+            tag: None,
+            opened: Vec::new(alloc),
+            joined: String::new(alloc),
+            root: false,
+            lines: 0,
+        }
+    }
+
+    /// A fault at the last line.
+    fn fault(&self, clause: u8) -> PyxFault
+        ensures { result ≡ PyxFault.At clause self.now.lines }
+    {
+        PyxFault::At {
+            clause,
+            line: self.lines,
+        }
+    }
+
+    /// Hands out the start of the tag that was read, if there is one.
+    fn close_tag<E: Events>(&mut self, events: &mut E) -> Result<(), PyxFault>
+        requires { self.old.lines + 1 < 2 ^ 64 }
+        ensures { Takes result (state_of self.new) (Hands E.stands events.old events.new) (reader.close_tag (state_of self.old).tag (state_of self.old)) }
+    {
+        let Some(tag) = self.tag.take() else {
+            return Ok(());
+        };
+        let Tag {
+            name,
+            declarations,
+            others,
+            ..
+        } = tag;
+        let scope = Scope {
+            declarations: declarations.as_slice(),
+            opened: self.opened.as_slice(),
+        };
+        match expand_element(self.alloc, scope, name.as_str(), others) {
+            Ok(element) => {
+                let kind = EventKind::Start {
+                    name: &element.name,
+                    attrs: element.attrs.as_slice(),
+                };
+                events.event(Event {
+                    line: self.lines + 1,
+                    kind,
+                })?;
+                self.opened.push(OpenElement { name, declarations })?;
+                Ok(())
+            }
+            Err(LineFault::Clause(clause)) => Err(self.fault(clause)),
+            Err(LineFault::Memory) => Err(PyxFault::Memory),
+        }
+    }
+
+    /// A line with these bytes comes next: unless it belongs to the tag, the tag is whole.
+    #[tactic(auto, unfolding(crate::specs::DocumentReader::tag_ended))]
+    fn end_tag<E: Events>(&mut self, bytes: &[u8], events: &mut E) -> Result<(), PyxFault>
+        requires { self.old.lines + 1 < 2 ^ 64 }
+        ensures { Takes result (state_of self.new) (Hands E.stands events.old events.new) (reader.tag_ended bytes.now (state_of self.old)) }
+    {
+        if let [b'A', ..] = bytes {
+            return Ok(());
+        }
+        self.close_tag(events)
+    }
+
+    /// Hands out the joined text, if there is one.
+    #[tactic(auto, unfolding(crate::specs::DocumentReader::text_ended))]
+    fn end_text<E: Events>(&mut self, events: &mut E) -> Result<(), PyxFault>
+        ensures { Takes result (state_of self.new) (Hands E.stands events.old events.new) (reader.text_ended (state_of self.old)) }
+    {
+        if !self.joined.is_empty() {
+            let kind = EventKind::Text(self.joined.as_str());
+            events.event(Event {
+                line: self.lines,
+                kind,
+            })?;
+            self.joined.clear();
+        }
+        Ok(())
+    }
+
+    /// A start tag begins, in a line of so many bytes.
+    #[tactic(auto, unfolding(crate::specs::DocumentReader::started))]
+    fn start<E: Events>(&mut self, bytes: u64, name: &str, events: &mut E) -> Result<(), PyxFault>
+        ensures { Takes result (state_of self.new) (Hands E.stands events.old events.new) (reader.started bytes (written_of name.now) (state_of self.old)) }
+    {
+        if self.root && self.opened.is_empty() {
+            return Err(self.fault(9));
+        }
+        if self.opened.len() >= OPEN_LIMIT {
+            return Err(self.fault(10));
+        }
+        self.end_text(events)?;
+        self.tag = Some(Tag {
+            name: String::from_str(self.alloc, name)?,
+            declarations: Vec::new(self.alloc),
+            others: Vec::new(self.alloc),
+            bytes,
+        });
+        self.root = true;
+        Ok(())
+    }
+
+    /// An `A` line of so many bytes.
+    #[tactic(auto, unfolding(crate::specs::DocumentReader::attributed))]
+    fn attribute(&mut self, bytes: u64, name: &str, value: Unescaped<'_>) -> Result<(), PyxFault>
+        requires { reader.tag_bytes (state_of self.old).tag + bytes < 2 ^ 64 }
+        ensures { Adds result (state_of self.new) (reader.attributed bytes (record { name = written_of name.now; content = value_of value.entry }) (state_of self.old)) }
+    {
+        let Some(mut tag) = self.tag.take() else {
+            return Err(self.fault(7));
+        };
+        if tag.declarations.len() + tag.others.len() >= ATTRIBUTE_LIMIT {
+            return Err(self.fault(10));
+        }
+        let attribute = WrittenAttribute {
+            name: String::from_str(self.alloc, name)?,
+            value: value.into_string(self.alloc)?,
+        };
+        if declared_by(name).is_some() {
+            tag.declarations.push(attribute)?;
+        } else {
+            tag.others.push(attribute)?;
+        }
+        tag.bytes += bytes;
+        self.tag = Some(tag);
+        Ok(())
+    }
+
+    /// A text, joined to the one before.
+    #[tactic(auto, unfolding(crate::specs::DocumentReader::joined_by))]
+    fn text(&mut self, value: Unescaped<'_>) -> Result<(), PyxFault>
+        ensures { Adds result (state_of self.new) (reader.joined_by (value_of value.entry) (state_of self.old)) }
+    {
+        if self.opened.is_empty() {
+            return Err(self.fault(9));
+        }
+        let text = value.as_str();
+        if self.joined.len() + text.len() > TEXT_LIMIT {
+            return Err(self.fault(10));
+        }
+        self.joined.push_str(text)?;
+        Ok(())
+    }
+
+    /// An end tag.
+    #[tactic(auto, unfolding(crate::specs::DocumentReader::ended))]
+    fn end<E: Events>(&mut self, name: &str, events: &mut E) -> Result<(), PyxFault>
+        ensures { Takes result (state_of self.new) (Hands E.stands events.old events.new) (reader.ended (written_of name.now) (state_of self.old)) }
+    {
+        let Some((element, _)) = innermost(self.opened.as_slice()) else {
+            return Err(self.fault(8));
+        };
+        if !is_same(element.name.as_str(), name) {
+            return Err(self.fault(8));
+        }
+        self.end_text(events)?;
+        let kind = EventKind::End;
+        events.event(Event {
+            line: self.lines,
+            kind,
+        })?;
+        close_innermost(&mut self.opened);
+        Ok(())
+    }
+
+    /// A line of so many bytes that says this.
+    #[tactic(auto, unfolding(crate::specs::DocumentReader::said_read))]
+    fn said<E: Events>(
+        &mut self,
+        bytes: u64,
+        said: Said<'_>,
+        events: &mut E,
+    ) -> Result<(), PyxFault>
+        requires { reader.tag_bytes (state_of self.old).tag + bytes < 2 ^ 64 }
+        ensures { Takes result (state_of self.new) (Hands E.stands events.old events.new) (reader.said_read bytes (said_view said.entry) (state_of self.old)) }
+    {
+        match said {
+            Said::Attribute(name, value) => self.attribute(bytes, name, value),
+            Said::Start(name) => self.start(bytes, name, events),
+            Said::Text(value) => self.text(value),
+            Said::End(name) => self.end(name, events),
+            Said::Instruction => Ok(()),
+        }
+    }
+
+    /// Takes the next line.
+    #[tactic(auto, unfolding(crate::specs::DocumentReader::line_read))]
+    pub fn line<E: Events>(&mut self, line: Line<'_>, events: &mut E) -> Result<(), PyxFault>
+        requires lines { self.old.lines + 1 < 2 ^ 64 }
+        requires bytes { reader.tag_bytes (state_of self.old).tag + length line.bytes.now < 2 ^ 64 }
+        ensures { Takes result (state_of self.new) (Hands E.stands events.old events.new) (reader.line_read (line_of line.entry) (state_of self.old)) }
+    {
+        self.end_tag(line.bytes, events)?;
+        self.lines += 1;
+        match said_of(self.alloc, line) {
+            Ok(said) => self.said(line.bytes.len() as u64, said, events),
+            Err(LineFault::Clause(clause)) => Err(self.fault(clause)),
+            Err(LineFault::Memory) => Err(PyxFault::Memory),
+        }
+    }
+
+    /// Nothing comes behind these lines.
+    #[tactic(auto, unfolding(crate::specs::DocumentReader::at_end))]
+    pub fn finish(self) -> Result<(), PyxFault>
+        ensures { EndsBy result (reader.at_end (state_of self)) }
+    {
+        let State {
+            alloc,
+            tag,
+            opened,
+            root,
+            lines,
+            ..
+        } = self;
+        match tag {
+            Some(tag) => Err(unfinished(alloc, opened.as_slice(), tag, lines)),
+            None if root && opened.is_empty() => Ok(()),
+            None => Err(PyxFault::At {
+                clause: 13,
+                line: lines,
+            }),
+        }
+    }
+}
+
+/// A tag that nothing follows, which ends at this line: what it breaks itself, or that its element is not ended.
+fn unfinished(alloc: Global, opened: &[OpenElement], tag: Tag, line: u64) -> PyxFault
+    ensures { IsFault result (reader.unfinished line (tag_read (declared_in (stack_of opened.now)) (tag_of tag).name (tag_of tag).declared (tag_of tag).others)) }
+{
+    let Tag {
+        name,
+        declarations,
+        others,
+        ..
+    } = tag;
+    let scope = Scope {
+        declarations: declarations.as_slice(),
+        opened,
+    };
+    match expand_element(alloc, scope, name.as_str(), others) {
+        Err(LineFault::Clause(clause)) => PyxFault::At { clause, line },
+        Err(LineFault::Memory) => PyxFault::Memory,
+        Ok(_) => PyxFault::At { clause: 13, line },
+    }
+}

@@ -1,0 +1,133 @@
+// Names as they are written, and `A` lines.
+ghost use Rattle.std.specs.Prelude.{◌≡◌, map};
+ghost use Rattle.std.specs.Option.{option_map};
+ghost use Rattle.std.specs.Str.{bytes_eq};
+ghost use Rattle.pyx.specs.LineReader.{written_of};
+ghost use Rattle.pyx.specs.TagReader.{declared_by, declares, found_in, is_forbidden, any_forbidden, is_written_in, is_written_twice, same_written};
+ghost use Rattle.pyx.specs.View.{written_attribute};
+
+use crate::cuts::cut_at;
+
+/// The namespace of declarations.
+pub const XMLNS_URI: &str = "http://www.w3.org/2000/xmlns/";
+
+/// The namespace of the prefix `xml`.
+pub const XML_URI: &str = "http://www.w3.org/XML/1998/namespace";
+
+/// What an `A` line says: a name as it is written, and what its value stands for.
+#[derive(Drop)]
+pub struct WrittenAttribute {
+    pub name: String,
+    pub value: String,
+}
+
+/// Two names are written alike.
+#[tactic(auto, using(crate::proofs::WrittenNames::written_alike))]
+pub fn is_same(name: &str, other: &str) -> bool
+    ensures { result ≡ same_written (written_of name.now) (written_of other.now) }
+{
+    name == other
+}
+
+/// Which prefix a name declares, or that it declares the default namespace; nothing, where it is an attribute's.
+///
+/// Namespaces in XML 1.0, section 3.
+#[tactic(auto, unfolding(crate::specs::LineReader::written_of))]
+pub fn declared_by(name: &str) -> Option<Option<&str>>
+    ensures { option_map (λ p. option_map (λ x. x.now) p) result ≡ declared_by (written_of name.now) }
+{
+    match cut_at(':', name) {
+        Some((prefix, local)) => {
+            if prefix == "xmlns" {
+                Some(Some(local))
+            } else {
+                None
+            }
+        }
+        None => { if name == "xmlns" { Some(None) } else { None } }
+    }
+}
+
+/// A declaration that is not allowed.
+///
+/// Namespaces in XML 1.0, sections 3 and 5.
+fn is_forbidden(declaration: &WrittenAttribute) -> bool
+    ensures { result ≡ is_forbidden (written_attribute declaration.now) }
+{
+    let uri = declaration.value.as_str();
+    match declared_by(declaration.name.as_str()) {
+        Some(Some(prefix)) => {
+            uri.is_empty()
+                || uri == XMLNS_URI
+                || prefix == "xmlns"
+                || (if prefix == "xml" {
+                    uri != XML_URI
+                } else {
+                    uri == XML_URI
+                })
+        }
+        Some(None) => uri == XMLNS_URI || uri == XML_URI,
+        None => false,
+    }
+}
+
+/// One of these declarations is not allowed.
+#[tactic(auto, unfolding(crate::specs::TagReader::any_forbidden))]
+pub fn any_forbidden(declarations: &[WrittenAttribute]) -> bool
+    ensures { result ≡ any_forbidden (map written_attribute declarations.now) }
+{
+    match declarations {
+        [first, rest @ ..] => is_forbidden(first) || any_forbidden(rest),
+        [] => false,
+    }
+}
+
+/// The declaration is of this prefix, or of the default namespace.
+fn declares(declaration: &WrittenAttribute, prefix: Option<&str>) -> bool
+    ensures { result ≡ declares (declared_by (written_attribute declaration.now).name) (option_map (λ x. x.now) prefix.entry) }
+{
+    match (declared_by(declaration.name.as_str()), prefix) {
+        (Some(Some(declared)), Some(prefix)) => declared == prefix,
+        (Some(None), None) => true,
+        _ => false,
+    }
+}
+
+/// As what these declare the prefix, or the default namespace.
+#[tactic(auto, unfolding(crate::specs::TagReader::found_in))]
+pub fn found_in<'a>(prefix: Option<&str>, declarations: &'a [WrittenAttribute]) -> Option<&'a str>
+    ensures { option_map (λ x. x.now) result ≡ found_in (option_map (λ x. x.now) prefix.entry) (map written_attribute declarations.now) }
+{
+    match declarations {
+        [first, rest @ ..] => {
+            if declares(first, prefix) {
+                Some(first.value.as_str())
+            } else {
+                found_in(prefix, rest)
+            }
+        }
+        [] => None,
+    }
+}
+
+/// One of these has this name.
+#[tactic(auto, unfolding(crate::specs::TagReader::is_written_in))]
+fn is_written_in(name: &str, attributes: &[WrittenAttribute]) -> bool
+    ensures { result ≡ is_written_in (written_of name.now) (map written_attribute attributes.now) }
+{
+    match attributes {
+        [first, rest @ ..] => is_same(first.name.as_str(), name) || is_written_in(name, rest),
+        [] => false,
+    }
+}
+
+/// Two of these have one name.
+#[tactic(auto, unfolding(crate::specs::TagReader::is_written_twice))]
+pub fn is_written_twice(attributes: &[WrittenAttribute]) -> bool
+    ensures { result ≡ is_written_twice (map written_attribute attributes.now) }
+{
+    match attributes {
+        [first, rest @ ..] => is_written_in(first.name.as_str(), rest) || is_written_twice(rest),
+        [] => false,
+    }
+}

@@ -1,0 +1,156 @@
+//! Prints what `pyx` answers for each document of `cases.txt`, a line a row, fed in pieces of 1, 2, 3 and 4,096 bytes.
+//!
+//! A row is a document; or a front, a count, a part that is repeated so often, and an end. The events are printed with
+//! their lines, and then the outcome; of pieces of other sizes only that they answer otherwise.
+#![tactic(auto)]
+
+ghost use Rattle.std.specs.Prelude.{◌<◌};
+
+use case_rows::{Row, rows};
+use pyx::{PyxFault, Reader};
+use rng_model::{Attr, Event, EventKind, Events, Name, OutOfMemory};
+use std::alloc::{AllocError, Global};
+use std::io;
+
+/// Writes down each event.
+#[derive(Drop)]
+struct Log {
+    alloc: Global,
+    text: String,
+}
+
+impl Log {
+    fn name(&mut self, name: &Name) -> Result<(), AllocError> {
+        if !name.ns.is_empty() {
+            self.text.push('{')?;
+            self.text.push_str(name.ns.as_str())?;
+            self.text.push('}')?;
+        }
+        self.text.push_str(name.local.as_str())
+    }
+
+    fn attribute(&mut self, attribute: &Attr) -> Result<(), AllocError> {
+        self.text.push(' ')?;
+        self.name(&attribute.name)?;
+        let value = format!(in self.alloc; "={:?}", attribute.value)?;
+        self.text.push_str(value.as_str())
+    }
+
+    fn write(&mut self, event: Event<'_>) -> Result<(), AllocError> {
+        let line = format!(in self.alloc; "{} ", event.line)?;
+        self.text.push_str(line.as_str())?;
+        match event.kind {
+            EventKind::Start { name, attrs } => {
+                self.text.push('(')?;
+                self.name(name)?;
+                for attribute in attrs {
+                    self.attribute(attribute)?;
+                }
+            }
+            EventKind::Text(text) => {
+                let text = if text.len() > 100 {
+                    format!(in self.alloc; "{} bytes", text.len())?
+                } else {
+                    format!(in self.alloc; "{text:?}")?
+                };
+                self.text.push_str(text.as_str())?;
+            }
+            EventKind::End => self.text.push(')')?,
+        }
+        self.text.push_str("; ")
+    }
+}
+
+impl Events for Log {
+    ghost stands = { λ taker events. Unit {0} };
+
+    fn event(&mut self, event: Event<'_>) -> Result<(), OutOfMemory> {
+        self.write(event).map_err(|_| OutOfMemory)
+    }
+}
+
+/// How many bytes all documents have together at most, and how many a piece has.
+const DOCUMENT_LIMIT: u64 = 1 << 40;
+
+const PIECE_LIMIT: usize = 1 << 20;
+
+fn read(alloc: Global, document: &[u8], size: usize, log: &mut Log) -> Result<(), PyxFault>
+    requires { 0 < size }
+{
+    let mut reader = Reader::new(alloc);
+    for piece in document.chunks(size) {
+        if reader.fed() > DOCUMENT_LIMIT || piece.len() > PIECE_LIMIT {
+            return Err(PyxFault::Memory);
+        }
+        reader.feed(piece, log)?;
+    }
+    reader.finish(log)
+}
+
+/// What the reader hands out and answers.
+#[derive(Drop, PartialEq, Eq)]
+struct Answer {
+    events: String,
+    outcome: String,
+}
+
+/// The answer to a document, fed in pieces of this size.
+fn answer_to(alloc: Global, document: &[u8], size: usize) -> io::Result<Answer>
+    requires { 0 < size }
+{
+    let mut log = Log {
+        alloc,
+        text: String::new(alloc),
+    };
+    let outcome = match read(alloc, document, size, &mut log) {
+        Ok(()) => format!(in alloc; "document")?,
+        Err(PyxFault::At { clause, line }) => format!(in alloc; "P{clause} line {line}")?,
+        Err(PyxFault::Memory) => format!(in alloc; "out of memory")?,
+    };
+    Ok(Answer {
+        events: log.text,
+        outcome,
+    })
+}
+
+/// The document of a row.
+fn document_of(alloc: Global, row: &Row) -> io::Result<Vec<u8>> {
+    let mut document = Vec::new(alloc);
+    document.extend_from_slice(row.bytes(0)?)?;
+    if row.field_count() > 1 {
+        let Ok(count) = row.text(1)?.parse::<u32>() else {
+            return Err(io::Error::from(io::ErrorKind::InvalidData));
+        };
+        for _ in 0..count {
+            document.extend_from_slice(row.bytes(2)?)?;
+        }
+        document.extend_from_slice(row.bytes(3)?)?;
+    }
+    Ok(document)
+}
+
+fn print_answer(rt: &(impl Print + AllocGlobal), document: &[u8]) -> io::Result<()> {
+    let whole = answer_to(rt.alloc(), document, 4096)?;
+    let outcome = whole.outcome.as_str();
+    if whole.events.len() > 2000 {
+        println!(rt; ".. {outcome}")?;
+    } else {
+        println!(rt; "{}{outcome}", whole.events)?;
+    }
+    for size in 1..4 {
+        let pieces = answer_to(rt.alloc(), document, size)?;
+        if pieces != whole {
+            println!(rt; "in pieces of {size}: {}{}", pieces.events, pieces.outcome)?;
+        }
+    }
+    Ok(())
+}
+
+fn main(rt: HostRuntime) -> io::Result<()> {
+    let rows = rows(&rt, "cases.txt")?;
+    for row in rows.iter() {
+        let document = document_of(rt.alloc(), row)?;
+        print_answer(&rt, document.as_slice())?;
+    }
+    Ok(())
+}
