@@ -20,7 +20,7 @@ use case_rows::rows;
 use document::read_document;
 use rng_deriv::is_valid;
 use rng_model::{OutOfMemory, SimpleGrammar};
-use rng_simple::{Schema, simplify};
+use rng_simple::simplify;
 use std::io;
 use well_formed::is_well_formed;
 use written_tables::read_grammar;
@@ -59,7 +59,7 @@ fn print_simple_form(rt: &(impl Print + AllocGlobal), row: &str) -> io::Result<(
     let Some(pattern) = postfix::read_pattern(rt.alloc(), row)? else {
         return println!(rt; "no pattern");
     };
-    match simplify(rt.alloc(), &Schema::single(pattern)) {
+    match simplify(rt.alloc(), &pattern) {
         Ok(grammar) => tables::print_tables(rt, &grammar),
         Err(OutOfMemory) => println!(rt; "out of memory"),
     }

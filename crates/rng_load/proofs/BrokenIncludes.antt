@@ -18,17 +18,11 @@ use Rattle.rng_load.specs.Loading.{TakenFiles, tree_in, BreaksInclude, no_gramma
 use Rattle.rng_load.specs.GrammarNames.{HasName}
 use Rattle.rng_load.specs.SchemaFile.{Name}
 use Rattle.rng_load.proofs.MentionedNames.{tree_found}
-use Rattle.rng_load.proofs.NameLists.{in_cons, in_none, in_left, in_right, in_either, in_map, from_map}
+use Rattle.rng_load.proofs.NameLists.{some_is, in_none, in_left, in_right, in_more, in_map, from_map}
 use Rattle.rng_load.proofs.ReadInOrder.{entries_of}
 
 no_truth : IsTrue false → ⊥
 no_truth t = cc
-
-same_tree : {t u : FileTree} → Some t ≡ Some u → t ≡ u
-same_tree e = cc
-
-same_components : {t u : tree.Components} → Some t ≡ Some u → t ≡ u
-same_components e = cc
 
 none_some : {A : Type 0} {x : A} → None ≡ Some x → ⊥
 none_some e = cc
@@ -48,10 +42,10 @@ module _ (read : TakenFiles) (m : Mention) (over : tree.Components) where
 
     module _ (cs : tree.Components) (grammar : grammar_of t ≡ Some cs) where
       its_components : {u : FileTree} {ds : tree.Components} → tree_in read m.href ≡ Some u → grammar_of u ≡ Some ds → ds ≡ cs
-      its_components j e = same_components (sym e ∙ ap grammar_of (same_tree (sym j ∙ is)) ∙ grammar)
+      its_components j e = some_is (sym e ∙ ap grammar_of (some_is (sym j ∙ is)) ∙ grammar)
 
       a_grammar : {u : FileTree} → tree_in read m.href ≡ Some u → grammar_of u ≡ None → ⊥
-      a_grammar j e = none_some (sym e ∙ ap grammar_of (same_tree (sym j ∙ is)) ∙ grammar)
+      a_grammar j e = none_some (sym e ∙ ap grammar_of (some_is (sym j ∙ is)) ∙ grammar)
 
       pub nothing_in_braces : over ≡ tree.no_components → IsTrue false ↔ BreaksInclude read m over
       nothing_in_braces empty = (λ w. absurd (no_truth w), λ b. absurd (breaks b)) where
@@ -90,10 +84,7 @@ module _ {A : Type 0} (P : A → Type 0) where
   none_of_none o = in_none o.1
 
   pub one_more_not : (xs : List A) (x : A) → ¬ (OneOf xs) → ¬ (P x) → ¬ (OneOf (xs ++ x ∷ []))
-  one_more_not xs x n m o = elim (in_either xs o.1) [
-    | inl a ↦ n (o.0, a, o.2)
-    | inr b ↦ elim (in_cons b) [ inl e ↦ m (subst P e o.2) | inr c ↦ in_none c ]
-  ]
+  one_more_not xs x n m o = elim (in_more xs o.1) [ inl a ↦ n (o.0, a, o.2) | inr e ↦ m (subst P e o.2) ]
 
 -- a turn of a loop over the items
 module _ {A B : Type 0} (P : B → Type 0) (view : A → B) (items : List A) (i : ℕ) (l : i < length items) (d x : A) (is : x ≡ get_or items i d) where

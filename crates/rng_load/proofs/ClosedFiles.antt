@@ -7,13 +7,10 @@ use Rattle.std.proofs.lemmas.Slice.Eq.{bytes_eq-Decides}
 use Rattle.rng_model.specs.Lists.{Among, here, there}
 use Rattle.rnc_grammar.specs.FileTree.{FileTree}
 use Rattle.rng_load.specs.Loading.{TakenFiles, with_name, hrefs_of, hrefs_if, tree_in, IsTaken, none_yet, one_more, AreTaken}
-use Rattle.rng_load.proofs.PlainReading.{AreClosed}
+use Rattle.rng_load.proofs.PlainReading.{AreClosed, found_among}
 use Rattle.rng_load.specs.SchemaFile.{Name, NamedFile}
-use Rattle.rng_load.proofs.NameLists.{in_cons, in_none, in_either}
+use Rattle.rng_load.proofs.NameLists.{false_true, in_cons, in_none, in_more}
 use Rattle.rng_load.proofs.TakenFiles.{is_order, first_of, kept_name, added_name}
-
-some_is : {t u : FileTree} → Some t ≡ Some u → t ≡ u
-some_is e = cc
 
 kept_all : {x : Name} (ns ms : List Name) → Among x ns → Among x (fold with_name ns ms)
 kept_all ns [] a = a
@@ -28,12 +25,9 @@ module _ (files : List NamedFile) (main : Name) where
   mentioned_named : {read : TakenFiles} {names : List Name} → IsTaken files main read names → (e : Name × FileTree) → Among e read → (g : Name) →
       Among g (hrefs_of e.1) → Among g names
   mentioned_named (none_yet r n) e a g h = absurd (in_none (subst (Among e) r a))
-  mentioned_named (one_more {read} {all} {names} {more} {f} {t} taken next tree a m) e b g h = elim (in_either read (subst (Among e) a b)) [
+  mentioned_named (one_more {read} {all} {names} {more} {f} {t} taken next tree a m) e b g h = elim (in_more read (subst (Among e) a b)) [
     | inl c ↦ subst (Among g) (sym m) (kept_all names (hrefs_of t) (mentioned_named taken e c g h))
-    | inr c ↦ elim (in_cons c) [
-      | inl s ↦ subst (Among g) (sym m) (added_all names (subst (λ d. Among g (hrefs_of d.1)) s h))
-      | inr n ↦ absurd (in_none n)
-    ]
+    | inr s ↦ subst (Among g) (sym m) (added_all names (subst (λ d. Among g (hrefs_of d.1)) s h))
   ]
 
   main_named : {read : TakenFiles} {names : List Name} → IsTaken files main read names → Among main names
@@ -61,9 +55,7 @@ found_first e o false f = f
 
 found_here : (g : Name) (e : Name × FileTree) (o : Option FileTree) (b : Bool) → bytes_eq g e.0 ≡ b → g ≡ e.0 → (t : FileTree) × (cond b (Some e.1) o ≡ Some t)
 found_here g e o true i s = (e.1, refl)
-found_here g e o false i s = absurd (false_true (sym i ∙ (bytes_eq-Decides g e.0).1 s)) where
-  false_true : false ≡ true → ⊥
-  false_true h = cc
+found_here g e o false i s = absurd (false_true (sym i ∙ (bytes_eq-Decides g e.0).1 s))
 
 -- a file of this name is found
 of_name : (g : Name) (read : TakenFiles) → Among g (map first_of read) → (t : FileTree) × (tree_in read g ≡ Some t)
@@ -72,16 +64,6 @@ of_name g (e ∷ read) a = elim (in_cons a) [
   | inl s ↦ found_here g e (tree_in read g) (bytes_eq g e.0) refl s
   | inr b ↦ found_first e (tree_in read g) (bytes_eq g e.0) (of_name g read b)
 ]
-
-by_first : (e : Name × FileTree) (read : TakenFiles) (o : Option FileTree) (t : FileTree) (b : Bool) → cond b (Some e.1) o ≡ Some t
-    → (o ≡ Some t → (d : Name × FileTree) × Among d read × (d.1 ≡ t)) → (d : Name × FileTree) × Among d (e ∷ read) × (d.1 ≡ t)
-by_first e read o t true i h = (e, here, some_is i)
-by_first e read o t false i h = let d = h i in (d.0, there d.1, d.2)
-
--- and one that is found is one of the files
-is_one : (f : Name) (read : TakenFiles) (t : FileTree) → tree_in read f ≡ Some t → (e : Name × FileTree) × Among e read × (e.1 ≡ t)
-is_one f [] t i = absurd cc
-is_one f (e ∷ read) t i = by_first e read (tree_in read f) t (bytes_eq f e.0) i (is_one f read t)
 
 none_in : (f g : Name) (read : TakenFiles) (o : Option FileTree) → tree_in read f ≡ o → Among g (hrefs_if o) → (t : FileTree) ×
     (tree_in read f ≡ Some t) × Among g (hrefs_of t)
@@ -92,7 +74,7 @@ none_in f g read (Some t) e a = (t, e, a)
 pub are_closed : (files : List NamedFile) (main : Name) (read : TakenFiles) → AreTaken files main read → AreClosed read
 are_closed files main read all f g a =
     let t = none_in f g read (tree_in read f) refl a in
-    let e = is_one f read t.0 t.1 in
+    let e = found_among read f t.0 t.1 in
     let named = mentioned_named files main all.taken e.0 e.1 g (subst (λ u. Among g (hrefs_of u)) (sym e.2) t.2) in
     of_name g read (subst (Among g) (all_taken files main all.taken all.all) named)
 

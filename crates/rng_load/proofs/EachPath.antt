@@ -5,7 +5,7 @@ use Rattle.rng_model.specs.Lists.{Among, there, HasTwice}
 use Rattle.rng_load.specs.MentionPaths.{Path, IsPath, path_ends, path_goes_on, HasMorePathsThan, BreaksMentions, path_limit}
 use Rattle.rng_load.specs.SchemaFile.{Name}
 use Rattle.rng_load.specs.Counting.{paths, paths_along, Breaks}
-use Rattle.rng_load.proofs.NameLists.{none_twice, in_cons, in_none, in_left, in_right, in_either, in_first, in_map, from_map, no_more}
+use Rattle.rng_load.proofs.NameLists.{some_is, none_twice, in_cons, in_none, in_left, in_right, in_either, in_first, in_map, from_map, no_more}
 use Rattle.rng_load.proofs.DistinctLists.{differ_cons, differ_append, differ_map}
 
 cons_nil : {i : ℕ} {p : Path} → ◌≡◌ {A = Path} [] (i ∷ p) → ⊥
@@ -23,9 +23,7 @@ module _ (from : Name → List Path) where
       let same : x ≡ g = some_is e in
       let first : at ≡ at + 0 = omega arith in
       let here_too = in_map (λ q. at ∷ q) (subst (λ y. Among p (from y)) (sym same) h) in
-      in_left (subst (λ i. Among (i ∷ p) (map (λ q. at ∷ q) (from x))) first here_too) (paths_along from (at + 1) gs) where
-        some_is : Some x ≡ Some g → x ≡ g
-        some_is i = cc
+      in_left (subst (λ i. Among (i ∷ p) (map (λ q. at ∷ q) (from x))) first here_too) (paths_along from (at + 1) gs)
   in_along at (x ∷ gs) (suc i) g {p} e h =
       let next : at + 1 + i ≡ at + suc i = omega arith in
       in_right (map (λ q. at ∷ q) (from x)) (subst (λ j. Among (j ∷ p) (paths_along from (at + 1) gs)) next (in_along (at + 1) gs i g e h))

@@ -26,7 +26,8 @@ module _ (files : List NamedFile) (main : Name) where
     only (are_taken read) h = absurd (file_or_all (r.only (are_taken read) h.0))
 
   -- a fault once the files are read
-  pub not_read : (fault : SchemaFault) → IfSome (verdict_of_fault fault) (IsTheReading files main) → IfSome (verdict_of_fault fault) (IsTheFilesVerdict files main)
+  pub not_read : (fault : SchemaFault) → IfSome (verdict_of_fault fault) (IsTheReading files main)
+      → IfSome (verdict_of_fault fault) (IsTheFilesVerdict files main)
   not_read (faults.File clause name) r = file_first _ clause r
   not_read (faults.Clause clause) r = absurd r.is
   not_read faults.Memory r = tt

@@ -12,16 +12,17 @@ use Rattle.rnc_grammar.specs.declared.file_tree.FileTree as declared
 use Rattle.rnc_grammar.specs.FileTree as tree
 use Rattle.rnc_grammar.specs.FileTree.{FileTree}
 use Rattle.rnc_grammar.specs.View.{file_of}
-use Rattle.rnc_grammar.specs.Mentions.{MentionedFile, mention_of, mentions_of_pattern, mentions_of_component, mentions_of_components}
+use Rattle.rnc_grammar.specs.Mentions.{MentionedFile, mention_of, mentions_of_component, mentions_of_components}
 use Rattle.std.proofs.lemmas.List.{map-append, take_all, take-append-le, length-map}
 use Rattle.rng_load.specs.ComponentNames.{Names, gather, gather_component, gather_if, HasIt, no_names}
 use Rattle.rng_load.specs.Loading.{TakenFiles, with_name, tree_in, grammar_if, grammar_in, hrefs_of}
 use Rattle.rng_load.specs.GrammarNames.{HasName, NamesIt, of_first, of_later, of_start, of_define, of_div, of_braces, of_file}
 use Rattle.rng_load.specs.SchemaFile.{Name}
 use Rattle.rng_load.proofs.MentionedNames.{tree_found}
-use Rattle.rng_load.proofs.NameLists.{any_in, in_any, from_map, false_true, in_cons, in_none, in_first, in_left, in_right, in_at, none_twice, no_more}
+use Rattle.rng_load.proofs.NameLists.{some_is, any_in, in_any, from_map, false_true, in_cons, in_none, in_first, in_left, in_right, in_at, none_twice, no_more}
 use Rattle.rng_load.proofs.TakenFiles.{kept_name, added_name, name_origin, name_grows, name_differs}
 use Rattle.rng_load.proofs.NamesAdded.{any_seen}
+use Rattle.rng_load.proofs.PlainReading.{grammar_mentions}
 use Rattle.rng_load.proofs.ReadInOrder.{none_at}
 
 abbrev href : MentionedFile → Name
@@ -44,14 +45,6 @@ index_within : {f : Name} (xs : List Name) (i : ℕ) → slice_get xs i ≡ Some
 index_within [] i e = absurd cc
 index_within (y ∷ xs) zero e = omega arith
 index_within (y ∷ xs) (suc i) e = let l = index_within xs i e in omega (arith, l)
-
-grammar_mentions : (t : FileTree) (gcs : tree.Components) → tree.grammar_of t ≡ Some gcs → map href (mentions_of_components gcs) ≡ hrefs_of t
-grammar_mentions (tree.grammar_file cs) gcs e = let s : cs ≡ gcs = cc in ap (λ x. map href (mentions_of_components x)) (sym s)
-grammar_mentions (tree.pattern_file p) gcs e = whole p gcs e where
-  whole : (p : tree.Pattern) (gcs : tree.Components) → tree.whole_grammar p ≡ Some gcs → map href (mentions_of_components gcs) ≡ map href
-      (mentions_of_pattern p)
-  whole (tree.grammar cs) gcs e = let s : cs ≡ gcs = cc in ap (λ x. map href (mentions_of_components x)) (sym s)
-  whole _ gcs e = absurd cc
 
 by_first : (h f : Name) (x : Name × FileTree) (read : TakenFiles) (t : FileTree) (b : Bool) → cond b (Some x.1) (tree_in read f) ≡ Some t → Among h (hrefs_of t)
     → (tree_in read f ≡ Some t → Among h (flat_map (λ e. hrefs_of e.1) read)) → Among h (hrefs_of x.1 ++ flat_map (λ e. hrefs_of e.1) read)
@@ -186,8 +179,10 @@ module _ (read : TakenFiles) where
     one_gathered {all} closed (of_start e) v = subst (HasIt all) (sym e) (v.extends.names None refl)
     one_gathered {all} closed (of_define {n} {p} {m} e) v = subst (HasIt all) (sym e) (v.extends.names (Some n) (added_name v.before.defines n))
     one_gathered closed (of_div h) v = all_gathered closed h (record { before = v.before; extends = v.extends })
-    one_gathered {all} closed (of_braces {m} {over} h) v = all_gathered closed h
-        (record { before = record { defines = v.before.defines; has_start = v.before.has_start; included = with_name v.before.included m.href }; extends = v.extends })
+    one_gathered {all} closed (of_braces {m} {over} h) v = all_gathered closed h (record {
+      before = record { defines = v.before.defines; has_start = v.before.has_start; included = with_name v.before.included m.href };
+      extends = v.extends;
+    })
     one_gathered {all} closed (of_file {m} {over} {cs} {f} e g h) v =
         all_gathered closed h (closed m.href cs (v.extends.files m.href ((gather_extends over _).files m.href (added_name v.before.included m.href)))
         (ap grammar_if e ∙ g))
@@ -313,16 +308,15 @@ module _ (read : TakenFiles) where
       differ = files_differ gcs all g.differ;
       known = λ h a. elim (files_known gcs all h a) [ inl n ↦ g.known h n | inr k ↦ in_right (map href (mentions_of_components cs)) (in_a_file h k) ];
     }) where
-      some_is : {x y : tree.Components} → Some x ≡ Some y → x ≡ y
-      some_is e = cc
-
       front_taken : (h : Name) → Among h (take (looked + 1) (gather all gcs).included) → Among h (take (looked + 1) all.included)
       front_taken h a =
           let r = files_grow gcs all in
           subst (Among h) (ap (take (looked + 1)) r.1 ∙ take-append-le (looked + 1) all.included r.0 (index_within all.included looked at)) a
 
       in_a_file : (h : Name) → Among h (map href (mentions_of_components gcs)) → Among h (flat_map (λ e. hrefs_of e.1) read)
-      in_a_file h k = let t = found_tree f gcs (tree_in read f) refl is in mentioned_by read h f t.0 t.1 (subst (Among h) (grammar_mentions t.0 gcs t.2) k)
+      in_a_file h k =
+          let t = found_tree f gcs (tree_in read f) refl is in
+          mentioned_by read h f t.0 t.1 (subst (Among h) (ap (map href) (grammar_mentions t.0 gcs t.2)) k)
 
     pub few_looked : looked < length (all_included cs)
     few_looked =

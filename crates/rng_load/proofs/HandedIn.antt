@@ -15,55 +15,33 @@ use Rattle.rng_model.specs.Lists.{Among, here, there, HasTwo, first_and, both_la
 use Rattle.rng_load.specs.SchemaFile.{Name, NamedFile, FileVerdict, breaks, has_tree, IsMissing, IsHandedInTwice, IsHandedIn, BreaksLimit, BreaksOwn}
 use Rattle.rng_load.specs.SchemaFile.{missing, handed_in_twice, too_large, bad_content, BreaksClause, IsFileVerdict, IsTheFileVerdict}
 use Rattle.rng_load.specs.SchemaFile.{IsContentVerdict, IsTheContentVerdict}
+use Rattle.rng_load.proofs.NameLists.{in_none, in_cons, in_left, in_right, in_more}
 
-module _ {A : Type 0} where
-  none_among : {x : A} → Among x [] → ⊥
-  none_among a = elim a [ ]
+module _ {A : Type 0} (P : A → A → Type 0) where
+  two_or_later : {x : A} {xs : List A} → HasTwo P (x ∷ xs) → ((y : A) × Among y xs × P x y) ⊎ HasTwo P xs
+  two_or_later (first_and {x} {y} {xs} a p) = inl (y, a, p)
+  two_or_later (both_later h) = inr h
 
-  among_left : {x : A} {xs : List A} → Among x xs → (ys : List A) → Among x (xs ++ ys)
-  among_left here ys = here
-  among_left (there a) ys = there (among_left a ys)
+  none_two : HasTwo P [] → ⊥
+  none_two h = elim h [ ]
 
-  last_among : {x : A} (xs : List A) (ys : List A) → Among x (xs ++ x ∷ ys)
-  last_among [] ys = here
-  last_among (y ∷ xs) ys = there (last_among xs ys)
-
-  first_or_later : {x y : A} {xs : List A} → Among x (y ∷ xs) → (x ≡ y) ⊎ Among x xs
-  first_or_later here = inl refl
-  first_or_later (there a) = inr a
-
-  earlier_or_last : {x y : A} (xs : List A) → Among x (xs ++ y ∷ []) → Among x xs ⊎ (x ≡ y)
-  earlier_or_last [] a = elim (first_or_later a) [ inl e ↦ inr e | inr b ↦ absurd (none_among b) ]
-  earlier_or_last {x} {y} (z ∷ xs) a = elim (first_or_later a) [
-    | inl e ↦ inl (subst (λ w. Among w (z ∷ xs)) (sym e) here)
-    | inr b ↦ elim (earlier_or_last xs b) [ inl c ↦ inl (there c) | inr e ↦ inr e ]
+  two_with_last : (xs : List A) (y : A) → HasTwo P (xs ++ y ∷ []) → HasTwo P xs ⊎ ((x : A) × Among x xs × P x y)
+  two_with_last [] y h = elim (two_or_later h) [ inl t ↦ absurd (in_none t.1) | inr l ↦ absurd (none_two l) ]
+  two_with_last (x ∷ xs) y h = elim (two_or_later h) [
+    | inl t ↦ elim (in_more xs t.1) [ inl a ↦ inl (first_and a t.2) | inr e ↦ inr (x, here, subst (P x) e t.2) ]
+    | inr l ↦ elim (two_with_last xs y l) [ inl m ↦ inl (both_later m) | inr t ↦ inr (t.0, there t.1, t.2) ]
   ]
 
-  module _ (P : A → A → Type 0) where
-    two_or_later : {x : A} {xs : List A} → HasTwo P (x ∷ xs) → ((y : A) × Among y xs × P x y) ⊎ HasTwo P xs
-    two_or_later (first_and {x} {y} {xs} a p) = inl (y, a, p)
-    two_or_later (both_later h) = inr h
+  two_of : {x : A} {xs : List A} → Among x xs → (y : A) (ys : List A) → P x y → HasTwo P (xs ++ y ∷ ys)
+  two_of (here {xs}) y ys p = first_and (in_right xs here) p
+  two_of (there a) y ys p = both_later (two_of a y ys p)
 
-    none_two : HasTwo P [] → ⊥
-    none_two h = elim h [ ]
-
-    two_with_last : (xs : List A) (y : A) → HasTwo P (xs ++ y ∷ []) → HasTwo P xs ⊎ ((x : A) × Among x xs × P x y)
-    two_with_last [] y h = elim (two_or_later h) [ inl t ↦ absurd (none_among t.1) | inr l ↦ absurd (none_two l) ]
-    two_with_last (x ∷ xs) y h = elim (two_or_later h) [
-      | inl t ↦ elim (earlier_or_last xs t.1) [ inl a ↦ inl (first_and a t.2) | inr e ↦ inr (x, here, subst (P x) e t.2) ]
-      | inr l ↦ elim (two_with_last xs y l) [ inl m ↦ inl (both_later m) | inr t ↦ inr (t.0, there t.1, t.2) ]
-    ]
-
-    two_of : {x : A} {xs : List A} → Among x xs → (y : A) (ys : List A) → P x y → HasTwo P (xs ++ y ∷ ys)
-    two_of (here {xs}) y ys p = first_and (last_among xs ys) p
-    two_of (there a) y ys p = both_later (two_of a y ys p)
-
-    one_or_two : {x y : A} {xs : List A} → Among x xs → Among y xs → P x y → P y x → (x ≡ y) ⊎ HasTwo P xs
-    one_or_two {x} {y} (here {xs}) b p q = elim (first_or_later b) [ inl e ↦ inl (sym e) | inr c ↦ inr (first_and c p) ]
-    one_or_two {x} {y} (there a) b p q = elim (first_or_later b) [
-      | inl e ↦ inr (first_and a (subst (λ w. P w x) e q))
-      | inr c ↦ elim (one_or_two a c p q) [ inl e ↦ inl e | inr h ↦ inr (both_later h) ]
-    ]
+  one_or_two : {x y : A} {xs : List A} → Among x xs → Among y xs → P x y → P y x → (x ≡ y) ⊎ HasTwo P xs
+  one_or_two {x} {y} (here {xs}) b p q = elim (in_cons b) [ inl e ↦ inl (sym e) | inr c ↦ inr (first_and c p) ]
+  one_or_two {x} {y} (there a) b p q = elim (in_cons b) [
+    | inl e ↦ inr (first_and a (subst (λ w. P w x) e q))
+    | inr c ↦ elim (one_or_two a c p q) [ inl e ↦ inl e | inr h ↦ inr (both_later h) ]
+  ]
 
 -- ---- one file more
 
@@ -72,11 +50,11 @@ IsOf f a b = (a.name ≡ f) × (b.name ≡ f)
 
 module _ (files : List NamedFile) (f : Name) (x : NamedFile) where
   pub still_missing : IsMissing files f → x.name ≢ f → IsMissing (files ++ x ∷ []) f
-  still_missing m other file a = elim (earlier_or_last files a) [ inl b ↦ m file b | inr e ↦ λ is. other (ap (λ y. y.name) (sym e) ∙ is) ]
+  still_missing m other file a = elim (in_more files a) [ inl b ↦ m file b | inr e ↦ λ is. other (ap (λ y. y.name) (sym e) ∙ is) ]
 
   pub found_last : IsMissing files f → x.name ≡ f → IsHandedIn (files ++ x ∷ []) f x.bytes
   found_last m is = record {
-    there = subst (λ n. Among (record { name = n; bytes = x.bytes }) (files ++ x ∷ [])) is (last_among files []);
+    there = subst (λ n. Among (record { name = n; bytes = x.bytes }) (files ++ x ∷ [])) is (in_right files here);
     once = λ two. elim (two_with_last (IsOf f) files x two) [ inl h ↦ no_two h | inr t ↦ m t.0 t.1 t.2.0 ];
   } where
     no_two : HasTwo (IsOf f) files → ⊥
@@ -87,7 +65,7 @@ module _ (files : List NamedFile) (f : Name) (x : NamedFile) where
 
   pub still_found : {bytes : List ℕ} → IsHandedIn files f bytes → x.name ≢ f → IsHandedIn (files ++ x ∷ []) f bytes
   still_found h other = record {
-    there = among_left h.there (x ∷ []);
+    there = in_left h.there (x ∷ []);
     once = λ two. elim (two_with_last (IsOf f) files x two) [ inl t ↦ h.once t | inr t ↦ other t.2.1 ];
   }
 
@@ -95,7 +73,7 @@ module _ (files : List NamedFile) (f : Name) (x : NamedFile) where
   found_again h is rest = two_of (IsOf f) h.there x rest (refl, is)
 
 pub none_missing : (f : Name) → IsMissing [] f
-none_missing f file a = absurd (none_among a)
+none_missing f file a = absurd (in_none a)
 
 -- ---- what a file is, and nothing else
 

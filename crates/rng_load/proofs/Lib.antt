@@ -16,11 +16,12 @@ mod GatheredNames
 mod BrokenIncludes
 mod FilesVerdict
 mod PlacesApart
-mod OneSchema
+pub mod OneSchema
 mod OneGrammar
 mod PlainReading
 mod ClosedFiles
 mod TreeSizes
+mod PlacesWithin
 mod ReadOneByOne
 mod LeftToRead
 mod ReadDatatypes
@@ -28,3 +29,9 @@ mod ReadMentioned
 mod GatherOneByOne
 mod LeftToGather
 mod GatherIncluded
+mod AllFound
+mod GrammarLookup
+mod TurnsTaken
+mod SchemaRead
+mod LoadedFiles
+mod NamesThatOverride

@@ -1,6 +1,6 @@
 -- Lists, and what stands in them.
 use Rattle.std.proofs.Common.{◌≡◌, refl, sym, subst, ap, ℕ, zero, suc, ◌≤◌, Bool, true, false, ◌||◌, List, [], ◌∷◌, ◌++◌, length, arith, ◌⊎◌, inl, inr, map}
-use Rattle.std.proofs.Common.{Some, slice_get}
+use Rattle.std.proofs.Common.{Some, slice_get, get_or, ◌<◌}
 use Rattle.std.specs.List.{list_any}
 use Rattle.std.specs.Str.{bytes_eq}
 use Rattle.std.proofs.lemmas.Slice.Eq.{bytes_eq-Decides}
@@ -9,6 +9,9 @@ use Rattle.rng_load.specs.SchemaFile.{Name}
 
 pub false_true : false ≡ true → ⊥
 false_true h = cc
+
+pub some_is : {A : Type 0} {x y : A} → Some x ≡ Some y → x ≡ y
+some_is e = cc
 
 module _ {A : Type 0} where
   pub in_none : {x : A} → Among x [] → ⊥
@@ -33,11 +36,20 @@ module _ {A : Type 0} where
   in_either [] p = inr p
   in_either (n ∷ ns) p = elim (in_cons p) [ inl e ↦ inl (in_first ns e) | inr q ↦ elim (in_either ns q) [ inl a ↦ inl (there a) | inr b ↦ inr b ] ]
 
+  -- what stands in a list with one more at its end
+  pub in_more : {x y : A} (ns : List A) → Among x (ns ++ y ∷ []) → Among x ns ⊎ (x ≡ y)
+  in_more ns p = elim (in_either ns p) [ inl a ↦ inl a | inr b ↦ elim (in_cons b) [ inl e ↦ inr e | inr c ↦ absurd (in_none c) ] ]
+
   -- the item at an index stands in the list
   pub in_at : (xs : List A) (i : ℕ) {x : A} → slice_get xs i ≡ Some x → Among x xs
   in_at [] i e = absurd cc
   in_at (y ∷ ys) zero {x} e = let same : y ≡ x = cc in in_first ys (sym same)
   in_at (y ∷ ys) (suc i) e = there (in_at ys i e)
+
+  pub in_place : (xs : List A) (i : ℕ) (x : A) → i < length xs → x ≡ get_or xs i x → Among x xs
+  in_place [] i x l is = absurd (omega (arith, l))
+  in_place (y ∷ ys) zero x l is = in_first ys is
+  in_place (y ∷ ys) (suc i) x l is = there (in_place ys i x (omega (arith, l)) is)
 
   -- ---- lists in which nothing stands twice
 
@@ -51,7 +63,7 @@ module _ {A : Type 0} where
   twice_more : (ns : List A) (n : A) → HasTwice (ns ++ n ∷ []) → HasTwice ns ⊎ Among n ns
   twice_more [] n h = elim (twice_or h) [ inl a ↦ absurd (in_none a) | inr l ↦ absurd (none_twice l) ]
   twice_more (m ∷ ns) n h = elim (twice_or h) [
-    | inl a ↦ elim (in_either ns a) [ inl b ↦ inl (at_first b) | inr b ↦ elim (in_cons b) [ inl e ↦ inr (in_first ns (sym e)) | inr c ↦ absurd (in_none c) ] ]
+    | inl a ↦ elim (in_more ns a) [ inl b ↦ inl (at_first b) | inr e ↦ inr (in_first ns (sym e)) ]
     | inr l ↦ elim (twice_more ns n l) [ inl t ↦ inl (later t) | inr a ↦ inr (there a) ]
   ]
 
@@ -111,11 +123,11 @@ pub any_in : (n : Name) (ns : List Name) → list_any (λ m. bytes_eq n m) ns �
 any_in n [] h = absurd (false_true h)
 any_in n (m ∷ ns) h = in_by n m ns (bytes_eq n m) refl h (any_in n ns)
 
-or_right : (b c : Bool) → c ≡ true → (b || c) ≡ true
+pub or_right : (b c : Bool) → c ≡ true → (b || c) ≡ true
 or_right true c h = refl
 or_right false c h = h
 
-or_left : (b c : Bool) → b ≡ true → (b || c) ≡ true
+pub or_left : (b c : Bool) → b ≡ true → (b || c) ≡ true
 or_left true c h = refl
 or_left false c h = absurd (false_true h)
 

@@ -8,7 +8,8 @@ use Rattle.rnc_grammar.specs.FileTree as tree
 use Rattle.rnc_grammar.specs.FileTree.{FileTree}
 use Rattle.rng_load.specs.Places.{Way, Gathered, Gathers, main_grammar, HasGrammar, main_is, nested_is}
 use Rattle.rng_load.proofs.OneSchema.{one_gathering}
-use Rattle.rng_load.proofs.PlacesApart.{longer, same_entry, nested_in, in_nested, gathered_children}
+use Rattle.rng_load.specs.FoundGrammars.{nested_in}
+use Rattle.rng_load.proofs.PlacesApart.{longer, same_entry, in_nested, gathered_children}
 
 module _ (files : List ℕ → Option FileTree) (main : FileTree) where
   -- how many grammars are around a grammar

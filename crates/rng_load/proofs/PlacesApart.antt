@@ -6,6 +6,7 @@ use Rattle.rng_model.specs.Lists.{Among, here, there}
 use Rattle.rng_model.specs.Patterns.{Pattern}
 use Rattle.rnc_grammar.specs.FileTree as tree
 use Rattle.rnc_grammar.specs.FileTree.{FileTree}
+use Rattle.rng_load.specs.FoundGrammars.{nested_in}
 use Rattle.rng_load.specs.Places.{Way, Nested, Gathered, is_overridden}
 use Rattle.rng_load.specs.Places.{Reads, element_is, attribute_is, list_is, mixed_is, optional_is, zero_or_more_is, one_or_more_is, ref_is, parent_ref_is}
 use Rattle.rng_load.specs.Places.{empty_is, text_is, not_allowed_is, value_is, data_is, except_is, grammar_is, pattern_file_is, grammar_file_is, joined_is}
@@ -109,17 +110,12 @@ more_children {x} {k} {ns} {ms} a b = record {
 
 -- ---- the grammars that are nested in gathered components
 
--- all of them, in order
-abbrev pub nested_in : List Gathered → List Nested
-nested_in [] = []
-nested_in (g ∷ gs) = g.nested ++ nested_in gs
-
 -- what one of the components has is among them
 pub in_nested : {g : Gathered} {gs : List Gathered} {n : Nested} → Among g gs → Among n g.nested → Among n (nested_in gs)
 in_nested (here {xs = gs}) i = in_left i (nested_in gs)
 in_nested (there {y = h} j) i = in_right h.nested (in_nested j i)
 
-nested_in_both : (gs hs : List Gathered) → nested_in (gs ++ hs) ≡ nested_in gs ++ nested_in hs
+pub nested_in_both : (gs hs : List Gathered) → nested_in (gs ++ hs) ≡ nested_in gs ++ nested_in hs
 nested_in_both [] hs = refl
 nested_in_both (g ∷ gs) hs = ap (λ ns. g.nested ++ ns) (nested_in_both gs hs) ∙ sym (append_assoc g.nested (nested_in gs) (nested_in hs))
 
@@ -131,7 +127,7 @@ module _ (test : Gathered → Bool) where
   in_kept true g gs ih i = elim (in_either g.nested i) [ inl j ↦ in_left j (nested_in gs) | inr j ↦ in_right g.nested (ih j) ]
   in_kept false g gs ih i = in_right g.nested (ih i)
 
-  in_filter : (gs : List Gathered) {n : Nested} → Among n (nested_in (filter test gs)) → Among n (nested_in gs)
+  pub in_filter : (gs : List Gathered) {n : Nested} → Among n (nested_in (filter test gs)) → Among n (nested_in gs)
   in_filter [] i = i
   in_filter (g ∷ gs) i = in_kept (test g) g gs (in_filter gs) i
 

@@ -36,10 +36,10 @@ grammar_mentions (pattern_file p) cs e = whole_mentions p cs e
 module _ (files : List ℕ → Option FileTree) where
   -- ---- what can be followed
 
-  followed_left : (n : ℕ) (ms ks : List MentionedFile) → AreFollowed files n (ms ++ ks) → AreFollowed files n ms
+  pub followed_left : (n : ℕ) (ms ks : List MentionedFile) → AreFollowed files n (ms ++ ks) → AreFollowed files n ms
   followed_left n ms ks a m i = a m (in_left i ks)
 
-  followed_right : (n : ℕ) (ms ks : List MentionedFile) → AreFollowed files n (ms ++ ks) → AreFollowed files n ks
+  pub followed_right : (n : ℕ) (ms ks : List MentionedFile) → AreFollowed files n (ms ++ ks) → AreFollowed files n ks
   followed_right n ms ks a m i = a m (in_right ms i)
 
   -- ---- soundness
@@ -191,7 +191,7 @@ module _ (files : List ℕ → Option FileTree) where
   all_more n ms a m i = followed_more n m (a m i)
 
   -- the file of a mention that can be followed
-  record Follows (n : ℕ) (m : MentionedFile) (t : FileTree) : Type 0 where
+  pub record Follows (n : ℕ) (m : MentionedFile) (t : FileTree) : Type 0 where
     pub less : ℕ
     pub is : n ≡ suc less
     pub all : AreFollowed files less (mentions_of t)
@@ -199,7 +199,7 @@ module _ (files : List ℕ → Option FileTree) where
   same_file : {o : Option FileTree} {s t : FileTree} → o ≡ Some s → o ≡ Some t → s ≡ t
   same_file e f = cc
 
-  follows : (n : ℕ) (m : MentionedFile) (t : FileTree) → files (mention_of m).href ≡ Some t → IsFollowed files n m → Follows n m t
+  pub follows : (n : ℕ) (m : MentionedFile) (t : FileTree) → files (mention_of m).href ≡ Some t → IsFollowed files n m → Follows n m t
   unfolding IsFollowed
   follows zero m t e f = absurd f
   follows (suc n) m t e f = record { less = n; is = refl; all = subst (λ t. AreFollowed files n (mentions_of t)) (same_file f.1 e) f.3 }

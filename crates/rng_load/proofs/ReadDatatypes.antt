@@ -20,7 +20,8 @@ use Rattle.rng_load.specs.PlainReading.{read_at, read_with}
 abbrev texts : List (String Global × String Global) → List (List ℕ × List ℕ)
 texts ps = map (λ p. (string_bytes p.0, string_bytes p.1)) ps
 
-plain_tree : (d : DatatypeName) (ps : Vec (String Global × String Global) Global) → pattern_of (trees.Data d ps None) ≡ tree.data_of (type_of d) (texts ps.items)
+plain_tree : (d : DatatypeName) (ps : Vec (String Global × String Global) Global)
+    → pattern_of (trees.Data d ps None) ≡ tree.data_of (type_of d) (texts ps.items)
 plain_tree d ps = search (rules, tree_lemmas)
 
 except_tree : (d : DatatypeName) (ps : Vec (String Global × String Global) Global) (b : Box Pattern Global)

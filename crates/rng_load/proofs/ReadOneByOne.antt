@@ -38,8 +38,8 @@ module _ {files : List ℕ → Option FileTree} {levels : ℕ} {u : List ℕ} {x
   pub all_patterns : {E : Type 0} (view : E → tree.Pattern) (es : List E) (i : ℕ) (read : List Pattern) (found : List Nested) → length es ≤ i
       → AreRead files levels u x all before i (map view (drop i es)) read found → read ≡ (read_all_at files levels u x 0 (patterns_of all)).0
   unfolding read_all_with
-  all_patterns view es i read found end r = sym (r.patterns ∙ ap (λ es. read ++ (read_all_at files levels u x i (patterns_of (map view es))).0) (drop_all i es end)
-      ∙ append-nil read)
+  all_patterns view es i read found end r =
+      sym (r.patterns ∙ ap (λ es. read ++ (read_all_at files levels u x i (patterns_of (map view es))).0) (drop_all i es end) ∙ append-nil read)
 
   pub all_nested : {E : Type 0} (view : E → tree.Pattern) (es : List E) (i : ℕ) (read : List Pattern) (found : List Nested) → length es ≤ i
       → AreRead files levels u x all before i (map view (drop i es)) read found

@@ -346,7 +346,10 @@ module _ (files : List NamedFile) (main : Name) where
     only (are_taken other) h = ap are_taken (one_order a h)
 
   pub first_broken : (f : Name) (k : ℕ) → IsFirmlyBroken f k → IsTheReading files main (file_breaks f k)
-  first_broken f k a = record { is = record { before = a.before; names = a.names; taken = firm_taken a.firm; next = a.next; broken = a.broken.is }; only = only } where
+  first_broken f k a = record {
+    is = record { before = a.before; names = a.names; taken = firm_taken a.firm; next = a.next; broken = a.broken.is };
+    only = only;
+  } where
     only : (other : FilesVerdict) → IsReading files main other → file_breaks f k ≡ other
     only (file_breaks g j) h = let s = one_broken a h in ap (λ x. file_breaks x k) s.0 ∙ ap (file_breaks g) s.1
     only (together_break j) h = absurd h

@@ -5,7 +5,6 @@ use Rattle.indexmap.specs.IndexMap.{IndexMap}
 use Rattle.indexmap.specs.IndexSet.{IndexSet}
 use Rattle.rnc_grammar.specs.declared.file_tree.FileTree as declared
 use Rattle.rnc_grammar.specs.View.{file_of}
-use Rattle.rng_load.specs.declared.loading.SchemaFiles.{SchemaFiles}
 use Rattle.rng_load.specs.Loading.{TakenFiles}
 use Rattle.rng_load.specs.SchemaFile.{Name, NamedFile}
 
@@ -19,6 +18,3 @@ module _ {S : Type 0} where
   -- names, in order
   abbrev pub names_of : IndexSet (String Global) S → List Name
   names_of names = map string_bytes names.keys
-
-abbrev pub files_of : SchemaFiles → TakenFiles
-files_of files = taken_files_of files.trees

@@ -11,3 +11,6 @@ pub mod ComponentNames
 pub mod PlainReading
 pub mod ReadPatterns
 pub mod GatheredComponents
+pub mod PlacedGrammars
+pub mod LoadedSchema
+pub mod FoundGrammars

@@ -6,8 +6,7 @@ use Rattle.rng_model.specs.declared.fault.SchemaFault.{SchemaFault}
 use Rattle.rng_model.specs.declared.fault.SchemaFault.TheVariants as faults
 use Rattle.rnc_grammar.specs.declared.file_tree.FileTree as declared
 use Rattle.rnc_grammar.specs.View.{file_of}
-use Rattle.rng_load.specs.FilesView.{files_of, taken_files_of}
-use Rattle.rng_load.specs.declared.loading.SchemaFiles.{SchemaFiles}
+use Rattle.rng_load.specs.FilesView.{taken_files_of}
 use Rattle.rng_load.specs.Loading.{FilesVerdict, file_breaks, together_break, are_taken, AreTaken, IsFirstBroken}
 use Rattle.rng_load.specs.SchemaFile.{Name, NamedFile, breaks, has_tree, IsTheFileVerdict}
 
@@ -18,15 +17,10 @@ verdict_of_fault (faults.Clause clause) = Some (together_break clause)
 verdict_of_fault faults.Memory = None
 
 module _ {S : Type 0} where
-  -- what is told where each file is only judged by itself
+  -- what is told of files with their trees
   abbrev pub reading_of : Result (IndexMap (String Global) declared.FileTree S) SchemaFault → Option FilesVerdict
   reading_of (Ok trees) = Some (are_taken (taken_files_of trees))
   reading_of (Err fault) = verdict_of_fault fault
-
--- the verdict that is told, unless memory ran out
-abbrev pub files_verdict_of : Result SchemaFiles SchemaFault → Option FilesVerdict
-files_verdict_of (Ok files) = Some (are_taken (files_of files))
-files_verdict_of (Err fault) = verdict_of_fault fault
 
 -- of the verdict what is known once each file is read: the files, or the first that breaks a clause by itself
 abbrev pub IsReading : List NamedFile → Name → FilesVerdict → Type 0

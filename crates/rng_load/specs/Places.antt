@@ -143,7 +143,8 @@ module _ (files : List ℕ → Option FileTree) where
     nested_is : {x : Place} {o : Option Place} {u : List ℕ} {cs : tree.Components} {gathered : List Gathered} {g : Gathered} {n : Nested} →
         HasGrammar main x o u cs → Gathers u x 0 cs gathered → Among g gathered → Among n g.nested → HasGrammar main n.place (Some x) n.uri n.components
 
-  -- The schema of these files, where they break none of S1 to S10: at each place at which a grammar is, its components and the place of the grammar around it; at any other place nothing.
+  -- The schema of these files, where they break none of S1 to S10: at each place at which a grammar is, its components and the place of the grammar
+  -- around it; at any other place nothing.
   pub record IsSchemaOf (main : FileTree) (s : Schema) : Type 0 where
     pub main_place : s.main ≡ []
     pub there : (x : Place) (o : Option Place) (u : List ℕ) (cs : tree.Components) → HasGrammar main x o u cs →

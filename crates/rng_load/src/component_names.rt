@@ -121,7 +121,7 @@ impl<'a> ComponentNames<'a> {
 }
 
 /// Puts a name at the end of these, unless it is there.
-fn note<'a>(names: &mut IndexSet<&'a str>, name: &'a str) -> Result<(), OutOfMemory>
+pub fn note<'a>(names: &mut IndexSet<&'a str>, name: &'a str) -> Result<(), OutOfMemory>
     ensures { OnOk result (map (λ n. n.now) names.new.keys ≡ with_name (map (λ n. n.now) names.old.keys) name.now) }
 {
     names.insert(name)?;

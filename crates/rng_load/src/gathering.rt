@@ -1,19 +1,21 @@
 // From the components of files to those of the grammars of a schema.
-ghost use Rattle.std.specs.Prelude.{◌≡◌, ◌∷◌, ◌++◌, IfOk, OnOk, map, option_map, reverse, string_bytes};
-ghost use Rattle.rng_model.specs.Schema as schema;
+ghost use Rattle.std.specs.Prelude.{◌≡◌, ◌∷◌, ◌++◌, ◌||◌, ℕ, IfOk, List, OnOk, Option, filter, map, not, option_map, reverse, string_bytes};
+ghost use Rattle.rng_model.specs.Schema.{same_name};
 ghost use Rattle.rnc_grammar.specs.FileTree.{components_of};
 ghost use Rattle.rnc_grammar.specs.View.{component_of, mention_of, pattern_of};
-ghost use Rattle.rng_load.specs.GatheredComponents.{gathered_of};
+ghost use Rattle.rng_load.specs.GatheredComponents.{gathered_of, has_name};
 ghost use Rattle.rng_load.specs.Loading.{grammar_if};
-ghost use Rattle.rng_load.specs.Places.{is_overridden as is_overridden_by, uri_in};
+ghost use Rattle.rng_load.specs.Places.{Gathered, is_overridden, uri_in};
 ghost use Rattle.rng_load.specs.PlainReading.{gather_at, gather_below, gather_one_at, gathered_as, included_with, read_at, replaced_by};
 ghost use Rattle.rng_load.specs.ReadPatterns.{files_in};
 
-use crate::component_names::grammar_of;
+use crate::component_names::{grammar_of, note};
 use crate::reading_names::namespace_uri;
 use crate::reading_patterns::{NestedGrammar, TreeReader};
+use indexmap::IndexSet;
 use rnc_grammar::{Mention, Method, Pattern};
 use rng_model::{Component, OutOfMemory};
+use std::alloc::Global;
 
 /// A component that its grammar gets, and the grammars that are nested in it.
 ///
@@ -122,7 +124,7 @@ impl<'a> TreeReader<'a> {
         let included = self.included(levels, uri, way, mention)?;
         let mut replacing = Vec::new(self.alloc);
         self.gather_under(levels, uri, way, 1, overriding, &mut replacing)?;
-        replace(all, included, replacing)
+        replace(self.alloc, all, included, replacing)
     }
 
     /// The components of the file that is included.
@@ -171,7 +173,7 @@ impl<'a> TreeReader<'a> {
     }
 
     /// The component of this name with the grammars that are nested in its pattern.
-    fn gathered(
+    pub(crate) fn gathered(
         self,
         levels: u32,
         uri: &'a str,
@@ -201,39 +203,79 @@ impl<'a> TreeReader<'a> {
 ///
 /// RELAX NG Specification, section 4.7.
 fn replace<'a>(
+    alloc: Global,
     all: &mut Vec<GatheredComponent<'a>>,
     mut included: Vec<GatheredComponent<'a>>,
     mut overriding: Vec<GatheredComponent<'a>>,
 ) -> Result<(), OutOfMemory>
     ensures { OnOk result (map gathered_of all.new.items ≡ map gathered_of all.old.items ++ replaced_by (map gathered_of included.entry.items) (map gathered_of overriding.entry.items)) }
 {
-    included.retain(|component| !is_overridden(&overriding, component));
+    remove_overridden(alloc, &mut included, &overriding)?;
     all.append(&mut included)?;
     all.append(&mut overriding)?;
     Ok(())
 }
 
-/// Whether one of these has the name of the component, or both are starts.
-fn is_overridden(overriding: &[GatheredComponent<'_>], component: &GatheredComponent<'_>) -> bool
-    ensures { result ≡ is_overridden_by (map gathered_of overriding.now) (gathered_of component.now) }
+/// Takes the included components away that are overridden. The time is linear in the number of both.
+///
+/// RELAX NG Specification, section 4.7.
+fn remove_overridden(
+    alloc: Global,
+    included: &mut Vec<GatheredComponent<'_>>,
+    overriding: &[GatheredComponent<'_>],
+) -> Result<(), OutOfMemory>
+    ensures { OnOk result (included.new.items ≡ filter (λ g. not (is_overridden (map gathered_of overriding.now) (gathered_of g))) included.old.items) }
 {
-    for other in overriding {
-        if same_name(&other.component.name, &component.component.name) {
-            return true;
-        }
-    }
-    false
+    let names = OverridingNames::of_all(alloc, overriding)?;
+    included.retain(|component| !names.has(&component.component.name));
+    Ok(())
 }
 
-/// Whether both are the same name, or both are starts, which have none.
-fn same_name(one: &Option<String>, other: &Option<String>) -> bool
-    ensures { result ≡ schema.same_name (option_map (λ y. string_bytes y) one.now) (option_map (λ y. string_bytes y) other.now) }
-{
-    match one {
-        None => other.is_none(),
-        Some(one) => match other {
-            None => false,
-            Some(other) => one.as_str() == other.as_str(),
-        },
+/// The names of components that override others, and whether one of them is a start, which has none.
+#[derive(Drop)]
+struct OverridingNames<'a> {
+    defines: IndexSet<&'a str>,
+    has_start: bool,
+}
+
+impl<'a> OverridingNames<'a> {
+    /// Those of these components.
+    fn of_all(alloc: Global, overriding: &'a [GatheredComponent<'_>]) -> Result<Self, OutOfMemory>
+        ensures { IfOk result (λ names. (g : Gathered) → has_name names g.component.name ≡ is_overridden (map gathered_of overriding.now) g) }
+    {
+        let mut names = OverridingNames {
+            defines: IndexSet::new(alloc),
+            has_start: false,
+        };
+        for component in overriding {
+            names.add(&component.component.name)?;
+        }
+        Ok(names)
+    }
+
+    /// Adds the name of a component, or that there is a start.
+    fn add(&mut self, name: &'a Option<String>) -> Result<(), OutOfMemory>
+        ensures { OnOk result ((y : Option (List ℕ)) → has_name self.new y ≡ (has_name self.old y || same_name (option_map (λ n. string_bytes n) name.now) y)) }
+    {
+        match name {
+            Some(name) => {
+                note(&mut self.defines, name.as_str())?;
+                Ok(())
+            }
+            None => {
+                self.has_start = true;
+                Ok(())
+            }
+        }
+    }
+
+    /// Whether one of them has this name, or is a start where there is none.
+    fn has(&self, name: &Option<String>) -> bool
+        ensures { result ≡ has_name self.now (option_map (λ n. string_bytes n) name.now) }
+    {
+        match name {
+            Some(name) => self.defines.contains(name.as_str()),
+            None => self.has_start,
+        }
     }
 }

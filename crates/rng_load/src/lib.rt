@@ -1,4 +1,4 @@
-//! From the files of a schema to their trees, or to the first clause that they break.
+//! From the files of a schema to its grammars at their places, or to the first clause that the files break.
 #![tactic(auto)]
 
 mod component_names;
@@ -9,8 +9,12 @@ mod loading;
 mod mentioned;
 mod order;
 mod paths;
+mod put;
 mod reading;
 mod reading_names;
 mod reading_patterns;
+mod schema;
+mod schema_reader;
 
-pub use loading::{SchemaFiles, load_files};
+pub use loading::load;
+pub use schema::Schema;

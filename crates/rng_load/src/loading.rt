@@ -1,34 +1,21 @@
-// From the files that are handed in to those of the schema.
-ghost use Rattle.std.specs.Prelude.{◌≡◌, IfSome, option_map};
-ghost use Rattle.rnc_grammar.specs.View.{file_of};
-ghost use Rattle.rng_load.specs.FilesView.{files_of, named_files};
-ghost use Rattle.rng_load.specs.Loading.{IsTheFilesVerdict, tree_in};
-ghost use Rattle.rng_load.specs.LoadingFaults.{files_verdict_of};
+// From the files that are handed in to their schema.
+ghost use Rattle.std.specs.Prelude.{IfSome};
+ghost use Rattle.rng_load.specs.FilesView.{named_files};
+ghost use Rattle.rng_load.specs.LoadedSchema.{IsLoaded};
+ghost use Rattle.rng_load.specs.Loading.{IsTheFilesVerdict};
+ghost use Rattle.rng_load.specs.LoadingFaults.{reading_of};
 
 use crate::includes::breaks_includes;
 use crate::order::load_in_order;
 use crate::paths::breaks_mentions;
+use crate::schema::Schema;
+use crate::schema_reader::schema_of_files;
 use indexmap::IndexMap;
 use rnc_grammar::FileTree;
 use rng_model::SchemaFault;
 use std::alloc::Global;
 
-/// The files of a schema, each with its tree: the main one, and those that it mentions, directly or through others.
-#[derive(Drop)]
-pub struct SchemaFiles {
-    trees: IndexMap<String, FileTree>,
-}
-
-impl SchemaFiles {
-    /// The tree of the file of this name; `None` where it is none of these. Takes no memory.
-    pub fn tree(&self, name: &str) -> Option<&FileTree>
-        ensures { option_map (λ t. file_of t.now) result ≡ tree_in (files_of self.now) name.now }
-    {
-        self.trees.get(name)
-    }
-}
-
-/// The files of the schema whose main file has this name, among those that are handed in.
+/// The schema whose main file has this name, among the files that are handed in.
 ///
 /// The load order begins with the main file; then, for each file in load order, come the files that it mentions with
 /// `include` or `external`, wherever they stand, in the order of its tokens, each that is not there yet. The bytes
@@ -45,18 +32,34 @@ impl SchemaFiles {
 /// - else `Clause(10)` where an included file is no grammar, or an include overrides a start or a name of which the
 ///   included grammar has no component.
 ///
+/// Where none is broken, the schema is answered: the components of the main grammar, and of each that is nested in
+/// another. The main file inherits the empty namespace; a mention hands on the one that it names with `inherit`, else
+/// the default of its file. An include gives its grammar the components of its file without those of each name, and
+/// the starts, that its braces override, and then those of its braces. An external stands for the pattern of its
+/// file, and a file that is a grammar is one that is nested there.
+///
 /// `Memory` answers that there was no memory, and says nothing of the files. Each file is decoded and parsed once, in
 /// time in proportion to its bytes; for an include with braces, the components are looked at once that the two grammars
-/// have.
+/// have. Nothing is copied before the clauses are settled; then time and memory are in proportion to what stands at
+/// all places, each grammar with the way to it.
 ///
-/// RELAX NG Specification, sections 4.6 and 4.7 (that no mention loops, and what may be overridden); the order and the limits
-/// are of the profile (docs/LANGUAGE.md).
-pub fn load_files(
+/// RELAX NG Specification, sections 4.6, 4.7, 4.9, 4.11 and 4.18; the order and the limits are of the profile
+/// (docs/LANGUAGE.md).
+pub fn load(alloc: Global, files: &[(String, Vec<u8>)], main: &str) -> Result<Schema, SchemaFault>
+    ensures { IsLoaded (named_files files.now) main.now result }
+{
+    let trees = load_files(alloc, files, main)?;
+    let tree = trees.get(main).unwrap();
+    Ok(schema_of_files(alloc, &trees, tree)?)
+}
+
+/// The files of the schema, each with its tree, or the first clause that is broken.
+fn load_files(
     alloc: Global,
     files: &[(String, Vec<u8>)],
     main: &str,
-) -> Result<SchemaFiles, SchemaFault>
-    ensures { IfSome (files_verdict_of result) (IsTheFilesVerdict (named_files files.now) main.now) }
+) -> Result<IndexMap<String, FileTree>, SchemaFault>
+    ensures { IfSome (reading_of result) (IsTheFilesVerdict (named_files files.now) main.now) }
 {
     let trees = load_in_order(alloc, files, main)?;
     if breaks_mentions(alloc, &trees, main)? {
@@ -65,5 +68,5 @@ pub fn load_files(
     if breaks_includes(alloc, &trees)? {
         return Err(SchemaFault::Clause(10));
     }
-    Ok(SchemaFiles { trees })
+    Ok(trees)
 }

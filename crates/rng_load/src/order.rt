@@ -1,7 +1,5 @@
 // The files of a schema, in load order.
 ghost use Rattle.std.specs.Prelude.{◌≡◌, fold, map, string_bytes, IfOk, IfSome, OnOk};
-ghost use Rattle.std.specs.String.{string_eq};
-ghost use Rattle.indexmap.specs.IndexMap.{insert_entry};
 ghost use Rattle.rnc_grammar.specs.View.{file_of};
 ghost use Rattle.rng_load.specs.FilesView.{names_of, named_files, taken_files_of};
 ghost use Rattle.rng_load.specs.Loading.{hrefs_of, with_name};
@@ -9,6 +7,7 @@ ghost use Rattle.rng_load.specs.LoadingFaults.{IsNamedTree, IsTheReading, readin
 
 use crate::fault::FileFault;
 use crate::mentioned::hrefs;
+use crate::put::put;
 use crate::reading::tree_of_file;
 use indexmap::{IndexMap, IndexSet};
 use rnc_grammar::FileTree;
@@ -77,13 +76,5 @@ fn note(alloc: Global, names: &mut IndexSet<String>, name: &str) -> Result<(), O
     if !names.contains(name) {
         names.insert(String::from_str(alloc, name)?)?;
     }
-    Ok(())
-}
-
-/// Puts a value under this name, in the place of the one that is there.
-fn put<V: Drop>(map: &mut IndexMap<String, V>, name: String, value: V) -> Result<(), OutOfMemory>
-    ensures { OnOk result (map.new.entries ≡ insert_entry string_eq map.old.entries name value) }
-{
-    map.insert(name, value)?;
     Ok(())
 }

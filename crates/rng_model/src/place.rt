@@ -1,5 +1,5 @@
 // The way to a grammar.
-ghost use Rattle.std.specs.Prelude.{◌≡◌, ◌∷◌, [], reverse, IfOk};
+ghost use Rattle.std.specs.Prelude.{◌≡◌, [], reverse, IfOk};
 ghost use Rattle.rng_model.specs.SchemaView.{place_of};
 
 use crate::fault::OutOfMemory;
@@ -33,12 +33,10 @@ impl Place {
         })
     }
 
-    /// The place of the child with this number.
-    pub fn child(&self, alloc: Global, number: usize) -> Result<Place, OutOfMemory>
-        ensures { IfOk result (λ p. place_of p ≡ number ∷ place_of self.now) }
+    /// The numbers that lead to the place, the outermost first. Takes no memory.
+    pub fn numbers(&self) -> &[usize]
+        ensures { place_of self.now ≡ reverse result.now }
     {
-        let mut numbers = Vec::from_slice(alloc, self.numbers.as_slice())?;
-        numbers.push(number)?;
-        Ok(Place { numbers })
+        self.numbers.as_slice()
     }
 }

@@ -1,7 +1,8 @@
 mod AnswerLines
 mod LineCount
 pub mod ServedPatterns
-pub mod FilePatterns
+pub mod SchemaPatterns
+mod ServedSchema
 mod StringCuts
 mod DocumentLines
 mod LastAndFront

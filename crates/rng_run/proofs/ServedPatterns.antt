@@ -1,24 +1,40 @@
 -- What is served of members about a connector.
-use Rattle.std.proofs.Common.{◌≡◌, ℕ, List, ◌++◌, Option, Some, None, Err, refl}
-use Rattle.rng_model.specs.Tree.{Connector, interleave}
+use Rattle.std.proofs.Common.{◌≡◌, List, [], ◌∷◌, ◌++◌, Option, Some, None, Err, refl}
+use Rattle.rng_model.specs.Tree.{Connector, choice, group}
+use Rattle.rng_model.specs.Patterns as patterns
 use Rattle.rng_model.specs.Written as written
-use Rattle.rnc_grammar.specs.FileTree as tree
-use Rattle.rnc_grammar.specs.View as files
-use Rattle.rnc_grammar.specs.declared.file_tree.DatatypeName.{DatatypeName}
-use Rattle.rnc_grammar.specs.Declarations.{◌>>=◌}
-use Rattle.rng_run.specs.Fragment.{served}
+use Rattle.rng_model.specs.View.{pattern_of}
+use Rattle.rng_model.specs.declared.pattern.Pattern.{Pattern}
+use Rattle.rng_run.specs.Fragment.{◌>>=◌, served, served_members}
 use Rattle.rng_run.specs.FragmentFaults.{IsServed}
 use Rattle.rng_run.specs.declared.fragment.FragmentFault.{FragmentFault}
 use Rattle.rng_run.specs.declared.fragment.FragmentFault.TheVariants as faults
-use Rattle.rng_model.specs.View.{pattern_of}
-use Rattle.rng_model.specs.declared.pattern.Pattern.{Pattern}
 
-pub interleave_is_none : (ps : List tree.Pattern) → served (tree.members interleave ps) ≡ None
-interleave_is_none ps = refl
+one_member : (k : Connector) (a : Option written.Pattern) →
+    a ≡ ((a >>= λ p. Some [] >>= λ all. Some (p ∷ all)) >>= λ all. Some (written.members k all))
+one_member k None = refl
+one_member k (Some p) = refl
 
-pub data_is_none : (d : DatatypeName) (ps : List (List ℕ × List ℕ)) (except : Option tree.Pattern) → served (files.data_of d ps except) ≡ None
-data_is_none d ps None = refl
-data_is_none d ps (Some p) = refl
+two_members : (k : Connector) (a b : Option written.Pattern) (rest : Option (List written.Pattern)) →
+    (a >>= λ p. b >>= λ q. rest >>= λ more. Some (written.members k (p ∷ (q ∷ more)))) ≡
+    ((a >>= λ p. (b >>= λ q. rest >>= λ all. Some (q ∷ all)) >>= λ all. Some (p ∷ all)) >>= λ all. Some (written.members k all))
+two_members k None b rest = refl
+two_members k (Some p) None rest = refl
+two_members k (Some p) (Some q) None = refl
+two_members k (Some p) (Some q) (Some more) = refl
+
+-- members are served where each of them is, however many there are
+pub served_group : (ps : List patterns.Pattern) →
+    served (patterns.members group ps) ≡ (served_members (patterns.patterns_of ps) >>= λ all. Some (written.members group all))
+served_group [] = refl
+served_group (p ∷ []) = one_member group (served p)
+served_group (p ∷ (q ∷ ps)) = two_members group (served p) (served q) (served_members (patterns.patterns_of ps))
+
+pub served_choice : (ps : List patterns.Pattern) →
+    served (patterns.members choice ps) ≡ (served_members (patterns.patterns_of ps) >>= λ all. Some (written.members choice all))
+served_choice [] = refl
+served_choice (p ∷ []) = one_member choice (served p)
+served_choice (p ∷ (q ∷ ps)) = two_members choice (served p) (served q) (served_members (patterns.patterns_of ps))
 
 -- these members, and then those
 abbrev pub after : List written.Pattern → Option (List written.Pattern) → Option (List written.Pattern)

@@ -1,4 +1,4 @@
--- What the calls that take a file's tree to a pattern answer.
+-- What the calls that take a schema to a pattern answer.
 use Rattle.std.specs.Prelude.{◌≡◌, Result, Ok, Err, Option, Some, None}
 use Rattle.rng_run.specs.declared.fragment.FragmentFault.{FragmentFault}
 use Rattle.rng_run.specs.declared.fragment.FragmentFault.TheVariants.{NotServed, Memory}

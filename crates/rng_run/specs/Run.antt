@@ -3,11 +3,12 @@ use Rattle.std.specs.Prelude.{◌≡◌, ℕ, List, [], ◌∷◌, take, Option,
 use Rattle.std.specs.Io.KnownBytes.{Appends, Consumes, IsAtEnd, Keeps}
 use Rattle.rng_model.specs.Texts.{TextTests, texts_of}
 use Rattle.rng_model.specs.Written.{Pattern, IsValidWritten}
-use Rattle.rnc_grammar.specs.FileTree.{FileTree}
+use Rattle.rng_model.specs.Schema.{Schema}
 use Rattle.rng_run.specs.Answer.{Answer, refused, refused_file, judged, line_of, status_of}
-use Rattle.rng_load.specs.Loading.{FilesVerdict, file_breaks, together_break, are_taken, IsTheFilesVerdict, tree_in}
+use Rattle.rng_load.specs.Loading.{TakenFiles, FilesVerdict, file_breaks, together_break, are_taken, IsTheFilesVerdict}
+use Rattle.rng_load.specs.LoadedSchema.{AreSchema}
 use Rattle.rng_load.specs.SchemaFile.{NamedFile}
-use Rattle.rng_run.specs.Fragment.{served_file}
+use Rattle.rng_run.specs.Fragment.{served_schema}
 use Rattle.rng_run.specs.Verdict.{IsOnlyVerdict, IsVerdict}
 use Rattle.rng_run.specs.declared.answer.Status.{Status}
 use Rattle.rng_run.specs.declared.answer.Verdict.{Verdict}
@@ -31,29 +32,34 @@ pub record IsJudged (p : Pattern) (verdict : Verdict) (input_old input_new : Opt
   pub verdict_is : (tests : TextTests) → IsVerdict (IsValidWritten (texts_of tests) p) document verdict
   pub only : (tests : TextTests) → IsOnlyVerdict (IsValidWritten (texts_of tests) p) document verdict
 
--- the pattern by which the command judges a document, where the main file has this tree: `check` judges none
-abbrev pub pattern_by : Command → Option FileTree → Option Pattern
-pattern_by Valid None = None
-pattern_by Valid (Some t) = served_file t
-pattern_by Check t = None
+-- no document is judged where the files, of which the main one has this name, are taken: `check` judges none, and no more does `valid` by a schema
+-- that is not served
+abbrev pub JudgesNoneBy : Command → List ℕ → TakenFiles → Type 0
+JudgesNoneBy Valid main read = (s : Schema) × AreSchema read main s × (served_schema s ≡ None)
+JudgesNoneBy Check main read = Unit {0}
 
 -- no document is judged where this is the verdict on the files, of which the main one has this name
 abbrev pub JudgesNone : Command → List ℕ → FilesVerdict → Type 0
 JudgesNone command main (file_breaks f clause) = Unit {0}
 JudgesNone command main (together_break clause) = Unit {0}
-JudgesNone command main (are_taken read) = pattern_by command (tree_in read main) ≡ None
+JudgesNone command main (are_taken read) = JudgesNoneBy command main read
 
 -- the answer where a document is judged by this pattern, or where by none: then the schema is outside what is served
 abbrev pub IsAnswerBy : Option Pattern → Option (List ℕ) → Option (List ℕ) → Answer → Type 0
 IsAnswerBy None input_old input_new answer = answer ≡ refused 0
 IsAnswerBy (Some p) input_old input_new answer = (verdict : Verdict) × (answer ≡ judged verdict) × IsJudged p verdict input_old input_new
 
--- The answer for files of this verdict: a broken clause is told, with the name of the file that breaks it by itself; else it is that of the main
--- file's tree.
+-- the answer where the files, of which the main one has this name, are taken: for `check` that no more is judged yet, for `valid` that by their schema
+abbrev pub IsAnswerOver : Command → List ℕ → TakenFiles → Option (List ℕ) → Option (List ℕ) → Answer → Type 0
+IsAnswerOver Valid main read input_old input_new answer = (s : Schema) × AreSchema read main s × IsAnswerBy (served_schema s) input_old input_new answer
+IsAnswerOver Check main read input_old input_new answer = answer ≡ refused 0
+
+-- The answer for files of this verdict: a broken clause is told, with the name of the file that breaks it by itself; else it is that of the schema
+-- that the files are.
 abbrev pub IsAnswerTo : Command → List ℕ → FilesVerdict → Option (List ℕ) → Option (List ℕ) → Answer → Type 0
 IsAnswerTo command main (file_breaks f clause) input_old input_new answer = answer ≡ refused_file clause f
 IsAnswerTo command main (together_break clause) input_old input_new answer = answer ≡ refused clause
-IsAnswerTo command main (are_taken read) input_old input_new answer = IsAnswerBy (pattern_by command (tree_in read main)) input_old input_new answer
+IsAnswerTo command main (are_taken read) input_old input_new answer = IsAnswerOver command main read input_old input_new answer
 
 -- the answer follows from the verdict on the files, which is the only one
 pub record IsAnswer (command : Command) (files : List NamedFile) (main : List ℕ) (input_old input_new : Option (List ℕ)) (answer : Answer) : Type 0 where

@@ -2,8 +2,9 @@
 //! NAME` or `refused Sk`.
 //!
 //! `run` reads the files that the first one reaches and the document, names the first clause that the files break or
-//! judges the document by the main file's pattern, and writes the line, whatever the bytes are and however the reader
-//! cuts them. It answers only where no device failed, and after a fault no more than a beginning of a line was written.
+//! judges the document by the start of their main grammar, and writes the line, whatever the bytes are and however the
+//! reader cuts them. It answers only where no device failed, and after a fault no more than a beginning of a line was
+//! written.
 #![tactic(auto)]
 
 mod answer;

@@ -1,22 +1,21 @@
 // From files and a document to one line.
-ghost use Rattle.std.specs.Prelude.{◌≡◌, ◌-◌, ◌^◌, ◌<◌, length, None, IfOk, IfErr, OnOk, IsErrOf, option_map};
+ghost use Rattle.std.specs.Prelude.{◌≡◌, ◌-◌, ◌^◌, ◌<◌, length, None, IfOk, IfErr, OnOk, IsErrOf};
 ghost use Rattle.rng_model.specs.Device.{device_inner, device_failures};
 ghost use Rattle.rng_run.specs.Answer.{status_of};
 ghost use Rattle.rng_run.specs.AnswerView.{answer_of};
-ghost use Rattle.rnc_grammar.specs.View.{file_of};
 ghost use Rattle.rng_load.specs.FilesView.{named_files};
 ghost use Rattle.rng_load.specs.Loading.{FilesVerdict, IsTheFilesVerdict};
-ghost use Rattle.rng_run.specs.Run.{IsAnswer, IsAnswerBy, JudgesNone, WritesLine, WrittenAfter, main_name, pattern_by};
-ghost use Rattle.rng_run.specs.Compiled.{IsCompiled};
+ghost use Rattle.rng_load.specs.PlacedGrammars.{schema_of};
+ghost use Rattle.rng_run.specs.Run.{IsAnswer, IsAnswerBy, JudgesNone, WritesLine, WrittenAfter, main_name};
+ghost use Rattle.rng_run.specs.Compiled.{IsCompiled, pattern_by};
 
 use crate::answer::{Answer, Status};
-use crate::fragment::{FragmentFault, pattern_of_file};
+use crate::fragment::{FragmentFault, pattern_of_schema};
 use crate::judging::document_verdict;
 use crate::streams::{StreamFault, read_whole, write_whole};
-use rnc_grammar::FileTree;
-use rng_load::load_files;
+use rng_load::{Schema, load};
 use rng_model::{Device, OutOfMemory, SchemaFault, SimpleGrammar};
-use rng_simple::{Schema, simplify};
+use rng_simple::simplify;
 use std::alloc::Global;
 use std::io::{Read, Write};
 
@@ -44,14 +43,14 @@ pub enum RunFault {
 /// line.
 ///
 /// The line is `refused Sk file NAME` where a file breaks a clause by itself, with the first such file in load order
-/// and the clause that it breaks first, 1 to 8; else `refused S9` or `refused S10` where the files break that together, S9 before S10;
-/// else, for `Check`, and for `Valid` where the schema is outside what is served, `refused S0`; and else `valid`,
-/// `invalid line N` or `malformed Pk line N`, as the definition says for the document that `input` has left and the
-/// pattern of the main file's tree. A line feed ends it. A refused schema leaves the input unread; the bytes of
-/// files that are not reached from the main one are not looked at. `RunFault::Read` and `RunFault::Write` come only where that device
-/// counted a failed call, `RunFault::Memory` only where neither did; after `Read` and `Memory` nothing was written,
-/// after `Write` a beginning of the line was. The files and the document are kept whole; time is what `load_files`
-/// takes, and then what `simplify` and `is_valid` take.
+/// and the clause that it breaks first, 1 to 8; else `refused S9` or `refused S10` where the files break that together,
+/// S9 before S10; else `refused S0` for `Check`, and for `Valid` where the main grammar of their schema is not one plain
+/// start of what is served; and else `valid`, `invalid line N` or `malformed Pk line N`, as the definition says for the
+/// document that `input` has left and the pattern of that start. A line feed ends it. A refused schema leaves the input
+/// unread; the bytes of files that are not reached from the main one are not looked at. `RunFault::Read` and
+/// `RunFault::Write` come only where that device counted a failed call, `RunFault::Memory` only where neither did; after
+/// `Read` and `Memory` nothing was written, after `Write` a beginning of the line was. The files and the document are
+/// kept whole; time is what `load` takes, and then what `simplify` and `is_valid` take.
 pub fn run<R: Read, W: Write>(
     alloc: Global,
     command: Command,
@@ -119,30 +118,30 @@ fn answer_for<R: Read>(
     ensures no_write { IsErrOf result RunFault.Write → ⊥ }
     ensures answer { IfOk result (λ answer. IsAnswer command (named_files files.now) main.now (R.remaining (device_inner input.old)) (R.remaining (device_inner input.new)) (answer_of answer)) }
 {
-    match load_files(alloc, files, main) {
-        Ok(schema_files) => answer_by(alloc, command, schema_files.tree(main), input),
+    match load(alloc, files, main) {
+        Ok(schema) => answer_by(alloc, command, &schema, input),
         Err(SchemaFault::File { clause, name }) => Ok(Answer::RefusedFile { clause, name }),
         Err(SchemaFault::Clause(clause)) => Ok(Answer::Refused(clause)),
         Err(SchemaFault::Memory) => Err(RunFault::Memory),
     }
 }
 
-/// What is to be said of the document by a schema whose main file has this tree.
+/// What is to be said of the document by a schema.
 fn answer_by<R: Read>(
     alloc: Global,
     command: Command,
-    tree: Option<&FileTree>,
+    schema: &Schema,
     input: &mut Device<R>,
 ) -> Result<Answer, RunFault>
     requires { device_failures input.old < 2 ^ 64 - 1 }
     ensures calm { OnOk result (device_failures input.new ≡ device_failures input.old) }
-    ensures unread { pattern_by command (option_map (λ t. file_of t.now) tree.entry) ≡ None → input.new ≡ input.old }
+    ensures unread { pattern_by command (schema_of schema.now) ≡ None → input.new ≡ input.old }
     ensures read { IsErrOf result RunFault.Read → device_failures input.old < device_failures input.new }
     ensures memory { IsErrOf result RunFault.Memory → device_failures input.new ≡ device_failures input.old }
     ensures no_write { IsErrOf result RunFault.Write → ⊥ }
-    ensures answer { IfOk result (λ answer. IsAnswerBy (pattern_by command (option_map (λ t. file_of t.now) tree.entry)) (R.remaining (device_inner input.old)) (R.remaining (device_inner input.new)) (answer_of answer)) }
+    ensures answer { IfOk result (λ answer. IsAnswerBy (pattern_by command (schema_of schema.now)) (R.remaining (device_inner input.old)) (R.remaining (device_inner input.new)) (answer_of answer)) }
 {
-    let grammar = match compiled(alloc, command, tree) {
+    let grammar = match compiled(alloc, command, schema) {
         Ok(Some(grammar)) => grammar,
         Ok(None) => return Ok(Answer::Refused(0)),
         Err(OutOfMemory) => return Err(RunFault::Memory),
@@ -162,16 +161,16 @@ fn answer_by<R: Read>(
 fn compiled(
     alloc: Global,
     command: Command,
-    tree: Option<&FileTree>,
+    schema: &Schema,
 ) -> Result<Option<SimpleGrammar>, OutOfMemory>
-    ensures { IfOk result (IsCompiled (pattern_by command (option_map (λ t. file_of t.now) tree.entry))) }
+    ensures { IfOk result (IsCompiled (pattern_by command (schema_of schema.now))) }
 {
-    match (command, tree) {
-        (Command::Valid, Some(tree)) => match pattern_of_file(alloc, tree) {
-            Ok(pattern) => Ok(Some(simplify(alloc, &Schema::single(pattern))?)),
+    match command {
+        Command::Valid => match pattern_of_schema(alloc, schema) {
+            Ok(pattern) => Ok(Some(simplify(alloc, &pattern)?)),
             Err(FragmentFault::NotServed) => Ok(None),
             Err(FragmentFault::Memory) => Err(OutOfMemory),
         },
-        (Command::Valid, None) | (Command::Check, _) => Ok(None),
+        Command::Check => Ok(None),
     }
 }

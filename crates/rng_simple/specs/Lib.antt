@@ -1,4 +1,3 @@
-pub mod Schema
 pub mod GrammarBuilder
 pub mod Simplified
 pub mod SimpleOf

@@ -12,13 +12,11 @@ ghost use Rattle.rng_model.specs.View.{pattern_of};
 ghost use Rattle.rng_model.specs.Written.{members};
 ghost use Rattle.rng_simple.specs.GrammarBuilder.{Extends, AreTables, cut};
 ghost use Rattle.rng_simple.specs.Representation.{Represents};
-ghost use Rattle.rng_simple.specs.Schema.{start_of};
 ghost use Rattle.rng_simple.specs.Simplified.{IsCutOrKept, IsSimplified, Keeps, simplified_tree};
 ghost use Rattle.rng_simple.specs.SimpleOf.{join};
 
 use crate::grammar_builder::{GrammarBuilder, Mark};
 use crate::name_class::nested;
-use crate::schema::Schema;
 use rng_model::{OutOfMemory, Pattern, PatternId, Simple, SimpleGrammar};
 use std::alloc::Global;
 
@@ -31,20 +29,20 @@ pub enum Simplified {
     Pattern(PatternId),
 }
 
-/// The simple form of a schema, by the rules of sections 4.12 to 4.15, 4.20 and 4.21 of the RELAX NG Specification.
+/// The simple form of a pattern, by the rules of sections 4.12 to 4.15, 4.20 and 4.21 of the RELAX NG Specification.
 ///
-/// The answer is in the simple syntax of section 5, it is the only simple form of the schema, up to the numbers of its
-/// elements, and a document is valid by it exactly if it is valid by the schema as written. Elements that the start
-/// does not reach are not in it. The only fault is want of memory. Takes time and memory in proportion to the schema,
+/// The answer is in the simple syntax of section 5, it is the only simple form of the pattern, up to the numbers of its
+/// elements, and a document is valid by it exactly if it is valid by the pattern as written. Elements that the start
+/// does not reach are not in it. The only fault is want of memory. Takes time and memory in proportion to the pattern,
 /// and recurses as deep as it nests.
-pub fn simplify(alloc: Global, schema: &Schema) -> Result<SimpleGrammar, OutOfMemory>
+pub fn simplify(alloc: Global, pattern: &Pattern) -> Result<SimpleGrammar, OutOfMemory>
     ensures syntax { IfOk result (λ g. IsInSimpleSyntax (grammar_of g)) }
-    ensures simple_form { IfOk result (λ g. IsSimpleGrammarOf (start_of schema.now) (grammar_of g)) }
-    ensures only { IfOk result (λ g. IsOnlySimpleGrammarOf (start_of schema.now) (grammar_of g)) }
-    ensures documents { IfOk result (λ g. AreSameDocuments (start_of schema.now) (grammar_of g)) }
+    ensures simple_form { IfOk result (λ g. IsSimpleGrammarOf (pattern_of pattern.now) (grammar_of g)) }
+    ensures only { IfOk result (λ g. IsOnlySimpleGrammarOf (pattern_of pattern.now) (grammar_of g)) }
+    ensures documents { IfOk result (λ g. AreSameDocuments (pattern_of pattern.now) (grammar_of g)) }
 {
     let mut builder = GrammarBuilder::new(alloc);
-    let start = simplify_pattern(alloc, &mut builder, schema.pattern())?;
+    let start = simplify_pattern(alloc, &mut builder, pattern)?;
     let start = placed(&mut builder, start)?;
     Ok(builder.finish(start))
 }

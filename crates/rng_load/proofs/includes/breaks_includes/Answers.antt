@@ -13,7 +13,8 @@ returns-then-branch c =
     let all : c.as_slice-tree-items.result.now ≡ values_of c.args.trees.now.entries = c.as_slice-tree-items.ensures ∙ c.values.ensures.rest in (
       λ t. of_a_tree c.args.trees.now.entries (HasBrokenInclude (taken_files_of c.args.trees.now)) (subst (λ ts. OneOf (HasBrokenInclude
           (taken_files_of c.args.trees.now)) (map file_of ts)) all
-          (met (HasBrokenInclude (taken_files_of c.args.trees.now)) file_of c.as_slice-tree-items.result.now c.loop-tree.tree-index within c.tree-item.result c.tree-item.result c.tree-item.is
+          (met (HasBrokenInclude (taken_files_of c.args.trees.now)) file_of c.as_slice-tree-items.result.now c.loop-tree.tree-index within
+          c.tree-item.result c.tree-item.result c.tree-item.is
           (c.in_ok-has_broken_include.ensures.0 c.if-branch.true))),
       λ b. refl,
     )
@@ -21,7 +22,8 @@ returns-then-branch c =
 pub loop-tree-preserved : goal.loop-tree-preserved
 loop-tree-preserved c =
     let within : c.loop-tree.tree-index < length c.as_slice-tree-items.result.now = search rules in
-    passed (HasBrokenInclude (taken_files_of c.args.trees.now)) file_of c.as_slice-tree-items.result.now c.loop-tree.tree-index within c.tree-item.result c.tree-item.result c.tree-item.is
+    passed (HasBrokenInclude (taken_files_of c.args.trees.now)) file_of c.as_slice-tree-items.result.now c.loop-tree.tree-index within
+    c.tree-item.result c.tree-item.result c.tree-item.is
     c.loop-tree.invariant (λ b. is_not c.if-branch.false (c.in_ok-has_broken_include.ensures.1 b))
 
 pub returns : goal.returns

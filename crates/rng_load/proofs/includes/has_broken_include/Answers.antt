@@ -13,7 +13,8 @@ returns-then-branch c =
     let all : map mentioned_file_of c.deref-file-items.result.now ≡ mentions_of (file_of c.args.tree.now) = ap
     (map mentioned_file_of) c.deref-file-items.ensures.value ∙ c.in_ok-mentioned.ensures in (
       λ t. subst (OneOf (IsBrokenInclude (taken_files_of c.args.trees.now))) all
-          (met (IsBrokenInclude (taken_files_of c.args.trees.now)) mentioned_file_of c.deref-file-items.result.now c.loop-file.file-index within c.file-item.result c.file-item.result c.file-item.is
+          (met (IsBrokenInclude (taken_files_of c.args.trees.now)) mentioned_file_of c.deref-file-items.result.now c.loop-file.file-index within
+          c.file-item.result c.file-item.result c.file-item.is
           (c.in_ok-is_broken.ensures.0 c.if-branch.true)),
       λ b. refl,
     )
@@ -21,5 +22,6 @@ returns-then-branch c =
 pub loop-file-preserved : goal.loop-file-preserved
 loop-file-preserved c =
     let within : c.loop-file.file-index < length c.deref-file-items.result.now = search rules in
-    passed (IsBrokenInclude (taken_files_of c.args.trees.now)) mentioned_file_of c.deref-file-items.result.now c.loop-file.file-index within c.file-item.result c.file-item.result c.file-item.is
+    passed (IsBrokenInclude (taken_files_of c.args.trees.now)) mentioned_file_of c.deref-file-items.result.now c.loop-file.file-index within
+    c.file-item.result c.file-item.result c.file-item.is
     c.loop-file.invariant (λ b. is_not c.if-branch.false (c.in_ok-is_broken.ensures.1 b))

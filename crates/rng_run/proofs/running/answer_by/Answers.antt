@@ -1,12 +1,12 @@
-use Rattle.std.proofs.Common.{ℕ, List, Option, Some, None, refl, subst, option_map}
+use Rattle.std.proofs.Common.{ℕ, List, Option, Some, None, refl, subst}
 use Rattle.std.specs.Io.KnownBytes.{Consumes, IsAtEnd}
 use Rattle.rng_model.specs.Table.{Table, grammar_of, IsValidBy}
 use Rattle.rng_model.specs.Texts.{TextTests, texts_of}
 use Rattle.rng_model.specs.Written.{Pattern}
-use Rattle.rnc_grammar.specs.View.{file_of}
+use Rattle.rng_load.specs.PlacedGrammars.{schema_of}
 use Rattle.rng_run.specs.Answer.{judged}
-use Rattle.rng_run.specs.Compiled.{IsCompiled}
-use Rattle.rng_run.specs.Run.{IsAnswerBy, pattern_by}
+use Rattle.rng_run.specs.Compiled.{IsCompiled, pattern_by}
+use Rattle.rng_run.specs.Run.{IsAnswerBy}
 use Rattle.rng_run.specs.Verdict.{IsVerdict}
 use Rattle.rng_run.specs.declared.answer.Verdict.{Verdict}
 use Rattle.rng_run.proofs.DocumentVerdict.{one_verdict, same_verdict}
@@ -31,6 +31,6 @@ judged_by (Some p) g old new document verdict same read end is = (
 
 pub returns-in-Ok-document_verdict-clause-answer : goal.returns-in-Ok-document_verdict-clause-answer
 returns-in-Ok-document_verdict-clause-answer g c =
-    let compiled = subst (IsCompiled (pattern_by c.args.command (option_map (λ t. file_of t.now) c.args.tree))) c.in-Ok-Some.field-0-is c.in-Ok-Some.ensures in
+    let compiled = subst (IsCompiled (pattern_by c.args.command (schema_of c.args.schema.now))) c.in-Ok-Some.field-0-is c.in-Ok-Some.ensures in
     judged_by _ _ _ _ _ _ compiled c.in-Ok.ensures.bytes c.in-Ok.ensures.end
     (λ tests. rw c.as_slice.ensures.value at c.in-Ok-document_verdict.ensures.verdict tests)

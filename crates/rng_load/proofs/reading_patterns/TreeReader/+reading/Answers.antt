@@ -46,9 +46,11 @@ members-loop-number-preserved t c =
     let files = files_in c.args.self in
     let child = c.in_ok-child.ensures in
     let way = c.loop-number.invariant.same_way in
-    let grown : map schema_pattern_of c.push.new.self.items ≡ map schema_pattern_of c.loop-number.members.items ++ schema_pattern_of c.in_ok-child.field-0 ∷ [] =
+    let grown : map schema_pattern_of c.push.new.self.items
+    ≡ map schema_pattern_of c.loop-number.members.items ++ schema_pattern_of c.in_ok-child.field-0 ∷ [] =
     ap (map schema_pattern_of) c.in_ok-push.ensures.items ∙ map_push schema_pattern_of c.loop-number.members.items c.in_ok-child.field-0 in
-    let here = ap (λ numbers. read_at files c.args.levels c.args.uri.now (c.loop-number.number ∷ reverse numbers) (pattern_of c.index-patterns-number.result)) way in
+    let here =
+    ap (λ numbers. read_at files c.args.levels c.args.uri.now (c.loop-number.number ∷ reverse numbers) (pattern_of c.index-patterns-number.result)) way in
     record {
       same_way = child.way ∙ way;
       read = goes_on pattern_of c.args.patterns.now c.loop-number.number c.index-patterns-number.result (map schema_pattern_of c.loop-number.members.items)

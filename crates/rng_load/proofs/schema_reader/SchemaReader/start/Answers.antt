@@ -1,0 +1,18 @@
+use Rattle.std.proofs.Common.{◌≡◌, ◌∙◌, rules, ap, sym, map, reverse, [], ◌∷◌, ◌++◌, None}
+use Rattle.rng_model.specs.declared.method.Method.TheVariants as methods
+use Rattle.rnc_grammar.specs.View.{pattern_of}
+use Rattle.rng_load.specs.GatheredComponents.{gathered_of}
+use Rattle.rng_load.specs.MentionPaths.{path_limit}
+use Rattle.rng_load.specs.PlainReading.{gathered_as, read_at}
+use Rattle.rng_load.specs.ReadPatterns.{files_in}
+use Rattle.rng_load.proofs.SchemaRead.{only_start}
+use Rattle.rng_load.proofs.schema_reader.SchemaReader.start.Goals as goal
+
+pub returns : goal.returns
+returns c =
+    let files = files_in c.args.self.trees in
+    let none : c.new-all.result.items ≡ [] = search rules in
+    let way : c.in_ok-way.way.items ≡ 0 ∷ [] = search rules in
+    ap (map gathered_of) (c.in_ok-push.ensures.items ∙ ap (λ es. es ++ c.in_ok-start.start ∷ []) none) ∙ ap (λ g. g ∷ []) (c.in_ok-start.ensures.gathered
+    ∙ ap (λ numbers. gathered_as None methods.Plain (read_at files path_limit [] (reverse numbers) (pattern_of c.args.pattern.now))) way)
+    ∙ sym (only_start files (pattern_of c.args.pattern.now))

@@ -1,0 +1,28 @@
+use Rattle.std.proofs.Common.{◌≡◌, ◌∙◌, ap, sym, map, [], ◌∷◌, ◌++◌, append_assoc, append-nil, List}
+use Rattle.std.proofs.lemmas.List.{map-append}
+use Rattle.std.specs.Vec.Iter.{into_iter_items}
+use Rattle.rng_model.specs.SchemaView.{schema_component_of}
+use Rattle.rng_load.specs.FoundGrammars.{nested_in}
+use Rattle.rng_load.specs.GatheredComponents.{gathered_of}
+use Rattle.rng_load.specs.Places.{Gathered}
+use Rattle.rng_load.specs.ReadPatterns.{nested_of}
+use Rattle.rng_load.proofs.PlacesApart.{nested_in_both}
+use Rattle.rng_load.proofs.schema_reader.parted.Goals as goal
+
+nested_last : (gs : List Gathered) (g : Gathered) → nested_in (gs ++ g ∷ []) ≡ nested_in gs ++ g.nested
+nested_last gs g = nested_in_both gs (g ∷ []) ∙ ap (λ ns. nested_in gs ++ ns) (append-nil g.nested)
+
+pub loop-gathered-preserved : goal.loop-gathered-preserved
+loop-gathered-preserved c =
+    let at = c.loop-gathered in
+    let g = c.in-Some.gathered in
+    let steps : into_iter_items at.gathered-iterator ≡ g ∷ into_iter_items c.next.new.self = c.in-Some.ensures.steps.0 in
+    let seen = map-append gathered_of at.yielded (g ∷ []) in (
+      append_assoc at.yielded (g ∷ []) _ ∙ rw (← steps) at.invariant.0,
+      ap (map schema_component_of) c.in_ok-push.ensures.items ∙ map-append schema_component_of at.components.items (g.component ∷ [])
+          ∙ ap (λ cs. cs ++ schema_component_of g.component ∷ []) at.invariant.1 ∙ sym (map-append (λ g. g.component) (map gathered_of at.yielded)
+          (gathered_of g ∷ [])) ∙ ap (map (λ g. g.component)) (sym seen),
+      ap (map nested_of) c.in_ok-append.ensures.items ∙ map-append nested_of at.nested.items g.grammars.items
+          ∙ ap (λ ns. ns ++ map nested_of g.grammars.items) at.invariant.2 ∙ sym (nested_last (map gathered_of at.yielded) (gathered_of g))
+          ∙ ap nested_in (sym seen),
+    )

@@ -1,0 +1,12 @@
+use Rattle.std.proofs.Common.{◌≡◌, ◌++◌, map}
+use Rattle.std.specs.Vec.Iter.{into_iter_items}
+use Rattle.rng_model.specs.SchemaView.{schema_component_of}
+use Rattle.rng_load.specs.FoundGrammars.{nested_in}
+use Rattle.rng_load.specs.GatheredComponents.{gathered_of}
+use Rattle.rng_load.specs.ReadPatterns.{nested_of}
+use Rattle.rng_load.proofs.schema_reader.parted.Given as goal
+
+abbrev pub invariant-loop-gathered : goal.invariant-loop-gathered
+invariant-loop-gathered l = (l.yielded ++ into_iter_items l.gathered-iterator ≡ l.fn.all.items)
+    × (map schema_component_of l.components.items ≡ map (λ g. g.component) (map gathered_of l.yielded))
+    × (map nested_of l.nested.items ≡ nested_in (map gathered_of l.yielded))

@@ -1,0 +1,59 @@
+// A schema: its grammars at their places.
+ghost use Rattle.std.specs.Prelude.{◌≡◌, map, option_map};
+ghost use Rattle.rng_model.specs.SchemaView.{place_of, schema_component_of};
+ghost use Rattle.rng_load.specs.PlacedGrammars.{schema_of};
+
+use indexmap::IndexMap;
+use rng_model::{Component, Place};
+
+/// A grammar of a schema: its components, and the place of the grammar around it.
+#[derive(Drop)]
+pub(crate) struct Grammar {
+    pub components: Vec<Component>,
+    pub outer: Option<Place>,
+}
+
+/// A schema of one or more files: the components of the grammar at each place. Every mention of a file is followed, every name has its namespace, and
+/// what an include overrides is left out.
+///
+/// RELAX NG Specification, sections 4.6, 4.7, 4.9, 4.11 and 4.18.
+#[derive(Drop)]
+pub struct Schema {
+    pub(crate) main: Place,
+    pub(crate) grammars: IndexMap<Place, Grammar>,
+}
+
+impl Schema {
+    /// The place of the grammar of the main file. Takes no memory.
+    pub fn main(&self) -> &Place
+        ensures { place_of result.now ≡ (schema_of self.now).main }
+    {
+        &self.main
+    }
+
+    /// The components of the grammar at a place, in order, those of included files among them; `None` where no grammar is at that place. Takes no
+    /// memory.
+    ///
+    /// RELAX NG Specification, sections 4.7 and 4.11.
+    pub fn components(&self, place: &Place) -> Option<&[Component]>
+        ensures { option_map (λ cs. map schema_component_of cs.now) result ≡ (schema_of self.now).components (place_of place.now) }
+    {
+        match self.grammars.get(place) {
+            Some(grammar) => Some(grammar.components.as_slice()),
+            None => None,
+        }
+    }
+
+    /// The place of the grammar around the one at a place; `None` where that is the main one, and where no grammar is at that place. Takes
+    /// no memory.
+    ///
+    /// RELAX NG Specification, section 4.18.
+    pub fn outer(&self, place: &Place) -> Option<&Place>
+        ensures { option_map (λ p. place_of p.now) result ≡ (schema_of self.now).outer (place_of place.now) }
+    {
+        match self.grammars.get(place) {
+            Some(grammar) => grammar.outer.as_ref(),
+            None => None,
+        }
+    }
+}

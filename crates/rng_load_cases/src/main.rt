@@ -1,0 +1,81 @@
+//! Prints what `rng_load` answers for the files in the rows of `files.txt`: the clause that is broken, with the file that breaks
+//! it alone, or the schema.
+//!
+//! A row has what is asked for, and files: the name of each, a text, and how often the text stands in it. The first is the main
+//! one. Asked for is `schema`, all grammars from the main one on, each before those that are nested in it, in the order in which
+//! they stand; or a place, what is there. Of a grammar the place is printed, the place of the grammar around it, and then each
+//! component on a line of its own.
+#![tactic(auto)]
+
+mod grammars;
+mod nested;
+mod patterns;
+
+use case_rows::{Row, rows};
+use grammars::{print_grammar, print_grammars};
+use rng_load::{Schema, load};
+use rng_model::{OutOfMemory, Place, SchemaFault};
+use std::alloc::Global;
+use std::io;
+
+fn main(rt: HostRuntime) -> io::Result<()> {
+    for row in rows(&rt, "files.txt")? {
+        print_answer(&rt, &row)?;
+    }
+    Ok(())
+}
+
+/// Prints what is asked for of the schema of a row, or why its files are none.
+fn print_answer(rt: &(impl Print + AllocGlobal), row: &Row) -> io::Result<()> {
+    let files = files_of(rt.alloc(), row)?;
+    match load(rt.alloc(), files.as_slice(), row.text(1)?) {
+        Ok(schema) => print_asked(rt, &schema, row.text(0)?),
+        Err(SchemaFault::File { clause, name }) => println!(rt; "S{clause} {name}"),
+        Err(SchemaFault::Clause(clause)) => println!(rt; "S{clause}"),
+        Err(SchemaFault::Memory) => println!(rt; "out of memory"),
+    }
+}
+
+/// Prints all grammars of a schema, or what is at a place.
+fn print_asked(rt: &(impl Print + AllocGlobal), schema: &Schema, asked: &str) -> io::Result<()> {
+    if asked == "schema" {
+        return print_grammars(rt, schema);
+    }
+    let numbers = numbers_of(rt.alloc(), asked)?;
+    match Place::from_outermost(rt.alloc(), numbers.as_slice()) {
+        Ok(place) => print_grammar(rt, schema, &place),
+        Err(OutOfMemory) => println!(rt; "out of memory"),
+    }
+}
+
+/// The numbers of a place, each behind a `/`.
+fn numbers_of(alloc: Global, place: &str) -> io::Result<Vec<usize>> {
+    let mut numbers = Vec::new(alloc);
+    for written in place.split('/') {
+        if let Ok(number) = written.parse() {
+            numbers.push(number)?;
+        }
+    }
+    Ok(numbers)
+}
+
+/// The files from the second field on.
+fn files_of(alloc: Global, row: &Row) -> io::Result<Vec<(String, Vec<u8>)>> {
+    let mut files = Vec::new(alloc);
+    for field in (1..row.field_count()).step_by(3) {
+        let mut bytes = Vec::new(alloc);
+        for _ in 0..times_of(row, field.wrapping_add(2)) {
+            bytes.extend_from_slice(row.bytes(field.wrapping_add(1))?)?;
+        }
+        files.push((String::from_str(alloc, row.text(field)?)?, bytes))?;
+    }
+    Ok(files)
+}
+
+/// How often a text stands in its file: once where that is not said.
+fn times_of(row: &Row, field: usize) -> u32 {
+    match row.text(field) {
+        Ok(number) => number.parse().unwrap_or(1),
+        Err(_) => 1,
+    }
+}
