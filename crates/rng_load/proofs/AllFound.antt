@@ -1,5 +1,6 @@
 -- Grammars that are found one after another, until all that are nested in one are found, are those of the schema.
-use Rattle.std.proofs.Common.{◌≡◌, refl, sym, subst, ap, ap₂, ◌∙◌, ℕ, ◌-◌, ◌<◌, List, [], ◌∷◌, Option, Some, None, Bool, true, false, cond, map, arith, inl, inr, ◌⊎◌}
+use Rattle.std.proofs.Common.{◌≡◌, refl, sym, subst, ap, ap₂, ◌∙◌, ℕ, ◌-◌, ◌<◌, List, [], ◌∷◌, Option, Some, None, Bool, true, false, cond, map, arith, inl}
+use Rattle.std.proofs.Common.{inr, ◌⊎◌}
 use Rattle.std.proofs.Common.{option_map, length, ◌++◌, ◌+◌, ◌*◌}
 use Rattle.std.specs.Map.{lookup}
 use Rattle.std.specs.Str.{bytes_eq}
@@ -81,7 +82,8 @@ module _ (k : declared.Place) (g : Grammar) where
     either = λ e i. elim (in_cons i) [ inl s ↦ inr s | inr j ↦ absurd (in_none j) ];
   }
 
-  replaced : (e : declared.Place × Grammar) (es : Entries) → place_of k ≡ place_of e.0 → ArePut (view (e ∷ es)) (view ((e.0, g) ∷ es)) (place_of k) (grammar_of g)
+  replaced : (e : declared.Place × Grammar) (es : Entries) → place_of k ≡ place_of e.0
+      → ArePut (view (e ∷ es)) (view ((e.0, g) ∷ es)) (place_of k) (grammar_of g)
   replaced e es s = record {
     kept = λ y i. i;
     there = subst (λ x. Among x (map (λ e. e.0) (view ((e.0, g) ∷ es)))) (sym s) here;

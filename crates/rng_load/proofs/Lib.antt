@@ -1,6 +1,6 @@
 mod PlaceExamples
 mod PathExamples
-mod NameLists
+pub mod NameLists
 mod DistinctLists
 mod FileContent
 mod HandedIn
@@ -31,7 +31,9 @@ mod LeftToGather
 mod GatherIncluded
 mod AllFound
 mod GrammarLookup
+pub mod PlacesListed
 mod TurnsTaken
 mod SchemaRead
 mod LoadedFiles
+mod WellPlaced
 mod NamesThatOverride

@@ -1,4 +1,5 @@
 pub mod SchemaFile
+pub mod SchemaPlaces
 pub mod FileFaults
 pub mod MentionPaths
 pub mod GrammarNames

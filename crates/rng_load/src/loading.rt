@@ -1,9 +1,11 @@
 // From the files that are handed in to their schema.
-ghost use Rattle.std.specs.Prelude.{IfSome};
+ghost use Rattle.std.specs.Prelude.{IfOk, IfSome};
+ghost use Rattle.rng_model.specs.Schema.{IsWellPlaced};
 ghost use Rattle.rng_load.specs.FilesView.{named_files};
 ghost use Rattle.rng_load.specs.LoadedSchema.{IsLoaded};
 ghost use Rattle.rng_load.specs.Loading.{IsTheFilesVerdict};
 ghost use Rattle.rng_load.specs.LoadingFaults.{reading_of};
+ghost use Rattle.rng_load.specs.PlacedGrammars.{schema_of};
 
 use crate::includes::breaks_includes;
 use crate::order::load_in_order;
@@ -36,7 +38,8 @@ use std::alloc::Global;
 /// another. The main file inherits the empty namespace; a mention hands on the one that it names with `inherit`, else
 /// the default of its file. An include gives its grammar the components of its file without those of each name, and
 /// the starts, that its braces override, and then those of its braces. An external stands for the pattern of its
-/// file, and a file that is a grammar is one that is nested there.
+/// file, and a file that is a grammar is one that is nested there. Each grammar that is nested in a component stands at
+/// its place, and around it is the grammar of that component.
 ///
 /// `Memory` answers that there was no memory, and says nothing of the files. Each file is decoded and parsed once, in
 /// time in proportion to its bytes; for an include with braces, the components are looked at once that the two grammars
@@ -46,7 +49,8 @@ use std::alloc::Global;
 /// RELAX NG Specification, sections 4.6, 4.7, 4.9, 4.11 and 4.18; the order and the limits are of the profile
 /// (docs/LANGUAGE.md).
 pub fn load(alloc: Global, files: &[(String, Vec<u8>)], main: &str) -> Result<Schema, SchemaFault>
-    ensures { IsLoaded (named_files files.now) main.now result }
+    ensures loaded { IsLoaded (named_files files.now) main.now result }
+    ensures placed { IfOk result (λ s. IsWellPlaced (schema_of s)) }
 {
     let trees = load_files(alloc, files, main)?;
     let tree = trees.get(main).unwrap();

@@ -2,6 +2,7 @@
 ghost use Rattle.std.specs.Prelude.{◌≡◌, map, option_map};
 ghost use Rattle.rng_model.specs.SchemaView.{place_of, schema_component_of};
 ghost use Rattle.rng_load.specs.PlacedGrammars.{schema_of};
+ghost use Rattle.rng_load.specs.SchemaPlaces.{AreItsPlaces};
 
 use indexmap::IndexMap;
 use rng_model::{Component, Place};
@@ -29,6 +30,13 @@ impl Schema {
         ensures { place_of result.now ≡ (schema_of self.now).main }
     {
         &self.main
+    }
+
+    /// The places of its grammars, each once. Takes no memory.
+    pub fn places(&self) -> &[Place]
+        ensures { AreItsPlaces (schema_of self.now) (map place_of result.now) }
+    {
+        self.grammars.keys().as_slice()
     }
 
     /// The components of the grammar at a place, in order, those of included files among them; `None` where no grammar is at that place. Takes no
