@@ -11,7 +11,6 @@ pub mod PieceCounts
 pub mod Standing
 pub mod Conclusions
 pub mod WholeBytes
-pub mod Finishing
 pub mod NamesInLines
 pub mod EscapedTexts
 pub mod LineClauses
@@ -21,3 +20,19 @@ pub mod TagRepeats
 pub mod TagParts
 pub mod TagAnswers
 pub mod TagUnique
+pub mod TagExact
+pub mod SaidLines
+pub mod StateSteps
+pub mod DocumentComplete
+pub mod Moves
+pub mod DocumentSound
+pub mod OpenTags
+pub mod Joined
+pub mod Places
+pub mod DocumentBroken
+pub mod DocumentLeast
+pub mod ClosingLines
+pub mod EventsAtFault
+pub mod Verdicts
+pub mod Finishing
+pub mod HeldBytes

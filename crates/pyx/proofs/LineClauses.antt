@@ -176,10 +176,10 @@ broken_line l k e = subst (IsTold l) e (line_told l)
 
 -- ---- a broken clause: one at most it is answered
 
-record AtMost (l : Line) (k : ℕ) : Type 0 where
-  answer : ℕ
-  is : said_of l ≡ Err answer
-  le : answer ≤ k
+pub record AtMost (l : Line) (k : ℕ) : Type 0 where
+  pub answer : ℕ
+  pub is : said_of l ≡ Err answer
+  pub le : answer ≤ k
 
 few : (n m : ℕ) → n ≤ m → nat_le n m ≡ true
 few n m h = search rules
@@ -329,7 +329,7 @@ within_most {l} h (bad_attribute_name {bytes = rest} {written} {value} e c n) = 
 within_most {l} h (no_space {bytes = rest} e a) = line_most l (65 ∷ rest) 6 6 h e (lit≤ tt) (lit≤ tt)
     (kind_no_space rest (recursion_from_All (λ c. c ≢ 32) rest a))
 
-alone_most : {l : Line} {k : ℕ} → BreaksAlone l k → AtMost l k
+pub alone_most : {l : Line} {k : ℕ} → BreaksAlone l k → AtMost l k
 alone_most (within h b) = within_most h b
 alone_most {l} (too_long h) = record { answer = 10; is = said_of_long l h; le = lit≤ tt }
 

@@ -60,7 +60,7 @@ unfolding at_byte
 at_seam k [] rest h = let e : eqb k k ≡ true = search rules in rw e refl
 at_seam k (c ∷ front) rest h = rw (not_equal c k h.0, at_seam k front rest h.1) refl
 
-all_append : (k : ℕ) (xs ys : List ℕ) → AllByRecursion (λ c. c ≢ k) xs → AllByRecursion (λ c. c ≢ k) ys → AllByRecursion (λ c. c ≢ k) (xs ++ ys)
+pub all_append : (k : ℕ) (xs ys : List ℕ) → AllByRecursion (λ c. c ≢ k) xs → AllByRecursion (λ c. c ≢ k) ys → AllByRecursion (λ c. c ≢ k) (xs ++ ys)
 all_append k [] ys h i = i
 all_append k (x ∷ xs) ys h i = (h.0, all_append k xs ys h.1 i)
 
@@ -83,8 +83,12 @@ utf8_parts a b k small u =
           (IsUtf8-drop (a ++ k ∷ b) (length a + 1) u (IsCharBoundary-after_ascii (a ++ k ∷ b) (length a) u inside ascii)),
     )
 
-ascii_first : (k : ℕ) (b : List ℕ) → k < 128 → IsUtf8 b → IsUtf8 (k ∷ b)
+pub ascii_first : (k : ℕ) (b : List ℕ) → k < 128 → IsUtf8 b → IsUtf8 (k ∷ b)
 ascii_first k b small u = IsUtf8-append (k ∷ []) b (IsUtf8-from_ascii (k ∷ []) (IsAscii-cons k [] small IsAscii-nil)) u
+
+-- an ASCII character in front
+pub char_first : (k : ℕ) (b : List ℕ) → k < 128 → IsUtf8 b → chars (k ∷ b) ≡ k ∷ chars b
+char_first k b small u = chars_past_char (k ∷ b) b k (ascii_first k b small u) (sym (ap (λ x. x ++ b) (encode_ascii k small)))
 
 chars_seam : (a b : List ℕ) (k : ℕ) → k < 128 → IsUtf8 (a ++ k ∷ b) → chars (a ++ k ∷ b) ≡ chars a ++ k ∷ chars b
 chars_seam a b k small u =

@@ -18,7 +18,7 @@ went_well (Err x) es f q e = absurd cc
 err_ok : {A : Type 0} (x : Fault) (q : A) → ◌≡◌ {A = Result A Fault} (Err x) (Ok q) → ⊥
 err_ok x q e = cc
 
-no_ok : {A : Type 0} (turn : Turn A) (q : A) → Fails turn → turn.0 ≡ Ok q → ⊥
+pub no_ok : {A : Type 0} (turn : Turn A) (q : A) → Fails turn → turn.0 ≡ Ok q → ⊥
 no_ok turn q h e = err_ok h.fault q (sym h.is ∙ e)
 
 taken : (b : Bool) (front : List ℕ) (p q : Progress) → nat_le (length p.begun + length front) line_limit ≡ b →
@@ -67,7 +67,8 @@ byte_counts : (c : ℕ) (p q : Progress) → (byte_read c p).0 ≡ Ok q → leng
 unfolding byte_read
 byte_counts c p q e h = byte_or (eqb c 10) c p q e h
 
-ok_first : {A B : Type 0} (r : Result A Fault) (es : List Event) (f : A → Turn B) (q : B) → (go_on r es f).0 ≡ Ok q → (a : A) × (r ≡ Ok a) × ((f a).0 ≡ Ok q)
+pub ok_first : {A B : Type 0} (r : Result A Fault) (es : List Event) (f : A → Turn B) (q : B) → (go_on r es f).0 ≡ Ok q
+    → (a : A) × (r ≡ Ok a) × ((f a).0 ≡ Ok q)
 ok_first (Ok a) es f q e = (a, refl, e)
 ok_first (Err x) es f q e = absurd (err_ok x q e)
 

@@ -79,40 +79,54 @@ expanded_tells scope (a ∷ more) all = go (attribute_name scope a.name) (expand
 
 -- ---- the tag
 
+-- the tag breaks no rule about namespaces, and its names are these
+pub record HasNames (outer : Declared) (name : WrittenName) (declared others : List WrittenAttribute) (q : Name) (attrs : List Attribute) : Type 0 where
+  pub allowed : AllByRecursion (λ d. IsForbidden d → ⊥) (map declaration_of declared)
+  pub is_named : NamesElement (scope_in (declared ∷ outer)) name q
+  pub are_expanded : AreExpanded (scope_in (declared ∷ outer)) others attrs
+  pub is_expanded : expanded (declared ∷ outer) others ≡ Some attrs
+
 -- what an element that was read of a tag is
 pub record IsRead (outer : Declared) (name : WrittenName) (declared others : List WrittenAttribute) (e : Element) : Type 0 where
-  pub allowed : AllByRecursion (λ d. IsForbidden d → ⊥) (map declaration_of declared)
-  pub is_named : NamesElement (scope_in (declared ∷ outer)) name e.name
-  pub are_expanded : AreExpanded (scope_in (declared ∷ outer)) others e.attrs
+  pub names : HasNames outer name declared others e.name e.attrs
   pub distinct : Distinct e.attrs
   pub once : is_written_twice declared ≡ false
+
+-- a name stands twice in the tag, which has names
+pub record Repeats (outer : Declared) (name : WrittenName) (written declared others : List WrittenAttribute) : Type 0 where
+  pub q : Name
+  pub attrs : List Attribute
+  pub names : HasNames outer name declared others q attrs
+  pub twice : RepeatsName (scope_in outer) written
 
 -- P11, or P12
 abbrev pub TagTells : Declared → WrittenName → List WrittenAttribute → List WrittenAttribute → List WrittenAttribute → Result Element ℕ → Type 0
 TagTells outer name written declared others (Ok e) = IsRead outer name declared others e
 TagTells outer name written declared others (Err k) = ((k ≡ 11) × BreaksNamespaces (scope_in outer) name written) ⊎
-    ((k ≡ 12) × RepeatsName (scope_in outer) written)
+    ((k ≡ 12) × Repeats outer name written declared others)
 
 module _ (outer : Declared) (name : WrittenName) (written declared others : List WrittenAttribute) (split : IsSplit written declared others) where
-  repeats_tell : (q : Name) (attrs : List Attribute) → Allowed declared → NamesElement (scope_in (declared ∷ outer)) name q
-      → AreExpanded (scope_in (declared ∷ outer)) others attrs
+  repeats_tell : (q : Name) (attrs : List Attribute) → HasNames outer name declared others q attrs
       → TagTells outer name written declared others (with_attributes q declared (Some attrs))
-  repeats_tell q attrs f n x = go (is_written_twice declared) (is_named_twice attrs) refl refl where
+  repeats_tell q attrs n = go (is_written_twice declared) (is_named_twice attrs) refl refl where
+    twice : RepeatsName (scope_in outer) written → Repeats outer name written declared others
+    twice r = record { q = q; attrs = attrs; names = n; twice = r }
+
     go : (b c : Bool) → is_written_twice declared ≡ b → is_named_twice attrs ≡ c
         → TagTells outer name written declared others (cond (b || c) (Err 12) (Ok (record { name = q; attrs = attrs })))
-    go true c e g = inr (refl, written_twice (twice_all split (twice_written declared e) refl))
-    go false true e g = inr (refl, expanded_twice (split_parted split) x (not_distinct attrs g))
-    go false false e g = record { allowed = f; is_named = n; are_expanded = x; distinct = all_distinct attrs g; once = e }
+    go true c e g = inr (refl, twice (written_twice (twice_all split (twice_written declared e) refl)))
+    go false true e g = inr (refl, twice (expanded_twice (split_parted split) n.are_expanded (not_distinct attrs g)))
+    go false false e g = record { names = n; distinct = all_distinct attrs g; once = e }
 
   pub tag_tells : AllDeclared outer → TagTells outer name written declared others (tag_read outer name declared others)
   unfolding tag_read
   tag_tells all = go (any_forbidden declared) (read.element_name (declared ∷ outer) name) (expanded (declared ∷ outer) others)
       (forbidden_tells declared (split_declared split))
-      (element_tells (declared ∷ outer) name (split_declared split, all)) (expanded_tells (declared ∷ outer) others (split_declared split, all)) where
+      (element_tells (declared ∷ outer) name (split_declared split, all)) (expanded_tells (declared ∷ outer) others (split_declared split, all)) refl where
         go : (b : Bool) (o : Option Name) (r : Option (List Attribute)) → ForbiddenTells declared b → NameTells (declared ∷ outer) name o
-            → ExpandedTells (declared ∷ outer) others r
+            → ExpandedTells (declared ∷ outer) others r → expanded (declared ∷ outer) others ≡ r
             → TagTells outer name written declared others (cond b (Err 11) (with_name o declared r))
-        go true o r f n x = inl (refl, forbidden (split_parted split) f.among f.is)
-        go false None r f n x = inl (refl, element_prefix (split_parted split) n.is n.undeclared)
-        go false (Some q) None f n x = inl (refl, attribute_prefix (split_parted split) x.among x.is.is x.is.undeclared)
-        go false (Some q) (Some attrs) f n x = repeats_tell q attrs f n x
+        go true o r f n x e = inl (refl, forbidden (split_parted split) f.among f.is)
+        go false None r f n x e = inl (refl, element_prefix (split_parted split) n.is n.undeclared)
+        go false (Some q) None f n x e = inl (refl, attribute_prefix (split_parted split) x.among x.is.is x.is.undeclared)
+        go false (Some q) (Some attrs) f n x e = repeats_tell q attrs (record { allowed = f; is_named = n; are_expanded = x; is_expanded = e })

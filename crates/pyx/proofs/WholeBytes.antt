@@ -13,31 +13,31 @@ use Rattle.pyx.proofs.LinesOfPieces.{dichotomy, at_cons, at_nil}
 
 -- ---- lines
 
-abbrev NoFeed : List ℕ → Type 0
+abbrev pub NoFeed : List ℕ → Type 0
 NoFeed bytes = at_byte 10 bytes ≡ None
 
 front_none : (c : ℕ) (o : Option (List ℕ × List ℕ)) → at_front c o ≡ None → o ≡ None
 front_none c None e = refl
 front_none c (Some x) e = absurd cc
 
-no_feed_cons : (c : ℕ) (cs : List ℕ) → NoFeed (c ∷ cs) → (eqb c 10 ≡ false) × NoFeed cs
+pub no_feed_cons : (c : ℕ) (cs : List ℕ) → NoFeed (c ∷ cs) → (eqb c 10 ≡ false) × NoFeed cs
 no_feed_cons c cs e = go (eqb c 10) refl (sym (at_cons c cs) ∙ e) where
   go : (b : Bool) → eqb c 10 ≡ b → cond b (Some ([], cs)) (at_front c (at_byte 10 cs)) ≡ None → (eqb c 10 ≡ false) × NoFeed cs
   go true q k = absurd cc
   go false q k = (q, front_none c (at_byte 10 cs) k)
 
-cons_no_feed : (c : ℕ) (cs : List ℕ) → eqb c 10 ≡ false → NoFeed cs → NoFeed (c ∷ cs)
+pub cons_no_feed : (c : ℕ) (cs : List ℕ) → eqb c 10 ≡ false → NoFeed cs → NoFeed (c ∷ cs)
 cons_no_feed c cs e f = at_cons c cs ∙ rw (e, f) refl
 
-push_no_feed : (b : List ℕ) (c : ℕ) → NoFeed b → eqb c 10 ≡ false → NoFeed (b ++ c ∷ [])
+pub push_no_feed : (b : List ℕ) (c : ℕ) → NoFeed b → eqb c 10 ≡ false → NoFeed (b ++ c ∷ [])
 push_no_feed [] c f e = cons_no_feed c [] e at_nil
 push_no_feed (d ∷ b) c f e = let k = no_feed_cons d b f in cons_no_feed d (b ++ c ∷ []) k.0 (push_no_feed b c k.1 e)
 
-lines_cons : (c : ℕ) (cs : List ℕ) → lines (c ∷ cs) ≡ cond (eqb c 10) (record { bytes = []; ended = true } ∷ lines cs) (with_first c (lines cs))
+pub lines_cons : (c : ℕ) (cs : List ℕ) → lines (c ∷ cs) ≡ cond (eqb c 10) (record { bytes = []; ended = true } ∷ lines cs) (with_first c (lines cs))
 unfolding lines
 lines_cons c cs = refl
 
-lines_nil : lines [] ≡ []
+pub lines_nil : lines [] ≡ []
 unfolding lines
 lines_nil = refl
 
@@ -48,12 +48,12 @@ lines_feed : (c : ℕ) (cs : List ℕ) → eqb c 10 ≡ true → lines (c ∷ cs
 lines_feed c cs e = lines_cons c cs ∙ rw e refl
 
 -- up to a line feed
-lines_ended : (b : List ℕ) (c : ℕ) (cs : List ℕ) → NoFeed b → eqb c 10 ≡ true → lines (b ++ c ∷ cs) ≡ ended_line b ∷ lines cs
+pub lines_ended : (b : List ℕ) (c : ℕ) (cs : List ℕ) → NoFeed b → eqb c 10 ≡ true → lines (b ++ c ∷ cs) ≡ ended_line b ∷ lines cs
 lines_ended [] c cs f e = lines_feed c cs e
 lines_ended (d ∷ b) c cs f e = let k = no_feed_cons d b f in lines_other d (b ++ c ∷ cs) k.0 ∙ ap (with_first d) (lines_ended b c cs k.1 e)
 
 -- or to the end
-lines_open : (c : ℕ) (b : List ℕ) → NoFeed (c ∷ b) → lines (c ∷ b) ≡ open_line (c ∷ b) ∷ []
+pub lines_open : (c : ℕ) (b : List ℕ) → NoFeed (c ∷ b) → lines (c ∷ b) ≡ open_line (c ∷ b) ∷ []
 lines_open c [] f = let k = no_feed_cons c [] f in lines_other c [] k.0 ∙ ap (with_first c) lines_nil
 lines_open c (d ∷ b) f = let k = no_feed_cons c (d ∷ b) f in lines_other c (d ∷ b) k.0 ∙ ap (with_first c) (lines_open d b k.1)
 
@@ -186,7 +186,8 @@ joined (c ∷ cs) p f h = go (eqb c 10) refl (dichotomy (length p.begun) line_li
       go false e (inr full) new more = full_case c cs p e f full
       go false e (inl small) new more =
           ap (λ (t : Turn Progress). followed t finished) (read_cons c cs p ∙ ap (λ (t : Turn Progress). followed t (read cs)) (byte_within c p e small)) ∙
-          more (push_no_feed p.begun c f e) (omega (arith, small, length-push p.begun c)) ∙ ap (λ b. to_end (lines b) p.state) (append_assoc p.begun (c ∷ []) cs)
+          more (push_no_feed p.begun c f e) (omega (arith, small, length-push p.begun c))
+          ∙ ap (λ b. to_end (lines b) p.state) (append_assoc p.begun (c ∷ []) cs)
 
 -- a document is read in pieces as it is read as a whole
 pub in_pieces : (bytes : List ℕ) → document_read (lines bytes) ≡ followed (read bytes nothing_fed) finished

@@ -1,7 +1,10 @@
 -- Names are written alike where their bytes are the same.
-use Rattle.std.proofs.Common.{◌≡◌, ℕ, Bool, true, false, cond, ◌&&◌, List, [], ◌∷◌, ◌++◌, Option, Some, None, refl, sym, ap, ◌∙◌, eqb, rules}
+use Rattle.std.proofs.Common.{◌≡◌, ℕ, Bool, true, false, cond, ◌&&◌, List, [], ◌∷◌, ◌++◌, Option, Some, None, refl, sym, ap, ◌∙◌, ◌+◌, length, eqb, rules}
+use Rattle.std.proofs.Common.{arith}
 use Rattle.std.specs.Str.{bytes_eq}
 use Rattle.std.proofs.lemmas.Bool.{eqb-true}
+use Rattle.std.proofs.lemmas.List.{length-append}
+use Rattle.rng_model.specs.PyxHeld.{prefix_length, name_length}
 use Rattle.rng_model.specs.PyxLines.{WrittenName}
 use Rattle.pyx.specs.Cuts.{at_byte, at_front}
 use Rattle.pyx.specs.LineReader.{written_of, cut_name}
@@ -75,3 +78,11 @@ written_alike x y = go (bytes_eq x y) (same_written (written_of x) (written_of y
   go false true e f = sym (sym e ∙ ap (λ z. bytes_eq x z) (sym same) ∙ same_bytes x) where
     same : x ≡ y
     same = sym (written_back x) ∙ ap written_bytes (written_same (written_of x) (written_of y) f) ∙ written_back y
+
+-- the bytes of a name as it is written
+prefix_size : (p : Option (List ℕ)) (local : List ℕ) → length (bytes_of_prefix p local) ≡ prefix_length p + length local
+prefix_size None local = omega arith
+prefix_size (Some p) local = omega (arith, length-append p (58 ∷ local))
+
+pub written_size : (bytes : List ℕ) → length bytes ≡ name_length (written_of bytes)
+written_size bytes = ap length (sym (written_back bytes)) ∙ prefix_size (written_of bytes).prefix (written_of bytes).local

@@ -4,5 +4,7 @@ pub mod TagReader
 pub mod DocumentReader
 pub mod Pieces
 pub mod View
+pub mod Documents
 pub mod Standing
 pub mod LineFaults
+pub mod Held

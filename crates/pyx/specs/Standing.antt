@@ -1,11 +1,10 @@
 -- What a reader is seen as, and for which bytes and events it stands.
 use Rattle.std.specs.Prelude.{◌≡◌, ℕ, List, ◌++◌, Option, Some, None, Result, Ok, Err}
-use Rattle.rng_model.specs.Lines.{lines}
 use Rattle.rng_model.specs.PyxFaults.{Fault}
 use Rattle.rng_model.specs.PyxTrees.{Event}
 use Rattle.pyx.specs.declared.fault.PyxFault.{PyxFault}
 use Rattle.pyx.specs.declared.fault.PyxFault.TheVariants as pyx
-use Rattle.pyx.specs.DocumentReader.{document_read}
+use Rattle.pyx.specs.Documents.{IsTheDocument, IsTheFault}
 use Rattle.pyx.specs.Pieces.{Progress, read, nothing_fed}
 
 -- the progress, or the fault after which there is none, and how many bytes were fed
@@ -35,18 +34,18 @@ abbrev pub Extends : (List Event → Type 0) → Kept → Kept → List ℕ → 
 Extends handed old new piece = (es : List Event) × handed es × ((bytes : List ℕ) (sent : List Event) → Stands old bytes sent
     → Stands new (bytes ++ piece) (sent ++ es))
 
--- What a call answered is what reading gives, unless memory ran out.
-abbrev pub IsOutcome : {A S : Type 0} → Result A PyxFault → Result S Fault → Type 0
-IsOutcome (Ok x) r = (s : _) × (r ≡ Ok s)
-IsOutcome (Err pyx.Memory) r = Unit {0}
-IsOutcome (Err (pyx.At clause line)) r = r ≡ Err (record { clause = clause; line = line })
+-- What a call that ends the bytes answered: that they are a document with these events, or their fault. Want of memory says nothing.
+abbrev pub IsVerdict : {A : Type 0} → Result A PyxFault → List ℕ → List Event → Type 0
+IsVerdict (Ok x) bytes events = IsTheDocument bytes events
+IsVerdict (Err pyx.Memory) bytes events = Unit {0}
+IsVerdict (Err (pyx.At clause line)) bytes events = IsTheFault bytes (record { clause = clause; line = line }) events
 
--- for each pair that the reader stood for, the bytes are read with this outcome, and these are their events
+-- for each pair that the reader stood for, it is the verdict on these bytes, and these are their events
 abbrev pub Ends : {A : Type 0} → (List Event → Type 0) → Kept → Result A PyxFault → Type 0
-Ends handed k result = (es : List Event) × handed es × ((bytes : List ℕ) (sent : List Event) → Stands k bytes sent
-    → IsOutcome result (document_read (lines bytes)).0 × ((document_read (lines bytes)).1 ≡ sent ++ es))
+Ends handed k result = (es : List Event) × handed es × ((bytes : List ℕ) (sent : List Event) → Stands k bytes sent → IsVerdict result bytes (sent ++ es))
 
--- for each pair that the reader stands for, all bytes that begin so are read with this fault, and these are their events
+-- for each pair that the reader stands for, it is the fault of all bytes that begin so
 abbrev pub IsFaultAfter : Kept → PyxFault → Type 0
-IsFaultAfter k f = (bytes : List ℕ) (sent : List Event) → Stands k bytes sent → (rest : List ℕ)
-    → IsOutcome {A = Unit {0}} (Err f) (document_read (lines (bytes ++ rest))).0 × ((document_read (lines (bytes ++ rest))).1 ≡ sent)
+IsFaultAfter k pyx.Memory = Unit {0}
+IsFaultAfter k (pyx.At clause line) = (bytes : List ℕ) (sent : List Event) → Stands k bytes sent → (rest : List ℕ)
+    → IsTheFault (bytes ++ rest) (record { clause = clause; line = line }) sent

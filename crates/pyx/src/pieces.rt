@@ -3,6 +3,7 @@ ghost use Rattle.std.specs.Prelude.{◌≡◌, ◌+◌, ◌<◌, ◌≤◌, ◌^
 ghost use Rattle.std.specs.Option.{option_map};
 ghost use Rattle.std.specs.List.{prefix_len};
 ghost use Rattle.pyx.specs.Cuts.{at_byte};
+ghost use Rattle.pyx.specs.Held.{held};
 ghost use Rattle.pyx.specs.Pieces as pieces;
 ghost use Rattle.pyx.specs.Pieces.{is_within, weight};
 ghost use Rattle.pyx.specs.View.{Concludes, Hands, Takes, progress_of};
@@ -75,6 +76,13 @@ impl Pieces {
             state: State::new(alloc),
             begun: Vec::new(alloc),
         }
+    }
+
+    /// How many bytes are kept.
+    pub fn held(&self) -> u64
+        ensures { result ≡ held (progress_of self.now) }
+    {
+        (self.begun.len() as u64).saturating_add(self.state.held())
     }
 
     /// With these bytes the line is too long.

@@ -1,5 +1,6 @@
 // The reader of documents.
 ghost use Rattle.std.specs.Prelude.{◌≡◌, ◌+◌, ◌<◌, ◌≤◌, ◌^◌, [], length, IfSome, IfErr, is_ok, if◌then◌else◌, Some, None, Err};
+ghost use Rattle.pyx.specs.Held.{IsHeld};
 ghost use Rattle.pyx.specs.Pieces.{weight};
 ghost use Rattle.pyx.specs.Standing.{Ends, Extends, IsFaultAfter, Kept, Stands, UnlessMemory};
 ghost use Rattle.pyx.specs.View.{Hands, progress_of};
@@ -47,10 +48,27 @@ impl Reader {
         self.fed
     }
 
+    /// How many bytes are kept: of the line that has begun, of the lines of the tag that is being read, of the name and
+    /// the declarations of each open element, and of the text that is joined so far.
+    ///
+    /// It is at most 8,641,445,888; after a fault it is 0. Takes no memory. It goes over what is open.
+    pub fn held(&self) -> u64
+        ensures held { IsHeld self.now result }
+        ensures fault { IfSome self.now.fault (λ f. result ≡ 0) }
+    {
+        if self.fault.is_some() {
+            return 0;
+        }
+        self.pieces.held()
+    }
+
     /// Takes the next piece of the document, and hands out the events of the lines that it ends.
     ///
-    /// A line is judged when its line feed comes or when it passes 65,536 bytes. After a fault every call answers the
-    /// same fault. One pass over the piece.
+    /// A line is judged when its line feed comes or when it passes 65,536 bytes, a tag at the line behind it. An error is
+    /// `PyxFault::At`, the broken clause of least line and of least number there, whatever comes behind, or
+    /// `PyxFault::Memory`. After it every call answers the same. One pass over the piece.
+    ///
+    /// XML 1.0, sections 2.2 and 3.1; Namespaces in XML 1.0, sections 3 to 6.
     pub fn feed<E: Events>(&mut self, piece: &[u8], events: &mut E) -> Result<(), PyxFault>
         requires { self.old.fed + length piece.now < 2 ^ 63 }
         ensures stands { UnlessMemory result (Extends (Hands E.stands events.old events.new) self.old self.new piece.now) }
@@ -75,7 +93,9 @@ impl Reader {
 
     /// Nothing comes behind the pieces: hands out the events of a last line that no line feed ends.
     ///
-    /// The document is whole, or its fault is answered; after a fault of `feed` that one.
+    /// It is `Ok` exactly where all bytes are a document, and the events that were handed out are then its events. An error
+    /// is `PyxFault::At`, the broken clause of least line and of least number there, or `PyxFault::Memory`; after an error
+    /// of `feed` that one.
     pub fn finish<E: Events>(self, events: &mut E) -> Result<(), PyxFault>
         ensures document { UnlessMemory result (Ends (Hands E.stands events.old events.new) self result) }
         ensures sticky { IfSome self.fault (λ f. result ≡ Err f) }

@@ -7,10 +7,14 @@ ghost use Rattle.pyx.specs.LineReader.{written_of};
 ghost use Rattle.pyx.specs.TagReader.{beforehand, namespace_of, element_name, attribute_name, expanded, same_name, is_named_in, is_named_twice, tag_read};
 ghost use Rattle.pyx.specs.View.{clause_of, element_of, resolved, written_attribute, open_of, stack_of, scope_of};
 ghost use Rattle.pyx.specs.DocumentReader.{declared_in};
+ghost use Rattle.pyx.specs.Held.{opened_held};
 
 use crate::cuts::cut_at;
 use crate::fault::LineFault;
-use crate::written::{WrittenAttribute, XML_URI, any_forbidden, found_in, is_written_twice};
+use crate::written::{
+    WrittenAttribute, XML_URI, any_forbidden, declarations_len, found_in, is_written_twice,
+    name_len,
+};
 use rng_model::{Attr, Name};
 use std::alloc::Global;
 
@@ -47,6 +51,22 @@ pub fn innermost(opened: &[OpenElement]) -> Option<(&OpenElement, &[OpenElement]
     ensures shorter { IfSome result (λ x. length x.1.now < length opened.now) }
 {
     opened.split_last()
+}
+
+/// How many bytes are kept of these elements: their names and their declarations.
+#[tactic(auto, unfolding(crate::specs::Held::opened_held))]
+pub fn opened_len(opened: &[OpenElement]) -> u64
+    ensures { result ≡ opened_held (stack_of opened.now) }
+{
+    match innermost(opened) {
+        Some((element, outer)) => {
+            let declarations = declarations_len(element.declarations.as_slice());
+            name_len(element.name.as_str())
+                .saturating_add(declarations)
+                .saturating_add(opened_len(outer))
+        }
+        None => 0,
+    }
 }
 
 /// The namespace of a prefix, or the default one, inside these elements.

@@ -2,6 +2,7 @@
 ghost use Rattle.std.specs.Prelude.{◌≡◌, ◌+◌, ◌<◌, ◌^◌, length, option_map};
 ghost use Rattle.pyx.specs.DocumentReader as reader;
 ghost use Rattle.pyx.specs.DocumentReader.{declared_in};
+ghost use Rattle.pyx.specs.Held.{state_held};
 ghost use Rattle.pyx.specs.LineReader.{written_of};
 ghost use Rattle.pyx.specs.TagReader.{tag_read};
 ghost use Rattle.pyx.specs.View.{Adds, EndsBy, Hands, IsFault, Takes, tag_of, line_of, said_view, state_of, stack_of, value_of, open_of};
@@ -9,7 +10,7 @@ ghost use Rattle.pyx.specs.View.{Adds, EndsBy, Hands, IsFault, Takes, tag_of, li
 use crate::escapes::Unescaped;
 use crate::fault::{LineFault, PyxFault};
 use crate::line::{Line, Said, said_of};
-use crate::scope::{OpenElement, Scope, expand_element, innermost};
+use crate::scope::{OpenElement, Scope, expand_element, innermost, opened_len};
 use crate::written::{WrittenAttribute, declared_by, is_same};
 use rng_model::{Event, EventKind, Events};
 use std::alloc::Global;
@@ -49,6 +50,16 @@ pub struct State {
     lines: u64,
 }
 
+/// How many bytes the lines of the tag have.
+fn tag_len(tag: &Option<Tag>) -> u64
+    ensures { result ≡ reader.tag_bytes (option_map tag_of tag.now) }
+{
+    match tag {
+        Some(tag) => tag.bytes,
+        None => 0,
+    }
+}
+
 /// Takes the innermost element away.
 fn close_innermost(opened: &mut Vec<OpenElement>)
     ensures { stack_of opened.new.items ≡ reader.around (stack_of opened.old.items) }
@@ -69,6 +80,16 @@ impl State {
             root: false,
             lines: 0,
         }
+    }
+
+    /// How many bytes are kept.
+    pub fn held(&self) -> u64
+        ensures { result ≡ state_held (state_of self.now) }
+    {
+        let opened = opened_len(self.opened.as_slice());
+        tag_len(&self.tag)
+            .saturating_add(opened)
+            .saturating_add(self.joined.len() as u64)
     }
 
     /// A fault at the last line.

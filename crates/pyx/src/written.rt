@@ -4,6 +4,8 @@ ghost use Rattle.std.specs.Option.{option_map};
 ghost use Rattle.std.specs.Str.{bytes_eq};
 ghost use Rattle.pyx.specs.LineReader.{written_of};
 ghost use Rattle.pyx.specs.TagReader.{declared_by, declares, found_in, is_forbidden, any_forbidden, is_written_in, is_written_twice, same_written};
+ghost use Rattle.rng_model.specs.PyxHeld.{name_length};
+ghost use Rattle.pyx.specs.Held.{declarations_held};
 ghost use Rattle.pyx.specs.View.{written_attribute};
 
 use crate::cuts::cut_at;
@@ -129,5 +131,27 @@ pub fn is_written_twice(attributes: &[WrittenAttribute]) -> bool
     match attributes {
         [first, rest @ ..] => is_written_in(first.name.as_str(), rest) || is_written_twice(rest),
         [] => false,
+    }
+}
+
+/// How many bytes a name has.
+#[tactic(auto, using(crate::proofs::WrittenNames::written_size))]
+pub fn name_len(name: &str) -> u64
+    ensures { result ≡ name_length (written_of name.now) }
+{
+    name.len() as u64
+}
+
+/// How many bytes declarations have: their names, and what their values stand for.
+#[tactic(auto, unfolding(crate::specs::Held::declarations_held))]
+pub fn declarations_len(declarations: &[WrittenAttribute]) -> u64
+    ensures { result ≡ declarations_held (map written_attribute declarations.now) }
+{
+    match declarations {
+        [first, rest @ ..] => {
+            let own = name_len(first.name.as_str()).saturating_add(first.value.len() as u64);
+            own.saturating_add(declarations_len(rest))
+        }
+        [] => 0,
     }
 }

@@ -1,7 +1,9 @@
 //! Prints what `pyx` answers for each document of `cases.txt`, a line a row, fed in pieces of 1, 2, 3 and 4,096 bytes.
 //!
-//! A row is a document; or a front, a count, a part that is repeated so often, and an end. The events are printed with
-//! their lines, and then the outcome; of pieces of other sizes only that they answer otherwise.
+//! A row is a document; or a front, a count, a part that is repeated so often, and an end, where the part may itself be a
+//! front, a count, a part that is repeated so often, and an end. The events are printed with their lines, how many
+//! bytes were held before the end where some were, and then the outcome; of pieces of other sizes only that they answer
+//! otherwise.
 #![tactic(auto)]
 
 ghost use Rattle.std.specs.Prelude.{◌<◌};
@@ -74,7 +76,13 @@ const DOCUMENT_LIMIT: u64 = 1 << 40;
 
 const PIECE_LIMIT: usize = 1 << 20;
 
-fn read(alloc: Global, document: &[u8], size: usize, log: &mut Log) -> Result<(), PyxFault>
+fn read(
+    alloc: Global,
+    document: &[u8],
+    size: usize,
+    log: &mut Log,
+    held: &mut u64,
+) -> Result<(), PyxFault>
     requires { 0 < size }
 {
     let mut reader = Reader::new(alloc);
@@ -84,6 +92,7 @@ fn read(alloc: Global, document: &[u8], size: usize, log: &mut Log) -> Result<()
         }
         reader.feed(piece, log)?;
     }
+    *held = reader.held();
     reader.finish(log)
 }
 
@@ -91,6 +100,7 @@ fn read(alloc: Global, document: &[u8], size: usize, log: &mut Log) -> Result<()
 #[derive(Drop, PartialEq, Eq)]
 struct Answer {
     events: String,
+    held: u64,
     outcome: String,
 }
 
@@ -102,15 +112,45 @@ fn answer_to(alloc: Global, document: &[u8], size: usize) -> io::Result<Answer>
         alloc,
         text: String::new(alloc),
     };
-    let outcome = match read(alloc, document, size, &mut log) {
+    let mut held = 0;
+    let outcome = match read(alloc, document, size, &mut log, &mut held) {
         Ok(()) => format!(in alloc; "document")?,
         Err(PyxFault::At { clause, line }) => format!(in alloc; "P{clause} line {line}")?,
         Err(PyxFault::Memory) => format!(in alloc; "out of memory")?,
     };
     Ok(Answer {
         events: log.text,
+        held,
         outcome,
     })
+}
+
+/// The number in a field of a row.
+fn count_in(row: &Row, field: usize) -> io::Result<u32> {
+    let Ok(count) = row.text(field)?.parse::<u32>() else {
+        return Err(io::Error::from(io::ErrorKind::InvalidData));
+    };
+    Ok(count)
+}
+
+/// Puts a part behind the bytes so often.
+fn repeat(bytes: &mut Vec<u8>, count: u32, part: &[u8]) -> io::Result<()> {
+    for _ in 0..count {
+        bytes.extend_from_slice(part)?;
+    }
+    Ok(())
+}
+
+/// The part that a row repeats, and its end: of a row of seven fields the part has a part that is repeated itself.
+fn part_of<'a>(alloc: Global, row: &'a Row) -> io::Result<(Vec<u8>, &'a [u8])> {
+    let mut part = Vec::new(alloc);
+    part.extend_from_slice(row.bytes(2)?)?;
+    if row.field_count() < 7 {
+        return Ok((part, row.bytes(3)?));
+    }
+    repeat(&mut part, count_in(row, 3)?, row.bytes(4)?)?;
+    part.extend_from_slice(row.bytes(5)?)?;
+    Ok((part, row.bytes(6)?))
 }
 
 /// The document of a row.
@@ -118,13 +158,9 @@ fn document_of(alloc: Global, row: &Row) -> io::Result<Vec<u8>> {
     let mut document = Vec::new(alloc);
     document.extend_from_slice(row.bytes(0)?)?;
     if row.field_count() > 1 {
-        let Ok(count) = row.text(1)?.parse::<u32>() else {
-            return Err(io::Error::from(io::ErrorKind::InvalidData));
-        };
-        for _ in 0..count {
-            document.extend_from_slice(row.bytes(2)?)?;
-        }
-        document.extend_from_slice(row.bytes(3)?)?;
+        let (part, end) = part_of(alloc, row)?;
+        repeat(&mut document, count_in(row, 1)?, part.as_slice())?;
+        document.extend_from_slice(end)?;
     }
     Ok(document)
 }
@@ -134,6 +170,8 @@ fn print_answer(rt: &(impl Print + AllocGlobal), document: &[u8]) -> io::Result<
     let outcome = whole.outcome.as_str();
     if whole.events.len() > 2000 {
         println!(rt; ".. {outcome}")?;
+    } else if whole.held > 0 {
+        println!(rt; "{}held {}; {outcome}", whole.events, whole.held)?;
     } else {
         println!(rt; "{}{outcome}", whole.events)?;
     }

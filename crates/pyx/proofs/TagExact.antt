@@ -1,0 +1,320 @@
+-- What is read of a tag is exact: a clause that it breaks is answered, and else its element, the only one.
+use Rattle.std.proofs.Common.{◌≡◌, ℕ, ◌≤◌, Bool, true, false, ◌||◌, List, [], ◌∷◌, length, map, Option, Some, None, Result, Ok, Err, refl, sym, ap}
+use Rattle.std.proofs.Common.{subst, ◌∙◌, ◌⊎◌, inl, inr}
+use Rattle.std.specs.Prelude.{is_some}
+use Rattle.std.specs.List.{AllByRecursion}
+use Rattle.std.proofs.lemmas.List.Elements.{All-from_recursion, recursion_from_All}
+use Rattle.rng_model.specs.Document.{Attribute}
+use Rattle.rng_model.specs.Lists.{Among, here, there, HasTwice, at_first, later}
+use Rattle.rng_model.specs.Names.{Name}
+use Rattle.rng_model.specs.Pyx.{attribute_limit}
+use Rattle.rng_model.specs.PyxLines.{Said, WrittenName}
+use Rattle.rng_model.specs.PyxNamespaces.{WrittenAttribute, AreWritten, Declaration, Declares, default_namespace, prefix_declared, AreParted, nothing}
+use Rattle.rng_model.specs.PyxNamespaces.{declaration}
+use Rattle.rng_model.specs.PyxNamespaces.{other, Scope, IsForbidden, HasNamespace, NamesElement, element_name, NamesAttribute, without_prefix, with_prefix}
+use Rattle.rng_model.specs.PyxNamespaces.{AreExpanded, none_left, expanded_and}
+use Rattle.rng_model.specs.PyxClauses.{BreaksNamespaces, forbidden, element_prefix, attribute_prefix, RepeatsName, written_twice, expanded_twice}
+use Rattle.rng_model.specs.PyxTrees.{IsTag}
+use Rattle.rng_model.specs.WellFormed.{Distinct}
+use Rattle.pyx.specs.TagReader.{Declared, Element, declared_by, attribute_name, expanded, and_more, is_written_in, is_written_twice, is_named_in}
+use Rattle.pyx.specs.TagReader.{is_named_twice}
+use Rattle.pyx.specs.TagReader.{tag_read, same_written, same_name}
+use Rattle.pyx.proofs.WrittenNames.{same_bytes, written_itself}
+use Rattle.pyx.proofs.TagDeclarations.{declaration_of}
+use Rattle.pyx.proofs.TagNamespaces.{scope_in, AllDeclared}
+use Rattle.pyx.proofs.TagParts.{IsSplit, no_lines, declares, declares_none, split_parted}
+use Rattle.pyx.proofs.TagRepeats.{names_of, distinct_all}
+use Rattle.pyx.proofs.TagAnswers.{HasNames, IsRead, TagTells, tag_tells}
+use Rattle.pyx.proofs.TagUnique.{prefixes_of, IsScopeOnce, parted_same, element_same, expanded_same}
+
+true_false : true ≡ false → ⊥
+true_false e = cc
+
+none_some : {A : Type 0} (x : A) → None ≡ Some x → ⊥
+none_some x e = cc
+
+some_same : {A : Type 0} (x y : A) → Some x ≡ Some y → x ≡ y
+some_same x y e = cc
+
+or_second : (a : Bool) → (a || true) ≡ true
+or_second true = refl
+or_second false = refl
+
+-- ---- names that stand twice are found
+
+nowhere : {A : Type 0} {x : A} {xs : List A} → Among x xs → xs ≡ [] → ⊥
+nowhere here e = cc
+nowhere (there m) e = cc
+
+first_same : {A : Type 0} {x y : A} {xs ys : List A} → x ∷ xs ≡ y ∷ ys → x ≡ y
+first_same e = cc
+
+rest_same : {A : Type 0} {x y : A} {xs ys : List A} → x ∷ xs ≡ y ∷ ys → xs ≡ ys
+rest_same e = cc
+
+among_declared : {all ds os : List WrittenAttribute} {name : WrittenName} {names : List WrittenName} → IsSplit all ds os → Among name names
+    → names ≡ names_of all → is_some (declared_by name) ≡ true → Among name (names_of ds)
+among_declared no_lines m e s = absurd (nowhere m e)
+among_declared {name = name} (declares {a} {p} {all} {ds} d r) here e s = subst (λ (x : WrittenName). Among x (names_of (a ∷ ds))) (sym (first_same e)) here
+among_declared (declares d r) (there m) e s = there (among_declared r m (rest_same e) s)
+among_declared {name = name} (declares_none {a} d r) here e s =
+    absurd (true_false (sym s ∙ ap (λ (x : WrittenName). is_some (declared_by x)) (first_same e) ∙ ap is_some d))
+among_declared (declares_none d r) (there m) e s = among_declared r m (rest_same e) s
+
+among_others : {all ds os : List WrittenAttribute} {name : WrittenName} {names : List WrittenName} → IsSplit all ds os → Among name names
+    → names ≡ names_of all → declared_by name ≡ None → Among name (names_of os)
+among_others no_lines m e s = absurd (nowhere m e)
+among_others (declares {a} {p} d r) here e s = absurd (none_some p (sym s ∙ ap declared_by (first_same e) ∙ d))
+among_others (declares d r) (there m) e s = among_others r m (rest_same e) s
+among_others (declares_none {a} {all} {ds} {os} d r) here e s = subst (λ (x : WrittenName). Among x (names_of (a ∷ os))) (sym (first_same e)) here
+among_others (declares_none d r) (there m) e s = there (among_others r m (rest_same e) s)
+
+twice_split : {all ds os : List WrittenAttribute} {names : List WrittenName} → IsSplit all ds os → HasTwice names → names ≡ names_of all
+    → HasTwice (names_of ds) ⊎ HasTwice (names_of os)
+twice_split no_lines (at_first m) e = absurd cc
+twice_split no_lines (later t) e = absurd cc
+twice_split (declares {a} {p} {all} {ds} d r) (at_first {x} {xs} m) e =
+    inl (at_first (among_declared r (subst (λ (y : WrittenName). Among y xs) (first_same e) m) (rest_same e) (ap is_some d)))
+twice_split (declares_none {a} d r) (at_first {x} {xs} m) e =
+    inr (at_first (among_others r (subst (λ (y : WrittenName). Among y xs) (first_same e) m) (rest_same e) d))
+twice_split (declares {a} {p} {all} {ds} {os} d r) (later t) e = go (twice_split r t (rest_same e)) where
+  go : HasTwice (names_of ds) ⊎ HasTwice (names_of os) → HasTwice (names_of (a ∷ ds)) ⊎ HasTwice (names_of os)
+  go (inl u) = inl (later u)
+  go (inr u) = inr u
+twice_split (declares_none {a} {all} {ds} {os} d r) (later t) e = go (twice_split r t (rest_same e)) where
+  go : HasTwice (names_of ds) ⊎ HasTwice (names_of os) → HasTwice (names_of ds) ⊎ HasTwice (names_of (a ∷ os))
+  go (inl u) = inl u
+  go (inr u) = inr (later u)
+
+-- ---- among the declarations
+
+written_in : {name : WrittenName} {names : List WrittenName} (all : List WrittenAttribute) → Among name names → names ≡ names_of all
+    → is_written_in name all ≡ true
+unfolding is_written_in
+written_in [] m e = absurd (nowhere m e)
+written_in {name} (a ∷ more) here e = ap (λ (x : WrittenName). same_written x name || is_written_in name more) (sym (first_same e))
+    ∙ rw (written_itself name) refl
+written_in {name} (a ∷ more) (there m) e = rw (written_in more m (rest_same e)) (or_second (same_written a.name name))
+
+found_twice : {names : List WrittenName} (all : List WrittenAttribute) → HasTwice names → names ≡ names_of all → is_written_twice all ≡ true
+unfolding is_written_twice
+found_twice [] (at_first m) e = absurd cc
+found_twice [] (later t) e = absurd cc
+found_twice (a ∷ more) (at_first {x} {xs} m) e =
+    rw (written_in more (subst (λ (y : WrittenName). Among y xs) (first_same e) m) (rest_same e)) refl
+found_twice (a ∷ more) (later t) e = rw (found_twice more t (rest_same e)) (or_second (is_written_in a.name more))
+
+-- ---- among the others: two that are written alike have one expanded name
+
+record Parts (scope : Declared) (a : WrittenAttribute) (more : List WrittenAttribute) (attrs : List Attribute) : Type 0 where
+  name : Name
+  rest : List Attribute
+  named : attribute_name scope a.name ≡ Some name
+  others : expanded scope more ≡ Some rest
+  is : attrs ≡ record { name = name; content = a.content } ∷ rest
+
+parts_by : (scope : Declared) (a : WrittenAttribute) (more : List WrittenAttribute) (attrs : List Attribute) (o : Option Name) (r : Option (List Attribute))
+    → attribute_name scope a.name ≡ o → expanded scope more ≡ r → and_more o a.content r ≡ Some attrs → Parts scope a more attrs
+parts_by scope a more attrs None r e f g = absurd (none_some attrs g)
+parts_by scope a more attrs (Some q) None e f g = absurd (none_some attrs g)
+parts_by scope a more attrs (Some q) (Some rest) e f g = record { name = q; rest = rest; named = e; others = f; is = sym (some_same _ _ g) }
+
+parts_of : (scope : Declared) (a : WrittenAttribute) (more : List WrittenAttribute) (attrs : List Attribute) → expanded scope (a ∷ more) ≡ Some attrs
+    → Parts scope a more attrs
+unfolding expanded
+parts_of scope a more attrs e = parts_by scope a more attrs (attribute_name scope a.name) (expanded scope more) refl refl e
+
+name_itself : (a : Name) → same_name a a ≡ true
+name_itself a = rw (same_bytes a.local, same_bytes a.ns) refl
+
+named_in : (scope : Declared) (name : WrittenName) (names : List WrittenName) (all : List WrittenAttribute) (attrs : List Attribute) (q : Name)
+    → Among name names → names ≡ names_of all → expanded scope all ≡ Some attrs → attribute_name scope name ≡ Some q → is_named_in q attrs ≡ true
+unfolding is_named_in
+named_in scope name names [] attrs q m e x n = absurd (nowhere m e)
+named_in scope name names (a ∷ more) attrs q here e x n =
+    let p = parts_of scope a more attrs x in
+    let same : p.name ≡ q = some_same p.name q (sym p.named ∙ ap (attribute_name scope) (sym (first_same e)) ∙ n) in
+    rw (p.is) (ap (λ (y : Name). same_name y q || is_named_in q p.rest) same ∙ rw (name_itself q) refl)
+named_in scope name names (a ∷ more) attrs q (there {xs} m) e x n =
+    let p = parts_of scope a more attrs x in
+    rw (p.is) (ap (λ (b : Bool). same_name p.name q || b) (named_in scope name xs more p.rest q m (rest_same e) p.others n) ∙ or_second (same_name p.name q))
+
+named_twice : (scope : Declared) (names : List WrittenName) (all : List WrittenAttribute) (attrs : List Attribute) → HasTwice names → names ≡ names_of all
+    → expanded scope all ≡ Some attrs → is_named_twice attrs ≡ true
+unfolding is_named_twice
+named_twice scope names [] attrs (at_first m) e x = absurd cc
+named_twice scope names [] attrs (later t) e x = absurd cc
+named_twice scope names (a ∷ more) attrs (at_first {x = y} {xs} m) e x =
+    let p = parts_of scope a more attrs x in
+    rw (p.is) (ap (λ (b : Bool). b || is_named_twice p.rest)
+    (named_in scope y xs more p.rest p.name m (rest_same e) p.others (ap (attribute_name scope) (first_same e) ∙ p.named)))
+named_twice scope names (a ∷ more) attrs (later {xs} t) e x =
+    let p = parts_of scope a more attrs x in
+    rw (p.is) (ap (λ (b : Bool). is_named_in p.name p.rest || b) (named_twice scope xs more p.rest t (rest_same e) p.others)
+    ∙ or_second (is_named_in p.name p.rest))
+
+-- ---- what a tag with names breaks
+
+not_among : {d : Declaration} {ds : List Declaration} → Among d ds → AllByRecursion (λ d. IsForbidden d → ⊥) ds → IsForbidden d → ⊥
+not_among here all f = all.0 f
+not_among (there m) all f = not_among m all.1 f
+
+with_namespace : {scope : Scope} {name : WrittenName} {q : Name} → NamesElement scope name q → (uri : List ℕ) × HasNamespace scope name.prefix uri
+with_namespace (element_name {name} {uri} h) = (uri, h)
+
+with_prefix_of : {scope : Scope} {name : WrittenName} {q : Name} → NamesAttribute scope name q → (p : List ℕ) → name.prefix ≡ Some p
+    → (uri : List ℕ) × HasNamespace scope (Some p) uri
+with_prefix_of without_prefix p e = absurd (none_some p e)
+with_prefix_of {scope} (with_prefix {p = r} {uri} h) p e = (uri, subst (λ (x : List ℕ). HasNamespace scope (Some x) uri) (some_same r p e) h)
+
+with_name_of : {scope : Scope} {all : List WrittenAttribute} {attrs : List Attribute} {a : WrittenAttribute} → AreExpanded scope all attrs → Among a all
+    → (q : Name) × NamesAttribute scope a.name q
+with_name_of none_left m = absurd (nowhere m refl)
+with_name_of (expanded_and {name} n more) here = (name, n)
+with_name_of (expanded_and n more) (there m) = with_name_of more m
+
+-- a tag whose names are these breaks no rule about namespaces
+no_breach : {outer : Scope} {name : WrittenName} {written os : List WrittenAttribute} {ds : List Declaration} {q : Name} {attrs : List Attribute}
+    → AreParted written ds os → AllByRecursion (λ d. IsForbidden d → ⊥) ds → NamesElement (ds ∷ outer) name q → AreExpanded (ds ∷ outer) os attrs
+    → BreaksNamespaces outer name written → ⊥
+no_breach parted allowed named are (forbidden {d = d} p m f) = not_among (subst (Among d) (parted_same p parted).0 m) allowed f
+no_breach {outer} {name} parted allowed named are (element_prefix {ds} {p = x} p e u) =
+    let h = with_namespace named in
+    u h.0 (subst (λ (y : Option (List ℕ)). HasNamespace (ds ∷ outer) y h.0) e
+    (subst (λ (y : List Declaration). HasNamespace (y ∷ outer) name.prefix h.0) (sym (parted_same p parted).0) h.1))
+no_breach {outer} parted allowed named are (attribute_prefix {a = a} {p = x} p m e u) =
+    let k = parted_same p parted in
+    let r = with_name_of are (subst (Among a) k.1 m) in
+    let h = with_prefix_of r.1 x e in
+    u h.0 (subst (λ (y : List Declaration). HasNamespace (y ∷ outer) (Some x) h.0) (sym k.0) h.1)
+
+-- ---- a prefix that is declared twice is written twice
+
+declares_one : {a b : WrittenName} {p q : Option (List ℕ)} → Declares a p → Declares b q → p ≡ q → a ≡ b
+declares_one default_namespace default_namespace e = refl
+declares_one default_namespace (prefix_declared {p}) e = absurd (none_some p e)
+declares_one (prefix_declared {p}) default_namespace e = absurd (none_some p (sym e))
+declares_one (prefix_declared {p}) (prefix_declared {p = r}) e = rw (some_same p r e) refl
+
+among_prefixes : {all os : List WrittenAttribute} {ds : List Declaration} {p : Option (List ℕ)} {ps : List (Option (List ℕ))} {name : WrittenName}
+    → AreParted all ds os → Among p ps → ps ≡ prefixes_of ds → Declares name p → Among name (names_of all)
+among_prefixes nothing m e d = absurd (nowhere m e)
+among_prefixes (declaration {a} {all} c r) here e d =
+    subst (λ (x : WrittenName). Among x (names_of (a ∷ all))) (sym (declares_one d c (first_same e))) here
+among_prefixes (declaration c r) (there m) e d = there (among_prefixes r m (rest_same e) d)
+among_prefixes (other n r) m e d = there (among_prefixes r m e d)
+
+pub once_declared : {all os : List WrittenAttribute} {ds : List Declaration} {ps : List (Option (List ℕ))} → AreParted all ds os → HasTwice ps
+    → ps ≡ prefixes_of ds → HasTwice (names_of all)
+once_declared nothing (at_first m) e = absurd cc
+once_declared nothing (later t) e = absurd cc
+once_declared (declaration {a} {p} c r) (at_first {x} {xs} m) e =
+    at_first (among_prefixes r (subst (λ (y : Option (List ℕ)). Among y xs) (first_same e) m) (rest_same e) c)
+once_declared (declaration c r) (later t) e = later (once_declared r t (rest_same e))
+once_declared (other n r) t e = later (once_declared r t e)
+
+-- ---- the answers
+
+module _ (outer : Declared) (name : WrittenName) (written declared others : List WrittenAttribute) (split : IsSplit written declared others) where
+  parts : {ds : List Declaration} {os : List WrittenAttribute} → AreParted written ds os → (ds ≡ map declaration_of declared) × (os ≡ others)
+  parts p = parted_same p (split_parted split)
+
+  breaks_none : (q : Name) (attrs : List Attribute) → HasNames outer name declared others q attrs → BreaksNamespaces (scope_in outer) name written → ⊥
+  breaks_none q attrs n b = no_breach (split_parted split) n.allowed n.is_named n.are_expanded b
+
+  -- a broken P11 is answered
+  pub tag_namespaces : AllDeclared outer → BreaksNamespaces (scope_in outer) name written → tag_read outer name declared others ≡ Err 11
+  tag_namespaces all b = go (tag_read outer name declared others) (tag_tells outer name written declared others split all) where
+    go : (r : Result Element ℕ) → TagTells outer name written declared others r → r ≡ Err 11
+    go (Ok e) t = absurd (breaks_none e.name e.attrs t.names b)
+    go (Err k) (inl t) = ap Err t.0
+    go (Err k) (inr t) = absurd (breaks_none t.1.q t.1.attrs t.1.names b)
+
+  once_here : (e : Element) → IsRead outer name declared others e → HasTwice (names_of written) → ⊥
+  once_here e r t = go (twice_split split t refl) where
+    go : HasTwice (names_of declared) ⊎ HasTwice (names_of others) → ⊥
+    go (inl u) = true_false (sym (found_twice declared u refl) ∙ r.once)
+    go (inr u) = true_false (sym (named_twice (declared ∷ outer) (names_of others) others e.attrs u refl r.names.is_expanded) ∙ distinct_all r.distinct)
+
+  pub read_once : (e : Element) → IsRead outer name declared others e → HasTwice (prefixes_of (map declaration_of declared)) → ⊥
+  read_once e r t = once_here e r (once_declared (split_parted split) t refl)
+
+  repeats_none : (e : Element) → IsScopeOnce (scope_in outer) → IsRead outer name declared others e → RepeatsName (scope_in outer) written → ⊥
+  repeats_none e once r (written_twice t) = once_here e r t
+  repeats_none e once r (expanded_twice {ds} {others = os} {attrs} p x n) =
+      let k = parts p in
+      let y : AreExpanded (scope_in (declared ∷ outer)) others attrs = subst (λ (z : List WrittenAttribute). AreExpanded (scope_in
+      (declared ∷ outer)) z attrs) k.1
+      (subst (λ (z : List Declaration). AreExpanded (z ∷ scope_in outer) os attrs) k.0 x) in
+      n (subst Distinct (expanded_same (read_once e r, once) r.names.are_expanded y) r.distinct)
+
+  -- a broken P12 is, or P11
+  pub tag_repeats : AllDeclared outer → IsScopeOnce (scope_in outer) → RepeatsName (scope_in outer) written
+      → (tag_read outer name declared others ≡ Err 11) ⊎ (tag_read outer name declared others ≡ Err 12)
+  tag_repeats all once b = go (tag_read outer name declared others) (tag_tells outer name written declared others split all) where
+    go : (r : Result Element ℕ) → TagTells outer name written declared others r → (r ≡ Err 11) ⊎ (r ≡ Err 12)
+    go (Ok e) t = absurd (repeats_none e once t b)
+    go (Err k) (inl t) = inl (ap Err t.0)
+    go (Err k) (inr t) = inr (ap Err t.0)
+
+  -- an element that is read is the tag's
+  pub is_tag : AllDeclared outer → (said : List Said) (e : Element) → AreWritten said written → length written ≤ attribute_limit
+      → tag_read outer name declared others ≡ Ok e → IsTag (scope_in outer) name said e.name e.attrs (scope_in (declared ∷ outer))
+  is_tag all said e w h q = go (subst (TagTells outer name written declared others) q (tag_tells outer name written declared others split all)) where
+    go : IsRead outer name declared others e → IsTag (scope_in outer) name said e.name e.attrs (scope_in (declared ∷ outer))
+    go r = record {
+      written = written;
+      are_written = w;
+      within = h;
+      once = once_here e r;
+      declarations = map declaration_of declared;
+      others = others;
+      are_parted = split_parted split;
+      allowed = All-from_recursion (λ d. IsForbidden d → ⊥) (map declaration_of declared) r.names.allowed;
+      scope_is = refl;
+      is_named = r.names.is_named;
+      are_expanded = r.names.are_expanded;
+      distinct = r.distinct;
+    }
+
+  tag_once : {q : Name} {attrs : List Attribute} {scope : Scope} {said : List Said} (t : IsTag (scope_in outer) name said q attrs scope)
+      → t.written ≡ written → HasTwice (prefixes_of t.declarations) → ⊥
+  tag_once t e u = t.once (once_declared t.are_parted u refl)
+
+  tag_repeats_none : {q : Name} {attrs : List Attribute} {scope : Scope} {said : List Said} (t : IsTag (scope_in outer) name said q attrs scope)
+      → t.written ≡ written → IsScopeOnce (scope_in outer) → RepeatsName (scope_in outer) written → ⊥
+  tag_repeats_none t e once (written_twice u) = t.once (subst (λ (x : List WrittenAttribute). HasTwice (names_of x)) (sym e) u)
+  tag_repeats_none {attrs = attrs} t e once (expanded_twice {ds} {others = os} {attrs = found} p x n) =
+      let k = parted_same p (subst (λ (w : List WrittenAttribute). AreParted w t.declarations t.others) e t.are_parted) in
+      let z : AreExpanded (t.declarations ∷ scope_in outer) os found = subst (λ (y : List Declaration). AreExpanded (y ∷ scope_in outer) os found) k.0 x in
+      let y : AreExpanded (t.declarations ∷ scope_in outer) t.others found =
+      subst (λ (w : List WrittenAttribute). AreExpanded (t.declarations ∷ scope_in outer) w found) k.1 z in
+      let r : AreExpanded (t.declarations ∷ scope_in outer) t.others attrs = subst (λ (w : Scope). AreExpanded w t.others attrs) t.scope_is t.are_expanded in
+      n (subst Distinct (expanded_same (tag_once t e, once) r y) t.distinct)
+
+  tag_found : {q : Name} {attrs : List Attribute} {scope : Scope} {said : List Said} (t : IsTag (scope_in outer) name said q attrs scope)
+      → t.written ≡ written → IsScopeOnce (scope_in outer) → (e : Element) → IsRead outer name declared others e
+      → ◌≡◌ {A = Element} e (record { name = q; attrs = attrs })
+  tag_found {q} {attrs} t w once e r =
+      let k = parted_same (subst (λ (w : List WrittenAttribute). AreParted w t.declarations t.others) w t.are_parted) (split_parted split) in
+      let same : (t.declarations ∷ scope_in outer) ≡ scope_in (declared ∷ outer) = ap (λ (x : List Declaration). x ∷ scope_in outer) k.0 in
+      let o : IsScopeOnce (scope_in (declared ∷ outer)) = (read_once e r, once) in
+      let n : NamesElement (scope_in (declared ∷ outer)) name q = subst (λ (x : Scope). NamesElement x name q) (t.scope_is ∙ same) t.is_named in
+      let x : AreExpanded (scope_in (declared ∷ outer)) others attrs =
+      subst (λ (y : List WrittenAttribute). AreExpanded (scope_in (declared ∷ outer)) y attrs) k.1
+      (subst (λ (y : Scope). AreExpanded y t.others attrs) (t.scope_is ∙ same) t.are_expanded) in
+      join e.name q e.attrs attrs (element_same o r.names.is_named n) (expanded_same o r.names.are_expanded x) where
+        join : (a b : Name) (xs ys : List Attribute) → a ≡ b → xs ≡ ys → ◌≡◌ {A = Element} (record { name = a; attrs = xs }) (record { name = b; attrs = ys })
+        join a b xs ys e f = rw (e, f) refl
+
+  -- a tag is read as its element
+  pub tag_is : {q : Name} {attrs : List Attribute} {scope : Scope} {said : List Said} (t : IsTag (scope_in outer) name said q attrs scope)
+      → t.written ≡ written → AllDeclared outer → IsScopeOnce (scope_in outer)
+      → tag_read outer name declared others ≡ Ok (record { name = q; attrs = attrs })
+  tag_is {q} {attrs} {scope} t w all once = go (tag_read outer name declared others) (tag_tells outer name written declared others split all) where
+    go : (r : Result Element ℕ) → TagTells outer name written declared others r → r ≡ Ok (record { name = q; attrs = attrs })
+    go (Ok e) r = ap Ok (tag_found t w once e r)
+    go (Err k) (inl b) = absurd (no_breach t.are_parted (recursion_from_All (λ d. IsForbidden d → ⊥) t.declarations t.allowed)
+        (subst (λ (x : Scope). NamesElement x name q) t.scope_is t.is_named) (subst (λ (x : Scope). AreExpanded x t.others attrs) t.scope_is t.are_expanded)
+        (subst (BreaksNamespaces (scope_in outer) name) (sym w) b.1))
+    go (Err k) (inr b) = absurd (tag_repeats_none t w once b.1.twice)

@@ -1,0 +1,34 @@
+-- What is answered of whole bytes is the verdict on them.
+use Rattle.std.proofs.Common.{◌≡◌, ℕ, List, Result, Ok, Err, sym, ap, subst, ◌∙◌}
+use Rattle.rng_model.specs.Lines.{lines}
+use Rattle.rng_model.specs.PyxFaults.{Fault}
+use Rattle.rng_model.specs.PyxTrees.{Placed, Event, events_of, IsPyxDocument}
+use Rattle.pyx.specs.DocumentReader.{State, Turn, document_read}
+use Rattle.pyx.specs.Documents.{AreEventsBefore, IsTheDocument, IsTheFault}
+use Rattle.pyx.proofs.DocumentComplete.{complete}
+use Rattle.pyx.proofs.DocumentSound.{sound}
+use Rattle.pyx.proofs.DocumentLeast.{first_fault}
+use Rattle.pyx.proofs.EventsAtFault.{events_at_fault}
+
+ok_err : {A B : Type 0} {x : A} {y : B} → ◌≡◌ {A = Result A B} (Ok x) (Err y) → ⊥
+ok_err e = cc
+
+all_events : (bytes : List ℕ) (tree : Placed) → IsPyxDocument bytes tree → (document_read (lines bytes)).1 ≡ events_of tree
+all_events bytes tree d = ap (λ (t : Turn State). t.1) (complete bytes tree d).is
+
+pub is_document : (bytes : List ℕ) (s : State) (events : List Event) → (document_read (lines bytes)).0 ≡ Ok s → (document_read (lines bytes)).1 ≡ events
+    → IsTheDocument bytes events
+is_document bytes s events e f = let t = sound bytes s e in record {
+  tree = t.0;
+  document = t.1;
+  events_are = sym (all_events bytes t.0 t.1) ∙ f;
+  only = λ other d. sym (all_events bytes other d) ∙ f;
+}
+
+pub is_fault : (bytes : List ℕ) (x : Fault) (sent : List Event) → (document_read (lines bytes)).0 ≡ Err x → (document_read (lines bytes)).1 ≡ sent
+    → IsTheFault bytes x sent
+is_fault bytes x sent e f = record {
+  first = first_fault (lines bytes) x e;
+  no_document = λ tree d. ok_err (sym (ap (λ (t : Turn State). t.0) (complete bytes tree d).is) ∙ e);
+  events = subst (AreEventsBefore (lines bytes) x.line) f (events_at_fault bytes x e);
+}
