@@ -1,0 +1,11 @@
+use Rattle.std.proofs.Common.{◌≡◌, length, take}
+use Rattle.rng_graph.specs.Graph.{IsFilledBy, spot_depth}
+use Rattle.rng_graph.specs.GraphView.{graph_of}
+use Rattle.rng_graph.specs.MemberDepths.{depth_in}
+use Rattle.rng_graph.proofs.depth_table.depths.Given as goal
+
+abbrev pub invariant-loop-j : goal.invariant-loop-j
+invariant-loop-j l = record {
+  long : length l.table.items ≡ length l.graph.bodies.items;
+  filled : IsFilledBy (graph_of l.graph) (spot_depth (depth_in l.table.items)) (depth_in l.table.items) (take l.j-index l.order);
+}

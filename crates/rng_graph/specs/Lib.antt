@@ -1,0 +1,16 @@
+pub mod InTwos
+pub mod Expansion
+pub mod Met
+pub mod DepthWith
+pub mod Graph
+pub mod GraphView
+pub mod Resolving
+pub mod Definitions
+pub mod ComponentTable
+pub mod ResolvedElements
+pub mod Search
+pub mod MemberDepths
+pub mod Mentioned
+pub mod ExpansionOrder
+pub mod ReadySchema
+pub mod ResolvedBody

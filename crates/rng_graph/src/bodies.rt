@@ -1,0 +1,77 @@
+// From the components of a definition to its body in the graph.
+ghost use Rattle.std.specs.Prelude.{◌≡◌, IfOk, OnOk, map, option_map};
+ghost use Rattle.std.specs.List.{list_any};
+ghost use Rattle.rng_model.specs.Schema.{is_interleaved};
+ghost use Rattle.rng_model.specs.SchemaView.{place_of, schema_component_of};
+ghost use Rattle.rng_graph.specs.ComponentTable.{joining};
+ghost use Rattle.rng_graph.specs.Definitions.{numbering_of};
+ghost use Rattle.rng_graph.specs.GraphView.{combined, graph_body_of, graph_pattern_of};
+ghost use Rattle.rng_graph.specs.Resolving.{resolve_each};
+
+use crate::definitions::Numbering;
+use crate::graph::{GraphBody, GraphPattern};
+use crate::resolving::Scope;
+use rng_model::{Component, Method, OutOfMemory};
+
+impl<'a> Scope<'a> {
+    /// The body of a definition with these components.
+    ///
+    /// RELAX NG Specification, section 4.17.
+    pub(crate) fn combined(
+        self,
+        components: &[&'a Component],
+        numbering: &mut Numbering<'a>,
+    ) -> Result<GraphBody<'a>, OutOfMemory>
+        ensures body { IfOk result (λ b. graph_body_of b ≡ combined (joining (map (λ c. schema_component_of c.now) components.now))
+            (resolve_each (place_of self.entry.place.now) (option_map (λ z. place_of z.now) self.entry.outer) (map (λ c. (schema_component_of c.now).pattern) components.now) (numbering_of numbering.old)).0) }
+        ensures numbering { OnOk result (numbering_of numbering.new
+            ≡ (resolve_each (place_of self.entry.place.now) (option_map (λ z. place_of z.now) self.entry.outer) (map (λ c. (schema_component_of c.now).pattern) components.now) (numbering_of numbering.old)).1) }
+    {
+        let patterns = self.component_patterns(components, numbering)?;
+        if are_interleaved(components) {
+            Ok(GraphBody::Interleave(patterns))
+        } else {
+            Ok(GraphBody::Choice(patterns))
+        }
+    }
+
+    /// The patterns of components, in order.
+    fn component_patterns(
+        self,
+        components: &[&'a Component],
+        numbering: &mut Numbering<'a>,
+    ) -> Result<Vec<GraphPattern<'a>>, OutOfMemory>
+        ensures patterns { IfOk result (λ rs. map graph_pattern_of rs.items
+            ≡ (resolve_each (place_of self.entry.place.now) (option_map (λ z. place_of z.now) self.entry.outer) (map (λ c. (schema_component_of c.now).pattern) components.now) (numbering_of numbering.old)).0) }
+        ensures numbering { OnOk result (numbering_of numbering.new
+            ≡ (resolve_each (place_of self.entry.place.now) (option_map (λ z. place_of z.now) self.entry.outer) (map (λ c. (schema_component_of c.now).pattern) components.now) (numbering_of numbering.old)).1) }
+    {
+        let mut patterns = Vec::new(self.alloc);
+        for component in components {
+            patterns.push(self.pattern(&component.pattern, numbering)?)?;
+        }
+        Ok(patterns)
+    }
+}
+
+/// Whether one of the components has `&=`.
+fn are_interleaved(components: &[&Component]) -> bool
+    ensures { result ≡ list_any (λ c. is_interleaved c.method) (map (λ c. schema_component_of c.now) components.now) }
+{
+    for component in components {
+        if is_interleaved(component.method) {
+            return true;
+        }
+    }
+    false
+}
+
+/// Whether it is `&=`.
+fn is_interleaved(method: Method) -> bool
+    ensures { result ≡ is_interleaved method }
+{
+    match method {
+        Method::Interleave => true,
+        Method::Plain | Method::Choice => false,
+    }
+}

@@ -1,0 +1,81 @@
+// From a schema to its graph.
+ghost use Rattle.std.specs.Prelude.{◌≡◌, ◌∷◌, [], IfOk, None, OnOk, option_map};
+ghost use Rattle.rng_model.specs.Schema as schemas;
+ghost use Rattle.rng_model.specs.SchemaView.{place_of};
+ghost use Rattle.rng_load.specs.PlacedGrammars.{schema_of};
+ghost use Rattle.rng_graph.specs.ComponentTable.{IsTable, components_of, schema_components, table_of};
+ghost use Rattle.rng_graph.specs.Definitions.{definition_of, numbering_of};
+ghost use Rattle.rng_graph.specs.ExpansionOrder.{IsGraphOfSchema};
+ghost use Rattle.rng_graph.specs.GraphView.{graph_body_of};
+ghost use Rattle.rng_graph.specs.ReadySchema.{IsReady};
+ghost use Rattle.rng_graph.specs.ResolvedBody.{resolved_body};
+
+use crate::components::ComponentTable;
+use crate::definitions::{Definition, Numbering, number};
+use crate::graph::{Graph, GraphBody};
+use crate::resolving::Scope;
+use indexmap::IndexSet;
+use rng_load::Schema;
+use rng_model::{OutOfMemory, Place};
+use std::alloc::Global;
+
+/// The graph of a schema: the definitions and the elements that are met from its start, by number.
+///
+/// The only fault is want of memory. Linear in the schema, but for hashing; recurses as deep as a pattern nests.
+///
+/// RELAX NG Specification, sections 4.17 to 4.19.
+pub fn schema_graph<'a>(alloc: Global, schema: &'a Schema) -> Result<Graph<'a>, OutOfMemory>
+    requires { IsReady (schema_of schema.now) }
+    ensures { IfOk result (λ g. IsGraphOfSchema (schema_of schema.now) g) }
+{
+    let table = ComponentTable::of_schema(alloc, schema)?;
+    let mut numbering = started(alloc, schema.main())?;
+    let mut bodies = Vec::new(alloc);
+    'definitions: while let Some(definition) = numbering.definitions.get_index(bodies.len()) {
+        let definition = *definition;
+        bodies.push(body(alloc, schema, &table, definition, &mut numbering)?)?;
+    }
+    Ok(Graph {
+        bodies,
+        elements: numbering.elements,
+    })
+}
+
+/// The start has the number 0.
+fn started<'a>(alloc: Global, main: &'a Place) -> Result<Numbering<'a>, OutOfMemory>
+    ensures { IfOk result (λ n. numbering_of n ≡ record { definitions = record { place = place_of main.now; name = None } ∷ []; elements = [] }) }
+{
+    let mut definitions = IndexSet::new(alloc);
+    number(
+        &mut definitions,
+        Definition {
+            place: main,
+            name: None,
+        },
+    )?;
+    Ok(Numbering {
+        definitions,
+        elements: Vec::new(alloc),
+    })
+}
+
+/// The body of a definition.
+fn body<'a>(
+    alloc: Global,
+    schema: &'a Schema,
+    table: &ComponentTable<'a>,
+    definition: Definition<'a>,
+    numbering: &mut Numbering<'a>,
+) -> Result<GraphBody<'a>, OutOfMemory>
+    requires table { IsTable (table_of table.now) }
+    requires components { (d : schemas.Definition) → components_of (table_of table.now) d ≡ schema_components (schema_of schema.now) d }
+    ensures body { IfOk result (λ b. graph_body_of b ≡ (resolved_body (schema_of schema.now) (definition_of definition.entry) (numbering_of numbering.old)).0) }
+    ensures numbering { OnOk result (numbering_of numbering.new ≡ (resolved_body (schema_of schema.now) (definition_of definition.entry) (numbering_of numbering.old)).1) }
+{
+    let scope = Scope {
+        alloc,
+        place: definition.place,
+        outer: schema.outer(definition.place),
+    };
+    scope.combined(table.components(definition), numbering)
+}

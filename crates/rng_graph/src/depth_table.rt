@@ -1,0 +1,51 @@
+// How deep the trees of a schema are, each definition once.
+ghost use Rattle.std.specs.Prelude.{◌≡◌, ◌<◌, ◌⊎◌, length, All, IfOk, IsTrue, IsFalse};
+ghost use Rattle.rng_graph.specs.DepthWith.{depth_with};
+ghost use Rattle.rng_graph.specs.Graph.{IsDeepBy, IsFilledBy, IsOrderBy, Mentions, spot_depth};
+ghost use Rattle.rng_graph.specs.GraphView.{classes_of, graph_of};
+ghost use Rattle.rng_graph.specs.MemberDepths.{IsDeepElement, depth_in};
+
+use crate::depth::{DEPTH_LIMIT, body_depth, class_depth, definition_depth, pattern_depth};
+use crate::graph::{Graph, GraphElement};
+use std::alloc::{AllocError, Global};
+
+/// The depth of each definition of an order, cut off one past the limit; 0 for the others.
+///
+/// Takes time in proportion to the bodies. The only fault is want of memory.
+pub fn depths(alloc: Global, graph: &Graph<'_>, order: &[usize]) -> Result<Vec<u32>, AllocError>
+    requires order { IsOrderBy (Mentions (graph_of graph.now)) order.now }
+    requires within { All (λ j. j < length (graph_of graph.now).bodies) order.now }
+    ensures { IfOk result (λ table. IsFilledBy (graph_of graph.now) (spot_depth (depth_in table.items)) (depth_in table.items) order.now) }
+{
+    let mut table = vec![in alloc; 0; graph.bodies.len()]?;
+    for j in order {
+        let depth = body_depth(&graph.bodies[*j], table.as_slice());
+        table[*j] = depth;
+    }
+    Ok(table)
+}
+
+/// Whether a tree or a name class is too deep, given the depths of the definitions.
+pub fn is_too_deep(graph: &Graph<'_>, definitions: &[u32]) -> bool
+    ensures deep { IsTrue result → IsDeepBy (classes_of graph.now) (graph_of graph.now) (depth_in definitions.now) }
+    ensures flat { IsFalse result → ¬ (IsDeepBy (classes_of graph.now) (graph_of graph.now) (depth_in definitions.now)) }
+{
+    if definition_depth(definitions, 0) > DEPTH_LIMIT {
+        return true;
+    }
+    'elements: for element in &graph.elements {
+        if is_deep_element(element, definitions) {
+            return true;
+        }
+    }
+    false
+}
+
+/// Whether the name class of an element or the tree of its body is too deep, given the depths of the definitions.
+fn is_deep_element(element: &GraphElement<'_>, definitions: &[u32]) -> bool
+    ensures deep { IsTrue result → IsDeepElement definitions.now element.now }
+    ensures flat { IsFalse result → ¬ (IsDeepElement definitions.now element.now) }
+{
+    class_depth(element.class) > DEPTH_LIMIT
+        || pattern_depth(&element.content, definitions) > DEPTH_LIMIT
+}

@@ -1,0 +1,43 @@
+// Whether the definitions of a schema can be expanded, and whether what they expand to is too deep.
+ghost use Rattle.std.specs.Prelude.{IfErr, IfOk, OnOk};
+ghost use Rattle.rng_model.specs.Schema.{Schema};
+ghost use Rattle.rng_model.specs.SchemaClauses.{BreaksDepth, BreaksExpansion};
+ghost use Rattle.rng_graph.specs.ExpansionOrder.{
+  IsExpansionFault,
+  IsGraphOfSchema,
+  IsGraphOfSome,
+  IsWholeOrder,
+};
+ghost use Rattle.rng_graph.specs.GraphView.{graph_of};
+
+use crate::depth_table::{depths, is_too_deep};
+use crate::graph::Graph;
+use crate::mentions::mentions;
+use crate::order::{Sorted, sort};
+use rng_model::SchemaFault;
+use std::alloc::Global;
+
+/// An order of the definitions of a schema in which each comes after those that its body mentions outside elements.
+///
+/// Clause 16 is answered where some expansion loops outside elements, and clause 17 where, with members nested in twos and
+/// `mixed`, `?` and `*` written by other patterns, some tree or name class is deeper than 1,000; the other fault is want
+/// of memory. Takes time and memory in proportion to the graph, and recurses as deep as a single body nests.
+///
+/// RELAX NG Specification, section 4.19.
+pub fn expansion_order(alloc: Global, graph: &Graph<'_>) -> Result<Vec<usize>, SchemaFault>
+    requires { IsGraphOfSome graph.now }
+    ensures order { IfOk result (λ order. IsWholeOrder (graph_of graph.now) order.items) }
+    ensures kept { OnOk result ((s : Schema) → IsGraphOfSchema s graph.now → (¬ (BreaksExpansion s)) × (¬ (BreaksDepth s))) }
+    ensures broken { IfErr result (λ fault. (s : Schema) → IsGraphOfSchema s graph.now → IsExpansionFault s fault) }
+{
+    let all = mentions(alloc, graph)?;
+    let order = match sort(alloc, all.as_slice())? {
+        Sorted::Order(order) => order,
+        Sorted::Loop(_) => return Err(SchemaFault::Clause(16)),
+    };
+    let depths = depths(alloc, graph, order.as_slice())?;
+    if is_too_deep(graph, depths.as_slice()) {
+        return Err(SchemaFault::Clause(17));
+    }
+    Ok(order)
+}

@@ -1,0 +1,21 @@
+//! The graph of a schema: its definitions and its elements by number, in place of names and places.
+//!
+//! `expansion_order` answers an order in which the definitions can be expanded, each once; or, exactly, that some expansion loops
+//! outside elements, or that what is reached is too deep. No recursion crosses a definition, and no tree is expanded.
+#![tactic(auto)]
+
+mod bodies;
+mod building;
+mod components;
+mod definitions;
+mod depth;
+mod depth_table;
+mod expansion;
+mod graph;
+mod mentions;
+mod order;
+mod resolving;
+
+pub use building::schema_graph;
+pub use expansion::expansion_order;
+pub use graph::{Graph, GraphBody, GraphElement, GraphPattern};
