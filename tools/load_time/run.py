@@ -29,35 +29,59 @@ def chain(front, back, last):
     return [front * LEVELS + (f'external "f{i + 1}.rnc"' if i < 63 else last) + back * LEVELS for i in range(64)]
 
 
+WHAT = [
+    "one file of 1 MiB",
+    "64 files of 1 MiB, 63 included by the first",
+    "1 MiB of components, each overridden",
+    "100 components, included 4,000 times",
+    "12 files, each but the last including the next twice",
+    "30 files, each but the last including the next twice",
+    "20,000 nested grammars side by side",
+    "64 files, 126 elements in one another, then the next file",
+    "64 files, 126 grammars in one another, then the next file",
+]
+
+
 def schemas():
     one = defines(1)
-    yield "one file of 1 MiB", [one]
-    yield "64 files of 1 MiB, 63 included by the first", [
+    yield WHAT[0], [one]
+    yield WHAT[1], [
         "start = empty\n" + "".join(f'include "f{i}.rnc"\n' for i in range(1, 64))
     ] + [defines(i) for i in range(1, 64)]
     over = "".join(f"x1_{j} = text\n" for j in range(one.count("\n")))
-    yield "1 MiB of components, each overridden", [f'include "f1.rnc" {{ {over} }}', one]
+    yield WHAT[2], [f'include "f1.rnc" {{ {over} }}', one]
     many = "".join(f"x1_{j} = element e{j} {{ empty }}\n" for j in range(100))
-    yield "100 components, included 4,000 times", ["".join('include "f1.rnc" { x1_1 = text }\n' for _ in range(4000)), many]
-    yield "12 files, each but the last including the next twice", [
+    yield WHAT[3], ["".join('include "f1.rnc" { x1_1 = text }\n' for _ in range(4000)), many]
+    yield WHAT[4], [
         f'include "f{i + 1}.rnc" include "f{i + 1}.rnc"' for i in range(11)
     ] + ["start |= text"]
-    yield "30 files, each but the last including the next twice", [
+    yield WHAT[5], [
         f'include "f{i + 1}.rnc" include "f{i + 1}.rnc"' for i in range(29)
     ] + ["start |= text"]
-    yield "20,000 nested grammars side by side", [" | ".join(["grammar { start = text }"] * 20000)]
-    yield "64 files, 126 elements in one another, then the next file", chain("element a { ", " }", "text")
-    yield "64 files, 126 grammars in one another, then the next file", chain("grammar { start = ", " }", "text")
+    yield WHAT[6], [" | ".join(["grammar { start = text }"] * 20000)]
+    yield WHAT[7], chain("element a { ", " }", "text")
+    yield WHAT[8], chain("grammar { start = ", " }", "text")
+
+
+def write_files(number):
+    """The files of the schema of this number, written by a process of their own: what this one holds would count as the program's memory."""
+    writer = os.fork()
+    if writer == 0:
+        for at, (_, texts) in enumerate(schemas()):
+            if at == number:
+                for i, text in enumerate(texts):
+                    pathlib.Path(f"f{i}.rnc").write_text(text)
+                os._exit(0)
+    os.waitpid(writer, 0)
+    return [f"f{i}.rnc" for i in range(len(list(pathlib.Path().glob("f*.rnc"))))]
 
 
 def main():
     program = pathlib.Path(sys.argv[1] if len(sys.argv) > 1 else HERE.parent.parent / "crates/rncv/out/rncv").resolve()
-    for what, texts in schemas():
+    for number, what in enumerate(WHAT):
         with tempfile.TemporaryDirectory() as folder:
             os.chdir(folder)
-            names = [f"f{i}.rnc" for i in range(len(texts))]
-            for name, text in zip(names, texts):
-                pathlib.Path(name).write_text(text)
+            names = write_files(number)
             with open("answer", "w") as answer:
                 began = time.time()
                 child = os.posix_spawn(program, [program, "check", *names], os.environ, file_actions=[(os.POSIX_SPAWN_DUP2, answer.fileno(), 1)])
