@@ -44,8 +44,6 @@ SCHEMAS = [
     ("element a { text, attribute x { text } }", element("a", group(TEXT, X))),
     ("element a { attribute x { empty } | element b { empty } }", element("a", choice(attribute("x", EMPTY), B))),
     ("element a { attribute x { text }, attribute y { empty } }", element("a", group(X, attribute("y", EMPTY)))),
-    ("element a { (attribute x { text } | attribute y { text }), (attribute y { text } | empty) }",
-     element("a", group(choice(X, Y), choice(Y, EMPTY)))),
     ("element a { (empty | element b { empty }), text, (element b { text } | empty) }",
      element("a", group(choice(EMPTY, B), TEXT, choice(BT, EMPTY)))),
     ("element b { element a { text | empty } | (text, element a { attribute y { text } | empty }) }",

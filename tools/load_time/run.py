@@ -3,8 +3,8 @@
 
     tools/load_time/run.py [PROGRAM]
 
-PROGRAM is `crates/rncv/out/rncv` where none is given. Each line tells the answer, the seconds of a processor and the greatest memory. A schema
-that breaks no clause is `refused S0` so far, after all of it was loaded.
+PROGRAM is `crates/rncv/out/rncv` where none is given. Each line tells the answer, the seconds of a processor and the greatest memory. All of a
+schema is loaded before a clause from S11 on is judged.
 """
 import os
 import pathlib

@@ -4,9 +4,8 @@ use Rattle.std.proofs.Common.{subst, ◌∙◌, append_assoc, arith}
 use Rattle.std.specs.Prelude.{◌==◌, is_some}
 use Rattle.std.proofs.lemmas.List.{append-nil, length-append}
 use Rattle.rng_model.specs.Document.{Attribute}
-use Rattle.rng_model.specs.Lines.{Line, lines}
+use Rattle.rng_model.specs.Lines.{Line, lines, attribute_limit, open_limit, text_limit}
 use Rattle.rng_model.specs.Names.{Name}
-use Rattle.rng_model.specs.Pyx.{attribute_limit, open_limit, text_limit}
 use Rattle.rng_model.specs.PyxLines as said
 use Rattle.rng_model.specs.PyxLines.{Said, WrittenName}
 use Rattle.rng_model.specs.PyxNamespaces.{WrittenAttribute, AreWritten, none_written, written_and, AreParted, Scope}

@@ -3,8 +3,7 @@ use Rattle.std.proofs.Common.{◌≡◌, ℕ, ◌+◌, ◌≤◌, ◌<◌, Bool,
 use Rattle.std.proofs.Common.{refl, sym, ap, subst, ◌∙◌, arith, append_assoc, ◌⊎◌, inl, inr, lit≤, rules}
 use Rattle.std.specs.Prelude.{◌==◌, ◌≢◌, nat_le}
 use Rattle.std.proofs.lemmas.List.{length-append, append-nil}
-use Rattle.rng_model.specs.Lines.{Line, line_limit}
-use Rattle.rng_model.specs.Pyx.{attribute_limit, open_limit, text_limit}
+use Rattle.rng_model.specs.Lines.{Line, line_limit, attribute_limit, open_limit, text_limit}
 use Rattle.rng_model.specs.PyxFaults.{HasKind, Fault, EndsInTag, IsBefore}
 use Rattle.rng_model.specs.PyxLines as said
 use Rattle.rng_model.specs.PyxLines.{Said, WrittenName, IsGoodLine, AreGoodLines}

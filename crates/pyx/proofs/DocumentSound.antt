@@ -3,8 +3,7 @@ use Rattle.std.proofs.Common.{◌≡◌, ℕ, suc, ◌+◌, ◌≤◌, ◌<◌, 
 use Rattle.std.proofs.Common.{refl, sym, ap, subst, ◌∙◌, append_assoc, arith}
 use Rattle.std.specs.Prelude.{◌==◌, ◌-◌}
 use Rattle.std.proofs.lemmas.List.{append-nil, length-append}
-use Rattle.rng_model.specs.Lines.{Line, lines}
-use Rattle.rng_model.specs.Pyx.{attribute_limit, open_limit, text_limit}
+use Rattle.rng_model.specs.Lines.{Line, lines, attribute_limit, open_limit, text_limit}
 use Rattle.rng_model.specs.PyxFaults.{Fault}
 use Rattle.rng_model.specs.PyxLines as said
 use Rattle.rng_model.specs.PyxLines.{Said, WrittenName, IsGoodLine, AreGoodLines, no_lines, line_and}

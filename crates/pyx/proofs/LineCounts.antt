@@ -2,8 +2,7 @@
 use Rattle.std.proofs.Common.{◌≡◌, ℕ, ◌+◌, ◌≤◌, Bool, true, false, cond, ◌&&◌, List, [], ◌∷◌, ◌++◌, length, Option, Some, None, Result, Ok, Err, refl, ap, ◌∙◌}
 use Rattle.std.proofs.Common.{arith, lit≤}
 use Rattle.std.specs.Prelude.{nat_le, is_some}
-use Rattle.rng_model.specs.Lines.{Line}
-use Rattle.rng_model.specs.Pyx.{open_limit}
+use Rattle.rng_model.specs.Lines.{Line, open_limit}
 use Rattle.rng_model.specs.PyxFaults.{Fault}
 use Rattle.rng_model.specs.PyxLines as lines
 use Rattle.rng_model.specs.PyxLines.{Said, WrittenName}

@@ -2,7 +2,7 @@
 use Rattle.std.proofs.Common.{◌≡◌, ℕ, ◌+◌, ◌≤◌, ◌<◌, Bool, true, false, ◌&&◌, List, [], ◌∷◌, ◌++◌, length, Result, Ok, Err, refl, sym, ap}
 use Rattle.std.proofs.Common.{◌∙◌, rules}
 use Rattle.std.specs.Prelude.{◌==◌, ◌≢◌, nat_le}
-use Rattle.rng_model.specs.Pyx.{attribute_limit, open_limit, text_limit}
+use Rattle.rng_model.specs.Lines.{attribute_limit, open_limit, text_limit}
 use Rattle.rng_model.specs.PyxLines as lines
 use Rattle.rng_model.specs.PyxLines.{Said, WrittenName}
 use Rattle.pyx.specs.TagReader.{Element, tag_read, same_written}

@@ -4,10 +4,8 @@ use Rattle.std.proofs.Common.{refl, sym, ap, subst, ◌∙◌}
 use Rattle.std.proofs.lemmas.List.{length-append}
 use Rattle.std.specs.Prelude.{is_some, sum_by}
 use Rattle.std.proofs.lemmas.List.Sums.{sum_by_push}
-use Rattle.rng_model.specs.Pyx.{attribute_limit, open_limit}
 use Rattle.rng_model.specs.Lists.{HasTwice}
-use Rattle.rng_model.specs.Lines.{Line}
-use Rattle.rng_model.specs.Pyx.{text_limit}
+use Rattle.rng_model.specs.Lines.{Line, attribute_limit, open_limit, text_limit}
 use Rattle.rng_model.specs.PyxFaults.{HasKind, nothing, EndsInTag}
 use Rattle.rng_model.specs.PyxLines as said
 use Rattle.rng_model.specs.PyxLines.{Said, WrittenName, IsGoodLine, AreGoodLines, no_lines, line_and}

@@ -4,7 +4,7 @@ use Rattle.std.proofs.Common.{rules}
 use Rattle.std.specs.Prelude.{◌==◌, nat_le}
 use Rattle.std.proofs.lemmas.Bool.{lt-leb}
 use Rattle.std.proofs.lemmas.List.{append-nil}
-use Rattle.rng_model.specs.Pyx.{attribute_limit, open_limit, text_limit}
+use Rattle.rng_model.specs.Lines.{attribute_limit, open_limit, text_limit}
 use Rattle.rng_model.specs.PyxLines as lines
 use Rattle.rng_model.specs.PyxLines.{Said, WrittenName}
 use Rattle.rng_model.specs.PyxTrees.{Event, a_start, a_string, an_end}

@@ -7,7 +7,7 @@ use Rattle.std.proofs.lemmas.List.Elements.{All-from_recursion, recursion_from_A
 use Rattle.rng_model.specs.Document.{Attribute}
 use Rattle.rng_model.specs.Lists.{Among, here, there, HasTwice, at_first, later}
 use Rattle.rng_model.specs.Names.{Name}
-use Rattle.rng_model.specs.Pyx.{attribute_limit}
+use Rattle.rng_model.specs.Lines.{attribute_limit}
 use Rattle.rng_model.specs.PyxLines.{Said, WrittenName}
 use Rattle.rng_model.specs.PyxNamespaces.{WrittenAttribute, AreWritten, Declaration, Declares, default_namespace, prefix_declared, AreParted, nothing}
 use Rattle.rng_model.specs.PyxNamespaces.{declaration}

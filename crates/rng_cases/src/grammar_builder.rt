@@ -1,6 +1,7 @@
 // Grammars, built of what fits.
+ghost use Rattle.std.specs.Prelude.{All, IfSome};
 ghost use Rattle.std.specs.Bool.{OnTrue};
-ghost use Rattle.rng_model.specs.Table.{AreChildrenBelow, IsClassPaired, IsLeafListed, IsPaired};
+ghost use Rattle.rng_model.specs.Table.{AreChildrenBelow, IsClassPaired, IsLeafListed, IsOfFirstKind, IsPaired};
 
 use rng_model::{NameClass, PatternId, Simple, SimpleGrammar};
 use std::alloc::Global;
@@ -17,7 +18,7 @@ pub struct GrammarBuilder {
 
 impl Model for GrammarBuilder {
     ghost use Rattle.std.specs.Prelude.{◌<◌, ℕ, List, length, All};
-    ghost use Rattle.rng_model.specs.Table.{Falls, IsClassPaired, IsLeafListed, IsPaired};
+    ghost use Rattle.rng_model.specs.Table.{Falls, IsClassPaired, IsLeafListed, IsOfFirstKind, IsPaired};
     ghost use Rattle.rng_model.specs.declared.simple.Simple.{Simple};
     ghost use Rattle.rng_model.specs.declared.simple.PatternId.{PatternId};
     ghost use Rattle.rng_model.specs.declared.name.NameClass.{NameClass};
@@ -30,7 +31,9 @@ impl Model for GrammarBuilder {
 
     ghost view = { λ d. (d.patterns.items, d.elements.items, d.count) };
 
-    ghost invariant = { λ d. Falls d.patterns.items × All (IsLeafListed d.count) d.patterns.items × All (λ e. e.1.0 < length d.patterns.items) d.elements.items × All IsClassPaired d.patterns.items × All (λ e. IsPaired e.0) d.elements.items };
+    ghost invariant = { λ d. Falls d.patterns.items × All (IsLeafListed d.count) d.patterns.items
+        × All (λ e. e.1.0 < length d.patterns.items) d.elements.items × All IsClassPaired d.patterns.items
+        × All (λ e. IsPaired e.0) d.elements.items × All IsOfFirstKind d.patterns.items };
 }
 
 impl GrammarBuilder {
@@ -43,7 +46,7 @@ impl GrammarBuilder {
         }
     }
 
-    /// Adds a pattern whose children are there.
+    /// Adds a pattern whose children are there, of the kinds that documents are judged by.
     pub fn add(&mut self, pattern: Simple) {
         if !fits(&pattern, self.patterns.len(), self.count) {
             self.is_whole = false;
@@ -76,7 +79,9 @@ impl GrammarBuilder {
     }
 
     /// The grammar, where all was taken and all its elements are listed.
-    pub fn finish(self, start: PatternId) -> Option<SimpleGrammar> {
+    pub fn finish(self, start: PatternId) -> Option<SimpleGrammar>
+        ensures { IfSome result (λ g. All IsOfFirstKind g.patterns) }
+    {
         if !self.is_whole || self.elements.len() != self.count || start.0 >= self.patterns.len() {
             return None;
         }
@@ -98,16 +103,25 @@ fn is_paired(class: &NameClass) -> bool
     }
 }
 
-/// Whether the children of a pattern are below `next`, its ref below `count`, and its name class is paired.
+/// Whether a pattern is of the kinds that documents are judged by, its children are below `next`, its ref below `count`,
+/// and its name class is paired.
 fn fits(pattern: &Simple, next: usize, count: usize) -> bool
-    ensures { OnTrue result (AreChildrenBelow next pattern.now × IsLeafListed count pattern.now × IsClassPaired pattern.now) }
+    ensures inside { OnTrue result (AreChildrenBelow next pattern.now × IsLeafListed count pattern.now) }
+    ensures paired { OnTrue result (IsClassPaired pattern.now) }
+    ensures kind { OnTrue result (IsOfFirstKind pattern.now) }
 {
     match pattern {
+        Simple::NotAllowed | Simple::Empty | Simple::Text => true,
         Simple::Element(element) => element.0 < count,
         Simple::Attribute(class, body) => body.0 < next && is_paired(class),
         Simple::Group(first, second) | Simple::Choice(first, second) => {
             first.0 < next && second.0 < next
         }
-        _ => true,
+        Simple::List(_)
+        | Simple::Data(_)
+        | Simple::DataExcept(_, _)
+        | Simple::Value { .. }
+        | Simple::OneOrMore(_)
+        | Simple::Interleave(_, _) => false,
     }
 }

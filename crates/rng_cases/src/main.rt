@@ -7,6 +7,9 @@
 //! it. `reads` and `writes` count what fails of working devices and of broken ones. The other calls are those of texts.
 #![tactic(auto)]
 
+ghost use Rattle.std.specs.Prelude.{All, IfSome};
+ghost use Rattle.rng_model.specs.Table.{IsOfFirstKind};
+
 mod devices;
 mod document;
 mod grammar_builder;
@@ -27,7 +30,7 @@ use written_tables::read_grammar;
 
 fn main(rt: HostRuntime) -> io::Result<()> {
     let mut grammar = None;
-    for row in rows(&rt, "cases.txt")? {
+    'rows: for row in rows(&rt, "cases.txt")? {
         let call = row.text(0)?;
         if call == "grammar" {
             grammar = read_grammar(rt.alloc(), row.text(1)?, row.text(2)?);
@@ -44,7 +47,9 @@ fn print_answer(
     grammar: &Option<SimpleGrammar>,
     call: &str,
     of: &str,
-) -> io::Result<()> {
+) -> io::Result<()>
+    requires { IfSome grammar.now (λ g. All IsOfFirstKind g.patterns) }
+{
     match call {
         "document" => print_judged(rt, grammar, of),
         "simple" => print_simple_form(rt, of),
@@ -70,7 +75,9 @@ fn print_judged(
     rt: &(impl Print + AllocGlobal),
     grammar: &Option<SimpleGrammar>,
     lines: &str,
-) -> io::Result<()> {
+) -> io::Result<()>
+    requires { IfSome grammar.now (λ g. All IsOfFirstKind g.patterns) }
+{
     let Some(grammar) = grammar else {
         return println!(rt; "no grammar");
     };

@@ -32,7 +32,15 @@ fn print_pattern(rt: &impl Print, pattern: &Simple) -> io::Result<()> {
             print_class(rt, class)?;
             print!(rt; " {body}")
         }
+        Simple::List(PatternId(body)) => print!(rt; "list {body}"),
+        Simple::Data(datatype) => print!(rt; "data {}", datatype.name),
+        Simple::DataExcept(datatype, PatternId(except)) => {
+            print!(rt; "data {} {except}", datatype.name)
+        }
+        Simple::Value { name, text, .. } => print!(rt; "value {name} {text}"),
+        Simple::OneOrMore(PatternId(body)) => print!(rt; "{body}+"),
         Simple::Group(PatternId(a), PatternId(b)) => print!(rt; "{a},{b}"),
+        Simple::Interleave(PatternId(a), PatternId(b)) => print!(rt; "{a}&{b}"),
         Simple::Choice(PatternId(a), PatternId(b)) => print!(rt; "{a}|{b}"),
     }
 }

@@ -1,4 +1,7 @@
 // Grammars from rows.
+ghost use Rattle.std.specs.Prelude.{All, IfSome};
+ghost use Rattle.rng_model.specs.Table.{IsOfFirstKind};
+
 use crate::grammar_builder::GrammarBuilder;
 use rng_model::{ElementId, Name, NameClass, PatternId, Simple, SimpleGrammar};
 use std::alloc::{AllocError, Global};
@@ -8,7 +11,9 @@ use std::alloc::{AllocError, Global};
 /// The patterns are `notAllowed`, `empty`, `text`, `eN` for the element N, `@CLASS N`, `N,M` and `N|M`; `twice K` stands for
 /// K groups, each of the pattern before it twice, and `groups K` and `choices K` for K groups or choices of the pattern
 /// before them with that pattern, with another choice before each. An element is its name class and its body, as `CLASS N`.
-pub fn read_grammar(alloc: Global, count: &str, tables: &str) -> Option<SimpleGrammar> {
+pub fn read_grammar(alloc: Global, count: &str, tables: &str) -> Option<SimpleGrammar>
+    ensures { IfSome result (λ g. All IsOfFirstKind g.patterns) }
+{
     let mut builder = GrammarBuilder::new(alloc, count.parse::<usize>().unwrap_or(0));
     let mut start = PatternId(0);
     for entry in tables.split("; ") {

@@ -1,5 +1,5 @@
 -- The children of an element, one after another.
-use Rattle.std.proofs.Common.{◌≡◌, ℕ, ◌+◌, ◌<◌, ◌≤◌, arith, List, [], ◌∷◌, ◌++◌, map, length, take, get_or, Some, option_map, ◌↔◌, IsTrue, Bool, true, false}
+use Rattle.std.proofs.Common.{◌≡◌, ℕ, ◌+◌, ◌<◌, ◌≤◌, arith, List, [], ◌∷◌, ◌++◌, map, length, take, get_or, Some, option_map, ◌↔◌, IsTrue, Bool, true, false, All}
 use Rattle.std.proofs.Common.{◌&&◌, ap, sym, ◌∙◌, subst, Vec, Global, rules}
 use Rattle.std.proofs.lemmas.List.{length-map, take_all}
 use Rattle.std.proofs.Math.ListN.{get_or-map}
@@ -9,7 +9,7 @@ use Rattle.std.proofs.lemmas.Option.{slice_get-map, slice_get-get_or}
 use Rattle.rng_model.specs.Document as document
 use Rattle.rng_model.specs.Document.{a_text, an_element, list_of}
 use Rattle.rng_model.specs.Tree as tree
-use Rattle.rng_model.specs.Table.{Table, Grammar, IsValidBy, grammar_of, tree_at}
+use Rattle.rng_model.specs.Table.{IsOfFirstKind, Table, Grammar, IsValidBy, grammar_of, tree_at}
 use Rattle.rng_model.specs.View.{attribute_of, item_of, items_of, name_of}
 use Rattle.rng_model.specs.declared.document.Attr.{Attr}
 use Rattle.rng_model.specs.declared.document.Item.{Item, Element, the_lemmas}
@@ -92,14 +92,14 @@ all_children g drops children i symbols past is stand =
     subst (λ ns. Stands (content ns)) (sym (list_of-items (map item_of children))) (subst Stands kept_all stand)
 
 -- the elements that take a node's attributes and content are those that the node matches
-pub element_answer : {Z : Type 0} (t : Table) (item : Item) (name : Name) (attrs : Vec Attr Global) (children : Vec Item Global) (symbols : List Symbol)
+pub element_answer : {Z : Type 0} (t : Table) → All IsOfFirstKind t.patterns → (item : Item) (name : Name) (attrs : Vec Attr Global) (children : Vec Item Global) (symbols : List Symbol)
     (found : HashSet ℕ Z) → item ≡ Element name attrs children → IsWellFormed (item_of item) →
     StandForItems (grammar_of t) symbols (content (list_of (items_of (map item_of children.items))))
     → AnswersNodes t (name_of name) (map attribute_of attrs.items) symbols found → HasItsElements (grammar_of t) found (item_of item)
-element_answer t item name attrs children symbols found e well stand answers =
+element_answer t kinds item name attrs children symbols found e well stand answers =
     let parts = parts_of item name attrs children e well in
     let kids = items_of (map item_of children.items) in
-    let has = its_elements t found (name_of name) (map attribute_of attrs.items) kids parts.apart
+    let has = its_elements t kinds found (name_of name) (map attribute_of attrs.items) kids parts.apart
     (λ tests k small. answers (content (list_of kids)) stand tests k small) in
     subst (λ n. HasItsElements (grammar_of t) found n) (sym (element_is item name attrs children e)) has
 
@@ -113,8 +113,8 @@ root_answer t ss s root left answer copied stands after is = λ tests.
     let start : tree_of t ss t.start.0 ≡ tree_at t.patterns t.start = copied.trees t.start.0 copied.table.start in
     let step = item_step t s root _ _ stands after.is tests in
     let At : tree.Simple ℕ → Type 0 = λ p. Accepts g tests p [] (root ∷ []) in
-    let kind = grammar_derivable t t.start in (
+    let kind = grammar_derivable t copied.kinds t.start in (
       λ e. alone_out g tests (tree_at t.patterns t.start) root
-          (subst At start (step.forth [] (nullable_in g tests _ (entry_derivable t ss left) (sym is ∙ e)))),
+          (subst At start (step.forth [] (nullable_in g tests _ (entry_derivable t copied.kinds ss left) (sym is ∙ e)))),
       λ d. is ∙ nullable_out g tests _ (step.back [] (subst At (sym start) (alone_in g tests (tree_at t.patterns t.start) kind root d))),
     )

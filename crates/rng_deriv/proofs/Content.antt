@@ -1,5 +1,5 @@
 -- From the content of an element to the element, and from there to the symbol that stands for it.
-use Rattle.std.proofs.Common.{◌≡◌, ◌↔◌, ℕ, suc, zero, ◌<◌, ◌^◌, List, [], ◌∷◌, ◌++◌, length, drop, slice_get, Option, Some, None, option_map, unwrap_or, Bool}
+use Rattle.std.proofs.Common.{◌≡◌, ◌↔◌, ℕ, suc, zero, ◌<◌, ◌^◌, List, [], ◌∷◌, ◌++◌, length, drop, slice_get, Option, Some, None, option_map, unwrap_or, Bool, All}
 use Rattle.std.proofs.Common.{true, false, cond, ◌&&◌, nat_eq, IsTrue, refl, ap, sym, ◌∙◌, subst, ⊎_elim, inl, inr}
 use Rattle.std.proofs.lemmas.List.{append-nil}
 use Rattle.std.proofs.lemmas.Option.{slice_get-map}
@@ -13,7 +13,7 @@ use Rattle.rng_model.specs.Document as document
 use Rattle.rng_model.specs.Matching.{Matches, Weakly}
 use Rattle.rng_model.specs.Matching as m
 use Rattle.rng_model.specs.Table as table
-use Rattle.rng_model.specs.Table.{Table, Grammar, grammar_of, grammar_leaves, tree_at, IsListed}
+use Rattle.rng_model.specs.Table.{IsOfFirstKind, Table, Grammar, grammar_of, grammar_leaves, tree_at, IsListed}
 use Rattle.rng_model.specs.View.{class_of, items_of}
 use Rattle.rng_model.specs.declared.name.NameClass.{NameClass}
 use Rattle.rng_model.specs.declared.simple.PatternId.{PatternId}
@@ -115,13 +115,13 @@ in_table_by t k c s (Some x) e found =
 pub in_table : (t : Table) (k : ℕ) (c : names.NameClass) (s : tree.Simple ℕ) → slice_get (grammar_of t).elements k ≡ Some (c, s) → InTable t k c s
 in_table t k c s found = in_table_by t k c s (slice_get t.elements k) refl found
 
-body_derivable : (t : Table) (k : ℕ) (c : names.NameClass) (s : tree.Simple ℕ) → slice_get (grammar_of t).elements k ≡ Some (c, s) → IsDerivable s
-body_derivable t k c s found = let h = in_table t k c s found in subst IsDerivable h.body_is (grammar_derivable t h.entry.1)
+body_derivable : (t : Table) → All IsOfFirstKind t.patterns → (k : ℕ) (c : names.NameClass) (s : tree.Simple ℕ) → slice_get (grammar_of t).elements k ≡ Some (c, s) → IsDerivable s
+body_derivable t kinds k c s found = let h = in_table t k c s found in subst IsDerivable h.body_is (grammar_derivable t kinds h.entry.1)
 
 -- an element matches a node exactly if its body takes the node's attributes and content
-pub node_in : (t : Table) (tests : TextTests) (k : ℕ) (q : names.Name) (xs : List Attribute) (kids : Items) → Separate (list_of kids)
+pub node_in : (t : Table) → All IsOfFirstKind t.patterns → (tests : TextTests) (k : ℕ) (q : names.Name) (xs : List Attribute) (kids : Items) → Separate (list_of kids)
     → IsOf (grammar_of t) tests k (an_element q xs kids) → TakesNode (grammar_of t) tests k q xs (content (list_of kids))
-node_in t tests k q xs kids apart (m.element_is {c = c} {a = a} {ns = ns} (table.is_listed {s = s} found is) i e v document.alone) =
+node_in t kinds tests k q xs kids apart (m.element_is {c = c} {a = a} {ns = ns} (table.is_listed {s = s} found is) i e v document.alone) =
     let body = subst (λ b. Weakly (grammar_leaves (grammar_of t) (texts_of tests)) In (texts_of tests) tt b xs ns) is v in
     let kids_body = subst (λ l. WeaklyByRules (grammar_of t) tests s xs l) e body in
     record {
@@ -129,9 +129,9 @@ node_in t tests k q xs kids apart (m.element_is {c = c} {a = a} {ns = ns} (table
       body = s;
       listed = found;
       named = i;
-      contains = weakly_in (grammar_of t) tests s (body_derivable t k c s found) xs (list_of kids) apart kids_body;
+      contains = weakly_in (grammar_of t) tests s (body_derivable t kinds k c s found) xs (list_of kids) apart kids_body;
     }
-node_in t tests k q xs kids apart (m.stands_for r d) = elim r [ ]
+node_in t kinds tests k q xs kids apart (m.stands_for r d) = elim r [ ]
 
 pub node_out : (t : Table) (tests : TextTests) (k : ℕ) (q : names.Name) (xs : List Attribute) (kids : Items) → Separate (list_of kids)
     → TakesNode (grammar_of t) tests k q xs (content (list_of kids)) → IsOf (grammar_of t) tests k (an_element q xs kids)
@@ -139,12 +139,12 @@ node_out t tests k q xs kids apart h =
     m.element_is (table.is_listed h.listed refl) h.named refl (weakly_out (grammar_of t) tests h.body xs (list_of kids) apart h.contains) document.alone
 
 -- a set of the elements that take a node, as the set of the elements that the node matches
-pub its_elements : {Z : Type 0} (t : Table) (elements : HashSet ℕ Z) (q : names.Name) (xs : List Attribute) (kids : Items) → Separate (list_of kids) →
+pub its_elements : {Z : Type 0} (t : Table) → All IsOfFirstKind t.patterns → (elements : HashSet ℕ Z) (q : names.Name) (xs : List Attribute) (kids : Items) → Separate (list_of kids) →
     ((tests : TextTests) (k : ℕ) → k < 2 ^ 64 → IsTrue (contains nat_eq elements k) ↔ TakesNode (grammar_of t) tests k q xs (content (list_of kids)))
     → HasItsElements (grammar_of t) elements (an_element q xs kids)
-its_elements t elements q xs kids apart has = record {
+its_elements t kinds elements q xs kids apart has = record {
   element = refl;
-  each = λ tests k small. (λ e. node_out t tests k q xs kids apart ((has tests k small).0 e), λ d. (has tests k small).1 (node_in t tests k q xs kids apart d));
+  each = λ tests k small. (λ e. node_out t tests k q xs kids apart ((has tests k small).0 e), λ d. (has tests k small).1 (node_in t kinds tests k q xs kids apart d));
 }
 
 -- ---- one element of the grammar against a node

@@ -1,12 +1,12 @@
 -- Derivatives by attributes and by symbols, one after another.
-use Rattle.std.proofs.Common.{◌≡◌, ◌↔◌, ℕ, suc, zero, ◌+◌, ◌<◌, ◌≤◌, List, [], ◌∷◌, ◌++◌, map, length, drop, take, get_or}
+use Rattle.std.proofs.Common.{◌≡◌, ◌↔◌, ℕ, suc, zero, ◌+◌, ◌<◌, ◌≤◌, List, [], ◌∷◌, ◌++◌, map, length, drop, take, get_or, All}
 use Rattle.std.proofs.Common.{slice_get, Some, Bool, ◌||◌, IsTrue, refl, ap, sym, ◌∙◌, subst, arith}
 use Rattle.std.proofs.lemmas.List.{drop_all, take_more}
 use Rattle.std.proofs.Math.Numerals.{add-one}
 use Rattle.std.specs.List.{list_any}
 use Rattle.rng_model.specs.Tree as tree
 use Rattle.rng_model.specs.Document.{Attribute, Item}
-use Rattle.rng_model.specs.Table.{Table, grammar_of}
+use Rattle.rng_model.specs.Table.{IsOfFirstKind, Table, grammar_of}
 use Rattle.rng_model.specs.Texts.{TextTests}
 use Rattle.rng_deriv.specs.Acceptance.{Contains, IsAfterAttribute, IsAfterItem, Accepts}
 use Rattle.rng_deriv.specs.PatternTable.{Longer, is_nullable, tree_of}
@@ -99,16 +99,16 @@ module _ (t : Table) where
             (subst (λ p. At p (n ∷ drop (suc i) ns)) (sym same) (subst (λ ms. At (tree_of t cs at) ms) here.rest ((so_far ns stand tests).1 h)))),
       )
 
-  pub symbols_end : (rs cs : List TableEntry) (number left : ℕ) (all : List Symbol) (i : ℕ) (answer : Bool) → i ≡ length all
+  pub symbols_end : All IsOfFirstKind t.patterns → (rs cs : List TableEntry) (number left : ℕ) (all : List Symbol) (i : ℕ) (answer : Bool) → i ≡ length all
       → answer ≡ is_nullable (tree_of t cs left) →
       ((ns : List Item) → StandForItems (grammar_of t) all ns → (tests : TextTests)
       → Accepts (grammar_of t) tests (tree_of t cs left) [] (drop i ns) ↔ Accepts (grammar_of t) tests (tree_of t rs number) [] ns) →
       AnswersItems t rs number all answer
-  symbols_end rs cs number left all i answer end is so_far = λ ns stand tests.
+  symbols_end kinds rs cs number left all i answer end is so_far = λ ns stand tests.
       let g = grammar_of t in
       let none : drop i ns ≡ [] = ap (λ k. drop k ns) end ∙ as_many g all ns stand in
       let At : List Item → Type 0 = λ ms. Accepts g tests (tree_of t cs left) [] ms in (
-        λ e. (so_far ns stand tests).0 (subst At (sym none) (nullable_in g tests _ (entry_derivable t cs left) (sym is ∙ e))),
+        λ e. (so_far ns stand tests).0 (subst At (sym none) (nullable_in g tests _ (entry_derivable t kinds cs left) (sym is ∙ e))),
         λ h. is ∙ nullable_out g tests _ (subst At none ((so_far ns stand tests).1 h)),
       )
 

@@ -100,7 +100,7 @@ Knows-insert t rs s old new number left known after updates = λ k d e. ⊎_elim
 pub AreCopied-longer : (t : Table) (rs ss : List TableEntry) → Longer rs ss → AreCopied t rs → AreCopied t ss
 AreCopied-longer t rs ss p copied = let more = Longer-length rs ss p in
     let long = copied.long in
-    record { table = copied.table; long = omega arith; trees = λ i h. tree_stays t rs ss i p (omega arith) ∙ copied.trees i h }
+    record { table = copied.table; kinds = copied.kinds; long = omega arith; trees = λ i h. tree_stays t rs ss i p (omega arith) ∙ copied.trees i h }
 
 -- what holds of each item holds of one that was found
 pub All-found : {X : Type 0} (P : X → Type 0) (xs : List X) (i : ℕ) (x : X) → All P xs → slice_get xs i ≡ Some x → P x

@@ -1,5 +1,5 @@
 -- What is left of a leaf: of text after a string, of an element after a node, of an attribute after an attribute.
-use Rattle.std.proofs.Common.{◌≡◌, ◌↔◌, ◌⊎◌, inl, inr, ⊎_elim, ℕ, ◌<◌, ◌^◌, List, [], ◌∷◌, slice_get, Option, Some, None, Bool, true, false, not, cond, ◌||◌}
+use Rattle.std.proofs.Common.{◌≡◌, ◌↔◌, ◌⊎◌, inl, inr, ⊎_elim, ℕ, ◌<◌, ◌^◌, List, [], ◌∷◌, slice_get, Option, Some, None, Bool, true, false, not, cond, ◌||◌, All}
 use Rattle.std.proofs.Common.{◌&&◌, string_bytes, length, arith, Bor, nat_eq, IsTrue, refl, sym, ◌∙◌, subst}
 use Rattle.std.proofs.lemmas.Option.{slice_get_within}
 use Rattle.std.specs.HashSet.{HashSet, contains}
@@ -10,7 +10,7 @@ use Rattle.rng_model.specs.Document.{Attribute, Item, a_text, an_element}
 use Rattle.rng_model.specs.Document as document
 use Rattle.rng_model.specs.Matching.{Matches}
 use Rattle.rng_model.specs.Matching as m
-use Rattle.rng_model.specs.Table.{Table, Grammar, grammar_of, grammar_leaves, tree_at}
+use Rattle.rng_model.specs.Table.{IsOfFirstKind, Table, Grammar, grammar_of, grammar_leaves, tree_at}
 use Rattle.rng_model.specs.View.{attribute_of, class_of, name_of}
 use Rattle.rng_model.specs.declared.name.NameClass.{NameClass}
 use Rattle.rng_model.specs.declared.document.Attr.{Attr}
@@ -140,6 +140,12 @@ found_left t (symbol.Text s) (Some (simple.Attribute class body)) not =
     λ tests. attribute_after (grammar_of t) tests (a_text s.now) (class_of class) (tree_at t.patterns body)
 found_left t (symbol.Element es) (Some (simple.Attribute class body)) not =
     λ n is tests. attribute_after (grammar_of t) tests n (class_of class) (tree_at t.patterns body)
+found_left t s (Some (simple.List body)) not = nothing_left (grammar_of t) s
+found_left t s (Some (simple.Data datatype)) not = nothing_left (grammar_of t) s
+found_left t s (Some (simple.DataExcept datatype except)) not = nothing_left (grammar_of t) s
+found_left t s (Some (simple.Value library name text)) not = nothing_left (grammar_of t) s
+found_left t s (Some (simple.OneOrMore body)) not = nothing_left (grammar_of t) s
+found_left t s (Some (simple.Interleave a b)) not = nothing_left (grammar_of t) s
 found_left t s (Some (simple.Group a b)) not = nothing_left (grammar_of t) s
 found_left t s (Some (simple.Choice a b)) not = nothing_left (grammar_of t) s
 
@@ -207,17 +213,17 @@ taken_out true b c h = refl
 taken_out false true c h = ⊎_elim (λ e. absurd (cc)) (λ e. e.1) h
 taken_out false false c h = ⊎_elim (λ e. absurd (cc)) (λ e. let f = e.0 in absurd (cc)) h
 
-pub text_answer : (t : Table) (rs ss : List TableEntry) (s : Bor (List ℕ)) (number left : ℕ) (answer a b : Bool) → number < length rs → Longer rs ss
+pub text_answer : (t : Table) → All IsOfFirstKind t.patterns → (rs ss : List TableEntry) (s : Bor (List ℕ)) (number left : ℕ) (answer a b : Bool) → number < length rs → Longer rs ss
     → IsAfter t ss (symbol.Text s) number left → a ≡ is_nullable (tree_of t ss left) → b ≡ is_nullable (tree_of t ss number)
     → answer ≡ (a || (b && is_blank s.now)) → (tests : TextTests) → IsTrue answer ↔ TakesText (grammar_of t) tests (tree_of t rs number) [] s.now
-text_answer t rs ss s number left answer a b inside longer after alone empty is = λ tests.
+text_answer t kinds rs ss s number left answer a b inside longer after alone empty is = λ tests.
     let g = grammar_of t in
     let same : tree_of t ss number ≡ tree_of t rs number = tree_stays t rs ss number longer inside in
     let Takes : tree.Simple ℕ → Type 0 = λ p. TakesText g tests p [] s.now in (
       λ e.
           let h = taken_in a b (is_blank s.now) (sym is ∙ e) in
           subst Takes same
-          (text_taken g tests _ _ s.now (entry_derivable t ss number) (entry_derivable t ss left) (after.is tests)
+          (text_taken g tests _ _ s.now (entry_derivable t kinds ss number) (entry_derivable t kinds ss left) (after.is tests)
           (⊎_elim (λ x. inl (sym alone ∙ x)) (λ x. inr (sym empty ∙ x.0, x.1)) h)),
       λ h.
           let d = text_is_taken g tests _ _ s.now (after.is tests) (subst Takes (sym same) h) in
@@ -236,4 +242,4 @@ attribute_answer t rs k class body a value takes copied found below holds same t
     let Test : tree.Simple ℕ → List ℕ → Type 0 = λ p v. IsTrue takes ↔ TakesText g tests p [] v in
     let tested = subst (λ v. Test (tree_at t.patterns body) v) same (subst (λ p. Test p value) body_is (test tests)) in
     subst (λ o. IsAfterAttribute g tests (attribute_of a) (attribute_found t o) (cond takes tree.s_empty tree.s_not_allowed)) (sym found)
-    (after_value g tests (class_of class) (tree_at t.patterns body) (attribute_of a) takes (grammar_derivable t body) holds tested)
+    (after_value g tests (class_of class) (tree_at t.patterns body) (attribute_of a) takes (grammar_derivable t copied.kinds body) holds tested)

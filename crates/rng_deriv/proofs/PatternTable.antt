@@ -50,6 +50,12 @@ attribute_is_not_nullable t (Some simple.Empty) = refl
 attribute_is_not_nullable t (Some simple.Text) = refl
 attribute_is_not_nullable t (Some (simple.Element e)) = refl
 attribute_is_not_nullable t (Some (simple.Attribute class body)) = refl
+attribute_is_not_nullable t (Some (simple.List body)) = refl
+attribute_is_not_nullable t (Some (simple.Data datatype)) = refl
+attribute_is_not_nullable t (Some (simple.DataExcept datatype except)) = refl
+attribute_is_not_nullable t (Some (simple.Value library name text)) = refl
+attribute_is_not_nullable t (Some (simple.OneOrMore body)) = refl
+attribute_is_not_nullable t (Some (simple.Interleave a b)) = refl
 attribute_is_not_nullable t (Some (simple.Group a b)) = refl
 attribute_is_not_nullable t (Some (simple.Choice a b)) = refl
 

@@ -1,9 +1,9 @@
 -- Patterns by number, and the trees that they stand for.
-use Rattle.std.specs.Prelude.{◌≡◌, ℕ, ◌<◌, ◌≤◌, ⊤, List, [], ◌∷◌, ◌++◌, length, fold, slice_get, slice_index_or, Option, Some, None, Bool, true, false, ◌||◌}
+use Rattle.std.specs.Prelude.{◌≡◌, ℕ, ◌<◌, ◌≤◌, ⊤, List, [], ◌∷◌, ◌++◌, length, fold, slice_get, slice_index_or, Option, Some, None, Bool, true, false, ◌||◌, All}
 use Rattle.std.specs.Prelude.{◌&&◌}
 use Rattle.rng_model.specs.Tree as tree
 use Rattle.rng_model.specs.Tree.{choice, group, interleave}
-use Rattle.rng_model.specs.Table.{Table, Grammar, IsTable, tree_at}
+use Rattle.rng_model.specs.Table.{Table, Grammar, IsOfFirstKind, IsTable, tree_at}
 use Rattle.rng_model.specs.View.{class_of}
 use Rattle.rng_model.specs.declared.simple.PatternId.{PatternId}
 use Rattle.rng_model.specs.declared.simple.Simple.{Simple}
@@ -22,6 +22,12 @@ attribute_found t (Some simple.Empty) = tree.s_not_allowed
 attribute_found t (Some simple.Text) = tree.s_not_allowed
 attribute_found t (Some (simple.Element e)) = tree.s_not_allowed
 attribute_found t (Some (simple.Attribute class body)) = tree.s_attribute (class_of class) (tree_at t.patterns body)
+attribute_found t (Some (simple.List body)) = tree.s_not_allowed
+attribute_found t (Some (simple.Data datatype)) = tree.s_not_allowed
+attribute_found t (Some (simple.DataExcept datatype except)) = tree.s_not_allowed
+attribute_found t (Some (simple.Value library name text)) = tree.s_not_allowed
+attribute_found t (Some (simple.OneOrMore body)) = tree.s_not_allowed
+attribute_found t (Some (simple.Interleave a b)) = tree.s_not_allowed
 attribute_found t (Some (simple.Group a b)) = tree.s_not_allowed
 attribute_found t (Some (simple.Choice a b)) = tree.s_not_allowed
 
@@ -92,18 +98,25 @@ pub record AddsPattern (rs ss : List TableEntry) (built : Table → tree.Simple 
   pub inside : number < length ss
   pub same : (t : Table) (g : Grammar) (tests : TextTests) → Same g tests (tree_of t ss number) (built t)
 
--- the node of the grammar's pattern at a position
+-- the node of the grammar's pattern at a position; the kinds that are not taken yet, which no grammar has that is matched, allow nothing
 abbrev pub node_for : Simple → PatternId → Node
 node_for simple.NotAllowed position = node.NotAllowed
 node_for simple.Empty position = node.Empty
 node_for simple.Text position = node.Text
 node_for (simple.Element e) position = node.Element e
 node_for (simple.Attribute class body) position = node.Attribute position
+node_for (simple.List body) position = node.NotAllowed
+node_for (simple.Data datatype) position = node.NotAllowed
+node_for (simple.DataExcept datatype except) position = node.NotAllowed
+node_for (simple.Value library name text) position = node.NotAllowed
+node_for (simple.OneOrMore body) position = node.NotAllowed
+node_for (simple.Interleave a b) position = node.NotAllowed
 node_for (simple.Group a b) position = node.Group a.0 b.0
 node_for (simple.Choice a b) position = node.Choice a.0 b.0
 
 -- each pattern of the grammar stands at its position
 pub record AreCopied (t : Table) (rs : List TableEntry) : Type 0 where
   pub table : IsTable t
+  pub kinds : All IsOfFirstKind t.patterns
   pub long : length t.patterns ≤ length rs
   pub trees : (i : ℕ) → i < length t.patterns → tree_of t rs i ≡ tree_at t.patterns (record { 0 = i })

@@ -1,7 +1,7 @@
 // Patterns by number: those of a grammar, and what is left of them while a document is matched.
-ghost use Rattle.std.specs.Prelude.{◌≡◌, ◌+◌, ◌<◌, ℕ, List, length, slice_get, Some, IfSome, IfOk, OnOk};
+ghost use Rattle.std.specs.Prelude.{All, ◌≡◌, ◌+◌, ◌<◌, ℕ, List, length, slice_get, Some, IfSome, IfOk, OnOk};
 ghost use Rattle.rng_model.specs.Tree.{choice, group, s_joined};
-ghost use Rattle.rng_model.specs.Table.{Table, IsTable};
+ghost use Rattle.rng_model.specs.Table.{Table, IsOfFirstKind, IsTable};
 ghost use Rattle.rng_deriv.specs.PatternTable.{AreSidesBelow, AreCopied, AddsPattern, Longer, node_for, tree_of, tree_over, is_nullable};
 
 use rng_model::{ElementId, OutOfMemory, PatternId, Simple, SimpleGrammar};
@@ -170,7 +170,8 @@ impl PatternTable {
 
 /// The patterns of a grammar, each at its position.
 pub fn table_of(alloc: Global, grammar: &SimpleGrammar) -> Result<PatternTable, OutOfMemory>
-    requires { IsTable grammar.now }
+    requires table { IsTable grammar.now }
+    requires kinds { All IsOfFirstKind grammar.now.patterns }
     ensures { IfOk result (AreCopied grammar.now) }
 {
     let mut table = PatternTable::new(alloc);
@@ -193,6 +194,12 @@ fn node_of(pattern: &Simple, position: PatternId) -> Node
         Simple::Text => Node::Text,
         Simple::Element(element) => Node::Element(*element),
         Simple::Attribute(_, _) => Node::Attribute(position),
+        Simple::List(_)
+        | Simple::Data(_)
+        | Simple::DataExcept(_, _)
+        | Simple::Value { .. }
+        | Simple::OneOrMore(_)
+        | Simple::Interleave(_, _) => Node::NotAllowed,
         Simple::Group(first, second) => Node::Group(first.0, second.0),
         Simple::Choice(first, second) => Node::Choice(first.0, second.0),
     }

@@ -1,7 +1,7 @@
 // Which elements of a grammar a node of a document matches, from the leaves up.
-ghost use Rattle.std.specs.Prelude.{◌≡◌, ◌↔◌, ◌<◌, ◌&&◌, length, map, IsTrue, IfOk, OnOk};
+ghost use Rattle.std.specs.Prelude.{All, ◌≡◌, ◌↔◌, ◌<◌, ◌&&◌, length, map, IsTrue, IfOk, OnOk};
 ghost use Rattle.std.specs.List.{list_any};
-ghost use Rattle.rng_model.specs.Table.{IsValidBy, grammar_of};
+ghost use Rattle.rng_model.specs.Table.{IsOfFirstKind, IsValidBy, grammar_of};
 ghost use Rattle.rng_model.specs.View.{attribute_of, item_of, name_of};
 ghost use Rattle.rng_model.specs.Texts.{TextTests, texts_of};
 ghost use Rattle.rng_model.specs.WellFormed.{IsWellFormed};
@@ -21,13 +21,14 @@ use std::collections::{HashMap, HashSet};
 
 /// Whether the document with this root is valid by the grammar.
 ///
-/// RELAX NG Specification, section 6.3. Each node is judged once against each element of the grammar with its name, by
+/// The grammar has no list, data, value, oneOrMore and interleave yet. RELAX NG Specification, section 6.3. Each node is judged once against each element of the grammar with its name, by
 /// its attributes and children in turn; an item takes each numbered pattern once, so time and memory grow with the
 /// document and the numbered patterns and not with the trees that these stand for. Where n children of an element may
 /// each stand in many places of its body, memory grows as n squared and time as n cubed. Recursion goes as deep as the
 /// document and as the second sides of groups and choices. `OutOfMemory` where a growth was refused, and never else.
 pub fn is_valid(alloc: Global, grammar: &SimpleGrammar, root: &Item) -> Result<bool, OutOfMemory>
-    requires { IsWellFormed (item_of root.now) }
+    requires kinds { All IsOfFirstKind grammar.now.patterns }
+    requires well_formed { IsWellFormed (item_of root.now) }
     ensures { IfOk result (λ valid. (tests : TextTests) → IsTrue valid ↔ IsValidBy (grammar_of grammar.now) (texts_of tests) (item_of root.now)) }
 {
     let start = grammar.start().0;

@@ -1,11 +1,6 @@
 -- Datatypes as they stand in a file, and as they are read.
 use Rattle.std.proofs.Common.{◌≡◌, ◌∙◌, sym, ap, ap₂, ℕ, List, ◌∷◌, map, rules, Vec, Box, Global, String, string_bytes, Option, Some, None}
-use Rattle.rng_model.specs.declared.datatype.Datatype.{Datatype}
-use Rattle.rng_model.specs.declared.schema_pattern.SchemaPattern.{SchemaPattern, the_lemmas}
-use Rattle.rng_model.specs.declared.schema_pattern.SchemaPattern.TheVariants as patterns
 use Rattle.rng_model.specs.Patterns as pattern
-use Rattle.rng_model.specs.SchemaView.{schema_pattern_of}
-use Rattle.rng_model.specs.Types.{datatype_of}
 use Rattle.rnc_grammar.specs.declared.file_tree.Component.{the_lemmas as tree_lemmas}
 use Rattle.rnc_grammar.specs.declared.file_tree.DatatypeName.{DatatypeName}
 use Rattle.rnc_grammar.specs.declared.file_tree.Pattern.{Pattern}
@@ -28,26 +23,17 @@ except_tree : (d : DatatypeName) (ps : Vec (String Global × String Global) Glob
     → pattern_of (trees.Data d ps (Some b)) ≡ tree.data_except (type_of d) (texts ps.items) (pattern_of b.value)
 except_tree d ps b = search (rules, tree_lemmas)
 
-plain_schema : (d : Datatype) → schema_pattern_of (patterns.Data d None) ≡ pattern.data_of (datatype_of d)
-plain_schema d = search (rules, the_lemmas)
-
-except_schema : (d : Datatype) (b : Box SchemaPattern Global)
-    → schema_pattern_of (patterns.Data d (Some b)) ≡ pattern.data_except (datatype_of d) (schema_pattern_of b.value)
-except_schema d b = search (rules, the_lemmas)
-
 module _ (files : List ℕ → Option FileTree) (levels : ℕ) (u : List ℕ) (x : Way) (p : Pattern) (d : DatatypeName)
-    (ps : Vec (String Global × String Global) Global) (slice : List (String Global × String Global)) (same : slice ≡ ps.items) (r : Datatype)
-    (is : datatype_of r ≡ datatype_in (type_of d) (texts slice)) where
-  pub plain_read : p ≡ trees.Data d ps None → schema_pattern_of (patterns.Data r None) ≡ (read_at files levels u x (pattern_of p)).0
+    (ps : Vec (String Global × String Global) Global) (slice : List (String Global × String Global)) (same : slice ≡ ps.items) where
+  pub plain_read : p ≡ trees.Data d ps None → pattern.data_of (datatype_in (type_of d) (texts slice)) ≡ (read_at files levels u x (pattern_of p)).0
   unfolding read_with
-  plain_read e = plain_schema r ∙ ap pattern.data_of (is ∙ ap (λ s. datatype_in (type_of d) (texts s)) same)
+  plain_read e = ap (λ s. pattern.data_of (datatype_in (type_of d) (texts s))) same
       ∙ sym (ap (λ a. (read_at files levels u x a).0) (ap pattern_of e ∙ plain_tree d ps))
 
-  pub except_read : (b : Box Pattern Global) (q : Pattern) (c : Box SchemaPattern Global) → p ≡ trees.Data d ps (Some b) → q ≡ b.value
-      → schema_pattern_of c.value ≡ (read_at files levels u (0 ∷ x) (pattern_of q)).0
-      → schema_pattern_of (patterns.Data r (Some c)) ≡ (read_at files levels u x (pattern_of p)).0
+  pub except_read : (b : Box Pattern Global) (q : Pattern) (c : pattern.Pattern) → p ≡ trees.Data d ps (Some b) → q ≡ b.value
+      → c ≡ (read_at files levels u (0 ∷ x) (pattern_of q)).0
+      → pattern.data_except (datatype_in (type_of d) (texts slice)) c ≡ (read_at files levels u x (pattern_of p)).0
   unfolding read_with
-  except_read b q c e body inner = except_schema r c
-      ∙ ap₂ pattern.data_except (is ∙ ap (λ s. datatype_in (type_of d) (texts s)) same)
+  except_read b q c e body inner = ap₂ pattern.data_except (ap (λ s. datatype_in (type_of d) (texts s)) same)
       (inner ∙ ap (λ a. (read_at files levels u (0 ∷ x) (pattern_of a)).0) body)
       ∙ sym (ap (λ a. (read_at files levels u x a).0) (ap pattern_of e ∙ except_tree d ps b))

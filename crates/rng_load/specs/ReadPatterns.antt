@@ -1,8 +1,11 @@
 -- What code reads of the patterns of files, apart from where it lies in memory.
 use Rattle.std.specs.Prelude.{ℕ, List, map, Option}
 use Rattle.rng_model.specs.SchemaView.{place_of}
+use Rattle.rng_model.specs.Tree as tree
 use Rattle.rnc_grammar.specs.FileTree.{FileTree, components_of}
 use Rattle.rnc_grammar.specs.View.{component_of}
+use Rattle.rng_load.specs.declared.reading_patterns.Connector.{Connector}
+use Rattle.rng_load.specs.declared.reading_patterns.Connector.TheVariants as connectors
 use Rattle.rng_load.specs.declared.reading_patterns.NestedGrammar.{NestedGrammar}
 use Rattle.rng_load.specs.declared.reading_patterns.TreeReader.{TreeReader}
 use Rattle.rng_load.specs.FilesView.{taken_files_of}
@@ -15,3 +18,9 @@ nested_of g = record { place = place_of g.place; uri = g.uri.now; components = c
 -- the trees by name
 abbrev pub files_in : TreeReader → List ℕ → Option FileTree
 files_in r = tree_in (taken_files_of r.trees.now)
+
+-- what stands between the members of a list
+abbrev pub connector_of : Connector → tree.Connector
+connector_of connectors.Group = tree.group
+connector_of connectors.Interleave = tree.interleave
+connector_of connectors.Choice = tree.choice

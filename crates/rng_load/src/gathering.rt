@@ -1,5 +1,5 @@
 // From the components of files to those of the grammars of a schema.
-ghost use Rattle.std.specs.Prelude.{◌≡◌, ◌∷◌, ◌++◌, ◌||◌, ℕ, IfOk, List, OnOk, Option, filter, map, not, option_map, reverse, string_bytes};
+ghost use Rattle.std.specs.Prelude.{◌≡◌, [], ◌∷◌, ◌++◌, ◌||◌, ℕ, IfOk, List, OnOk, Option, filter, map, not, option_map, reverse, string_bytes};
 ghost use Rattle.rng_model.specs.Schema.{same_name};
 ghost use Rattle.rnc_grammar.specs.FileTree.{components_of};
 ghost use Rattle.rnc_grammar.specs.View.{component_of, mention_of, pattern_of};
@@ -88,13 +88,11 @@ impl<'a> TreeReader<'a> {
     {
         match component {
             rnc_grammar::Component::Start(method, body) => {
-                let start = self.gathered(levels, uri, way, None, *method, body)?;
-                Ok(all.push(start)?)
+                self.put_gathered(levels, uri, way, None, *method, body, all)
             }
             rnc_grammar::Component::Define(name, method, body) => {
                 let name = String::from_str(self.alloc, name.as_str())?;
-                let define = self.gathered(levels, uri, way, Some(name), *method, body)?;
-                Ok(all.push(define)?)
+                self.put_gathered(levels, uri, way, Some(name), *method, body, all)
             }
             rnc_grammar::Component::Div(components) => {
                 self.gather_all(levels, uri, way, components, all)
@@ -109,6 +107,7 @@ impl<'a> TreeReader<'a> {
     ///
     /// RELAX NG Specification, section 4.7.
     #[cycle(gathering)]
+    #[inline(never)]
     fn include(
         self,
         levels: u32,
@@ -130,6 +129,7 @@ impl<'a> TreeReader<'a> {
     /// The components of the file that is included.
     #[cycle(gathering)]
     #[tactic(auto, unfolding(crate::specs::PlainReading::included_with, crate::specs::PlainReading::gather_below))]
+    #[inline(never)]
     fn included(
         self,
         levels: u32,
@@ -170,6 +170,25 @@ impl<'a> TreeReader<'a> {
         self.gather_all(levels, uri, way, components, all)?;
         way.pop();
         Ok(())
+    }
+
+    /// Puts the component of this name there, of which a start has none.
+    #[inline(never)]
+    fn put_gathered(
+        self,
+        levels: u32,
+        uri: &'a str,
+        way: &mut Vec<usize>,
+        name: Option<String>,
+        method: Method,
+        pattern: &'a Pattern,
+        all: &mut Vec<GatheredComponent<'a>>,
+    ) -> Result<(), OutOfMemory>
+        ensures gathered { OnOk result (map gathered_of all.new.items ≡ map gathered_of all.old.items ++ gathered_as (option_map (λ y. string_bytes y) name) method (read_at (files_in self.entry) levels uri.now (reverse way.old.items) (pattern_of pattern.now)) ∷ []) }
+        ensures way { OnOk result (way.new.items ≡ way.old.items) }
+    {
+        let component = self.gathered(levels, uri, way, name, method, pattern)?;
+        Ok(all.push(component)?)
     }
 
     /// The component of this name with the grammars that are nested in its pattern.

@@ -4,14 +4,14 @@ ghost use Rattle.rng_model.specs.Patterns as schema;
 ghost use Rattle.rng_model.specs.SchemaView.{schema_pattern_of};
 ghost use Rattle.rng_model.specs.Types.{datatype_of, parameter_of};
 ghost use Rattle.rnc_grammar.specs.FileTree.{components_of, patterns_of};
-ghost use Rattle.rnc_grammar.specs.View.{component_of, file_of, mention_of, pattern_of, type_of};
-ghost use Rattle.rng_load.specs.Places.{datatype_in, uri_in};
+ghost use Rattle.rnc_grammar.specs.View.{class_of, component_of, file_of, mention_of, pattern_of, type_of};
+ghost use Rattle.rng_load.specs.Places.{class_in, datatype_in, uri_in};
 ghost use Rattle.rng_load.specs.PlainReading.{external_with, nested_here, read_all_at, read_at, read_below};
-ghost use Rattle.rng_load.specs.ReadPatterns.{files_in, nested_of};
+ghost use Rattle.rng_load.specs.ReadPatterns.{connector_of, files_in, nested_of};
 
 use crate::reading_names::{name_class, namespace_uri};
 use indexmap::IndexMap;
-use rnc_grammar::{Component, DatatypeName, FileTree, Mention, Pattern};
+use rnc_grammar::{Component, DatatypeName, FileTree, Mention, NameClass, Pattern};
 use rng_model::{Datatype, OutOfMemory, Place, SchemaPattern};
 use std::alloc::Global;
 
@@ -30,6 +30,30 @@ pub(crate) struct NestedGrammar<'a> {
 pub(crate) struct TreeReader<'a> {
     pub alloc: Global,
     pub trees: &'a IndexMap<String, FileTree>,
+}
+
+/// What stands between the members of a list.
+#[derive(Clone, Copy)]
+pub(crate) enum Connector {
+    /// `,`
+    Group,
+    /// `&`
+    Interleave,
+    /// `|`
+    Choice,
+}
+
+impl Connector {
+    /// The pattern of these members.
+    fn joined(self, members: Vec<SchemaPattern>) -> SchemaPattern
+        ensures { schema_pattern_of result ≡ schema.members (connector_of self) (map schema_pattern_of members.items) }
+    {
+        match self {
+            Connector::Group => SchemaPattern::Group(members),
+            Connector::Interleave => SchemaPattern::Interleave(members),
+            Connector::Choice => SchemaPattern::Choice(members),
+        }
+    }
 }
 
 impl<'a> TreeReader<'a> {
@@ -55,12 +79,12 @@ impl<'a> TreeReader<'a> {
     {
         match pattern {
             Pattern::Element(class, body) => {
-                let class = name_class(self.alloc, class, uri)?;
-                Ok(SchemaPattern::Element(class, self.body(levels, uri, way, body, grammars)?))
+                let body = self.body(levels, uri, way, body, grammars)?;
+                element(self.alloc, class, uri, body)
             }
             Pattern::Attribute(class, body) => {
-                let class = name_class(self.alloc, class, uri)?;
-                Ok(SchemaPattern::Attribute(class, self.body(levels, uri, way, body, grammars)?))
+                let body = self.body(levels, uri, way, body, grammars)?;
+                attribute(self.alloc, class, uri, body)
             }
             Pattern::List(body) => Ok(SchemaPattern::List(self.body(
                 levels, uri, way, body, grammars,
@@ -77,14 +101,8 @@ impl<'a> TreeReader<'a> {
             Pattern::OneOrMore(body) => Ok(SchemaPattern::OneOrMore(self.body(
                 levels, uri, way, body, grammars,
             )?)),
-            Pattern::Ref(name) => Ok(SchemaPattern::Ref(String::from_str(
-                self.alloc,
-                name.as_str(),
-            )?)),
-            Pattern::ParentRef(name) => Ok(SchemaPattern::ParentRef(String::from_str(
-                self.alloc,
-                name.as_str(),
-            )?)),
+            Pattern::Ref(name) => reference(self.alloc, name.as_str()),
+            Pattern::ParentRef(name) => parent_reference(self.alloc, name.as_str()),
             Pattern::Empty => Ok(SchemaPattern::Empty),
             Pattern::Text => Ok(SchemaPattern::Text),
             Pattern::NotAllowed => Ok(SchemaPattern::NotAllowed),
@@ -93,40 +111,32 @@ impl<'a> TreeReader<'a> {
                 type_name,
                 parameters,
                 except,
-            } => {
-                let datatype = datatype(self.alloc, type_name, parameters)?;
-                match except {
-                    None => Ok(SchemaPattern::Data {
-                        datatype,
-                        except: None,
-                    }),
-                    Some(except) => {
-                        let except = self.body(levels, uri, way, except, grammars)?;
-                        Ok(SchemaPattern::Data {
-                            datatype,
-                            except: Some(except),
-                        })
-                    }
+            } => match except {
+                None => data(self.alloc, type_name, parameters),
+                Some(except) => {
+                    let except = self.body(levels, uri, way, except, grammars)?;
+                    data_except(self.alloc, type_name, parameters, except)
                 }
-            }
+            },
             Pattern::External(mention) => self.external(levels, uri, way, mention, grammars),
             Pattern::Grammar(components) => {
                 grammar(self.alloc, uri, way.as_slice(), components, grammars)
             }
-            Pattern::Group(members) => Ok(SchemaPattern::Group(self.members(
-                levels, uri, way, members, grammars,
-            )?)),
-            Pattern::Interleave(members) => Ok(SchemaPattern::Interleave(self.members(
-                levels, uri, way, members, grammars,
-            )?)),
-            Pattern::Choice(members) => Ok(SchemaPattern::Choice(self.members(
-                levels, uri, way, members, grammars,
-            )?)),
+            Pattern::Group(all) => {
+                self.members(levels, uri, way, Connector::Group, all, grammars)
+            }
+            Pattern::Interleave(all) => {
+                self.members(levels, uri, way, Connector::Interleave, all, grammars)
+            }
+            Pattern::Choice(all) => {
+                self.members(levels, uri, way, Connector::Choice, all, grammars)
+            }
         }
     }
 
     /// The child with this number.
     #[cycle(reading)]
+    #[inline(always)]
     fn child(
         self,
         levels: u32,
@@ -148,6 +158,7 @@ impl<'a> TreeReader<'a> {
 
     /// The only child.
     #[cycle(reading)]
+    #[inline(never)]
     fn body(
         self,
         levels: u32,
@@ -164,17 +175,19 @@ impl<'a> TreeReader<'a> {
         Ok(Box::new(self.alloc, read)?)
     }
 
-    /// The children, in order.
+    /// The pattern whose members the children are, in order.
     #[cycle(reading)]
+    #[inline(never)]
     fn members(
         self,
         levels: u32,
         uri: &'a str,
         way: &mut Vec<usize>,
+        connector: Connector,
         patterns: &'a [Pattern],
         grammars: &mut Vec<NestedGrammar<'a>>,
-    ) -> Result<Vec<SchemaPattern>, OutOfMemory>
-        ensures patterns { IfOk result (λ ps. map schema_pattern_of ps.items ≡ (read_all_at (files_in self.entry) levels uri.now (reverse way.old.items) 0 (patterns_of (map pattern_of patterns.now))).0) }
+    ) -> Result<SchemaPattern, OutOfMemory>
+        ensures pattern { IfOk result (λ p. schema_pattern_of p ≡ schema.members (connector_of connector) (read_all_at (files_in self.entry) levels uri.now (reverse way.old.items) 0 (patterns_of (map pattern_of patterns.now))).0) }
         ensures nested { OnOk result (map nested_of grammars.new.items ≡ map nested_of grammars.old.items ++ (read_all_at (files_in self.entry) levels uri.now (reverse way.old.items) 0 (patterns_of (map pattern_of patterns.now))).1) }
         ensures way { OnOk result (way.new.items ≡ way.old.items) }
     {
@@ -182,7 +195,7 @@ impl<'a> TreeReader<'a> {
         for (number, pattern) in patterns.iter().enumerate() {
             members.push(self.child(levels, uri, way, number, pattern, grammars)?)?;
         }
-        Ok(members)
+        Ok(connector.joined(members))
     }
 
     /// The pattern of a file that is mentioned; of a grammar a nested one.
@@ -190,6 +203,7 @@ impl<'a> TreeReader<'a> {
     /// RELAX NG Specification, section 4.6.
     #[cycle(reading)]
     #[tactic(auto, unfolding(crate::specs::PlainReading::external_with, crate::specs::PlainReading::read_below))]
+    #[inline(never)]
     fn external(
         self,
         levels: u32,
@@ -233,6 +247,7 @@ impl<'a> TreeReader<'a> {
 /// The pattern that stands for a nested grammar, which is put at the end of `grammars`.
 ///
 /// RELAX NG Specification, section 4.18.
+#[inline(never)]
 fn grammar<'a>(
     alloc: Global,
     uri: &'a str,
@@ -251,7 +266,87 @@ fn grammar<'a>(
     Ok(SchemaPattern::Grammar(Place::from_outermost(alloc, way)?))
 }
 
+/// An element of names of this class, in a file that inherits this namespace.
+///
+/// RELAX NG Specification, section 4.9.
+#[inline(never)]
+fn element(
+    alloc: Global,
+    class: &NameClass,
+    inherited: &str,
+    body: Box<SchemaPattern>,
+) -> Result<SchemaPattern, OutOfMemory>
+    ensures { IfOk result (λ p. schema_pattern_of p ≡ schema.element (class_in inherited.now (class_of class.now)) (schema_pattern_of body.value)) }
+{
+    Ok(SchemaPattern::Element(name_class(alloc, class, inherited)?, body))
+}
+
+/// An attribute of names of this class, in a file that inherits this namespace.
+///
+/// RELAX NG Specification, section 4.9.
+#[inline(never)]
+fn attribute(
+    alloc: Global,
+    class: &NameClass,
+    inherited: &str,
+    body: Box<SchemaPattern>,
+) -> Result<SchemaPattern, OutOfMemory>
+    ensures { IfOk result (λ p. schema_pattern_of p ≡ schema.attribute (class_in inherited.now (class_of class.now)) (schema_pattern_of body.value)) }
+{
+    Ok(SchemaPattern::Attribute(name_class(alloc, class, inherited)?, body))
+}
+
+/// A reference to what has this name.
+#[inline(never)]
+fn reference(alloc: Global, name: &str) -> Result<SchemaPattern, OutOfMemory>
+    ensures { IfOk result (λ p. schema_pattern_of p ≡ schema.ref name.now) }
+{
+    Ok(SchemaPattern::Ref(String::from_str(alloc, name)?))
+}
+
+/// A reference to what has this name in the grammar around.
+#[inline(never)]
+fn parent_reference(alloc: Global, name: &str) -> Result<SchemaPattern, OutOfMemory>
+    ensures { IfOk result (λ p. schema_pattern_of p ≡ schema.parent_ref name.now) }
+{
+    Ok(SchemaPattern::ParentRef(String::from_str(alloc, name)?))
+}
+
+/// The texts of a datatype.
+#[inline(never)]
+fn data(
+    alloc: Global,
+    type_name: &DatatypeName,
+    parameters: &[(String, String)],
+) -> Result<SchemaPattern, OutOfMemory>
+    ensures { IfOk result (λ p. schema_pattern_of p ≡ schema.data_of (datatype_in (type_of type_name.now) (map (λ p. (string_bytes p.0, string_bytes p.1)) parameters.now))) }
+{
+    let datatype = datatype(alloc, type_name, parameters)?;
+    Ok(SchemaPattern::Data {
+        datatype,
+        except: None,
+    })
+}
+
+/// The texts of a datatype but those that the pattern matches.
+#[inline(never)]
+fn data_except(
+    alloc: Global,
+    type_name: &DatatypeName,
+    parameters: &[(String, String)],
+    except: Box<SchemaPattern>,
+) -> Result<SchemaPattern, OutOfMemory>
+    ensures { IfOk result (λ p. schema_pattern_of p ≡ schema.data_except (datatype_in (type_of type_name.now) (map (λ p. (string_bytes p.0, string_bytes p.1)) parameters.now)) (schema_pattern_of except.value)) }
+{
+    let datatype = datatype(alloc, type_name, parameters)?;
+    Ok(SchemaPattern::Data {
+        datatype,
+        except: Some(except),
+    })
+}
+
 /// A text of a datatype.
+#[inline(never)]
 fn value(alloc: Global, type_name: &DatatypeName, text: &str) -> Result<SchemaPattern, OutOfMemory>
     ensures { IfOk result (λ p. schema_pattern_of p ≡ schema.value (type_of type_name.now).library (type_of type_name.now).name text.now) }
 {

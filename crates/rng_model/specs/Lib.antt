@@ -9,7 +9,6 @@ pub mod Written
 pub mod View
 pub mod Table
 pub mod Lines
-pub mod Pyx
 pub mod PyxFaults
 pub mod PyxLines
 pub mod PyxNamespaces

@@ -4,8 +4,7 @@
 use Rattle.std.specs.Prelude.{◌≡◌, ◌≢◌, ℕ, ◌+◌, ◌<◌, ◌≤◌, List, [], ◌∷◌, ◌++◌, Some, length, map, All}
 use Rattle.rng_model.specs.Lists.{Among, HasTwice}
 use Rattle.rng_model.specs.Document.{Attribute}
-use Rattle.rng_model.specs.Lines.{Line, line_limit}
-use Rattle.rng_model.specs.Pyx.{attribute_limit, open_limit, text_limit}
+use Rattle.rng_model.specs.Lines.{Line, line_limit, attribute_limit, open_limit, text_limit}
 use Rattle.rng_model.specs.WellFormed.{Distinct}
 use Rattle.rng_model.specs.PyxFaults.{Fault, HasKind, IsBalanced, IsBefore, EndsInTag}
 use Rattle.rng_model.specs.PyxLines.{Said, WrittenName, start, IsGoodLine, AreGoodLines, BreaksAlone}

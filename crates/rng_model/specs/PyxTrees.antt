@@ -4,8 +4,7 @@ use Rattle.std.specs.Prelude.{◌≡◌, ℕ, suc, ◌+◌, ◌≤◌, List, [],
 use Rattle.rng_model.specs.Lists.{HasTwice}
 use Rattle.rng_model.specs.Names.{Name}
 use Rattle.rng_model.specs.Document.{Attribute, Item, a_text, an_element, Items, no_items, item_and}
-use Rattle.rng_model.specs.Lines.{lines}
-use Rattle.rng_model.specs.Pyx.{attribute_limit, open_limit, text_limit}
+use Rattle.rng_model.specs.Lines.{lines, attribute_limit, open_limit, text_limit}
 use Rattle.rng_model.specs.WellFormed.{Distinct}
 use Rattle.rng_model.specs.PyxLines.{Said, WrittenName, start, text, end, instruction, AreGoodLines}
 use Rattle.rng_model.specs.PyxNamespaces.{WrittenAttribute, AreWritten, AreParted, Declaration, IsForbidden, Scope, NamesElement, AreExpanded}

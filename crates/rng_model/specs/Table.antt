@@ -1,15 +1,17 @@
 -- A simple grammar in tables, and the trees that it stands for.
-use Rattle.std.specs.Prelude.{◌≡◌, ℕ, ◌<◌, ⊤, List, [], ◌∷◌, ◌++◌, length, fold, map, All, slice_get, slice_index_or, Some, Bool, true, ◌==◌, ◌&&◌, IsTrue}
+use Rattle.std.specs.Prelude.{◌≡◌, ℕ, ◌<◌, ⊤, List, [], ◌∷◌, ◌++◌, length, fold, map, All, slice_get, slice_index_or, Some, Bool, true, ◌==◌, ◌&&◌, IsTrue, string_bytes}
 use Rattle.std.specs.List.{list_all}
 use Rattle.rng_model.specs.Names as names
 use Rattle.rng_model.specs.Names.{In}
 use Rattle.rng_model.specs.Tree as tree
-use Rattle.rng_model.specs.Tree.{Tree, choice, group, IsSimpleBody, as_tree}
+use Rattle.rng_model.specs.Tree.{Tree, choice, group, interleave, IsSimpleBody, as_tree}
 use Rattle.rng_model.specs.Document.{Item}
 use Rattle.rng_model.specs.Matching.{Leaves, Texts, IsValid}
 use Rattle.rng_model.specs.Lex.{HasText}
 use Rattle.rng_model.specs.Written.{Nothing}
 use Rattle.rng_model.specs.View.{class_of}
+use Rattle.rng_model.specs.Types.{datatype_of}
+use Rattle.rng_model.specs.Patterns.{without_parameters}
 use Rattle.rng_model.specs.declared.name.NameClass.{NameClass, fold-NameClass}
 use Rattle.rng_model.specs.declared.name.NameClass.TheOpen.{NameClass-F}
 use Rattle.rng_model.specs.declared.simple.PatternId.{PatternId}
@@ -29,7 +31,13 @@ tree_over of simple.Empty = tree.s_empty
 tree_over of simple.Text = tree.s_text
 tree_over of (simple.Element e) = tree.s_leaf e.0
 tree_over of (simple.Attribute class body) = tree.s_attribute (class_of class) (of body)
+tree_over of (simple.List body) = tree.s_list (of body)
+tree_over of (simple.Data datatype) = tree.s_data (datatype_of datatype)
+tree_over of (simple.DataExcept datatype except) = tree.s_data_except (datatype_of datatype) (of except)
+tree_over of (simple.Value library name text) = tree.s_value (without_parameters (string_bytes library) (string_bytes name)) (string_bytes text)
+tree_over of (simple.OneOrMore body) = tree.s_one_or_more (of body)
 tree_over of (simple.Group a b) = tree.s_joined group (of a) (of b)
+tree_over of (simple.Interleave a b) = tree.s_joined interleave (of a) (of b)
 tree_over of (simple.Choice a b) = tree.s_joined choice (of a) (of b)
 
 abbrev pub tree_in : List (tree.Simple ℕ) → PatternId → tree.Simple ℕ
@@ -85,7 +93,13 @@ AreChildrenBelow n simple.Empty = ⊤
 AreChildrenBelow n simple.Text = ⊤
 AreChildrenBelow n (simple.Element e) = ⊤
 AreChildrenBelow n (simple.Attribute class body) = body.0 < n
+AreChildrenBelow n (simple.List body) = body.0 < n
+AreChildrenBelow n (simple.Data datatype) = ⊤
+AreChildrenBelow n (simple.DataExcept datatype except) = except.0 < n
+AreChildrenBelow n (simple.Value library name text) = ⊤
+AreChildrenBelow n (simple.OneOrMore body) = body.0 < n
 AreChildrenBelow n (simple.Group a b) = (a.0 < n) × (b.0 < n)
+AreChildrenBelow n (simple.Interleave a b) = (a.0 < n) × (b.0 < n)
 AreChildrenBelow n (simple.Choice a b) = (a.0 < n) × (b.0 < n)
 
 -- a ref is one of the n elements
@@ -95,7 +109,13 @@ IsLeafListed n simple.Empty = ⊤
 IsLeafListed n simple.Text = ⊤
 IsLeafListed n (simple.Element e) = e.0 < n
 IsLeafListed n (simple.Attribute class body) = ⊤
+IsLeafListed n (simple.List body) = ⊤
+IsLeafListed n (simple.Data datatype) = ⊤
+IsLeafListed n (simple.DataExcept datatype except) = ⊤
+IsLeafListed n (simple.Value library name text) = ⊤
+IsLeafListed n (simple.OneOrMore body) = ⊤
 IsLeafListed n (simple.Group a b) = ⊤
+IsLeafListed n (simple.Interleave a b) = ⊤
 IsLeafListed n (simple.Choice a b) = ⊤
 
 -- one level of: each choice has two members, told of the classes inside
@@ -118,8 +138,30 @@ IsClassPaired simple.Empty = ⊤
 IsClassPaired simple.Text = ⊤
 IsClassPaired (simple.Element e) = ⊤
 IsClassPaired (simple.Attribute class body) = IsPaired class
+IsClassPaired (simple.List body) = ⊤
+IsClassPaired (simple.Data datatype) = ⊤
+IsClassPaired (simple.DataExcept datatype except) = ⊤
+IsClassPaired (simple.Value library name text) = ⊤
+IsClassPaired (simple.OneOrMore body) = ⊤
 IsClassPaired (simple.Group a b) = ⊤
+IsClassPaired (simple.Interleave a b) = ⊤
 IsClassPaired (simple.Choice a b) = ⊤
+
+-- a pattern of the kinds that the matcher takes so far
+abbrev pub IsOfFirstKind : Simple → Type 0
+IsOfFirstKind simple.NotAllowed = ⊤
+IsOfFirstKind simple.Empty = ⊤
+IsOfFirstKind simple.Text = ⊤
+IsOfFirstKind (simple.Element e) = ⊤
+IsOfFirstKind (simple.Attribute c body) = ⊤
+IsOfFirstKind (simple.List body) = ⊥
+IsOfFirstKind (simple.Data datatype) = ⊥
+IsOfFirstKind (simple.DataExcept datatype except) = ⊥
+IsOfFirstKind (simple.Value library name text) = ⊥
+IsOfFirstKind (simple.OneOrMore body) = ⊥
+IsOfFirstKind (simple.Group a b) = ⊤
+IsOfFirstKind (simple.Interleave a b) = ⊥
+IsOfFirstKind (simple.Choice a b) = ⊤
 
 -- each pattern's children stand before it
 abbrev pub Falls : List Simple → Type 0

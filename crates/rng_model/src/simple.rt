@@ -1,4 +1,5 @@
 // One pattern of a simple grammar's table.
+use crate::datatype::Datatype;
 use crate::name::NameClass;
 
 /// A position in a grammar's table of patterns, from 0.
@@ -20,6 +21,18 @@ pub enum Simple {
     /// A ref to an element that the grammar lists.
     Element(ElementId),
     Attribute(NameClass, PatternId),
+    List(PatternId),
+    Data(Datatype),
+    /// A datatype, and what it excepts.
+    DataExcept(Datatype, PatternId),
+    /// A text of a datatype: the uri of its library, empty for the one built in, and its name there.
+    Value {
+        library: String,
+        name: String,
+        text: String,
+    },
+    OneOrMore(PatternId),
     Group(PatternId, PatternId),
+    Interleave(PatternId, PatternId),
     Choice(PatternId, PatternId),
 }

@@ -61,7 +61,7 @@ max-below : (a b m : ℕ) → max a b < m → (a < m) × (b < m)
 max-below a b m h = (omega (arith, h), omega (arith, h))
 
 -- a longer text is another one
-shorter : (u v : List ℕ) → length u < length v → bytes_eq u v ≡ false
+pub shorter : (u v : List ℕ) → length u < length v → bytes_eq u v ≡ false
 shorter u v less = off (bytes_eq u v) refl where
   off : (b : Bool) → bytes_eq u v ≡ b → bytes_eq u v ≡ false
   off false e = e

@@ -3,3 +3,5 @@ pub mod Choices
 pub mod Holding
 pub mod Fresh
 pub mod PlainNames
+pub mod Keys
+pub mod HeldByAlternatives

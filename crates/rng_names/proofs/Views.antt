@@ -1,9 +1,9 @@
 -- Names and name classes of the code, as they are seen.
-use Rattle.std.proofs.Common.{◌≡◌, map, ap, ◌∙◌, rules, List, Vec, Global}
+use Rattle.std.proofs.Common.{◌≡◌, map, ap, ◌∙◌, rules, String, string_bytes, List, Vec, Box, Global}
 use Rattle.std.proofs.lemmas.Str.{IsUtf8-string_bytes}
-use Rattle.rng_model.specs.Names.{some_of, name_is, IsPairOfTexts}
+use Rattle.rng_model.specs.Names.{some_of, name_is, any_except, ns_except, IsPairOfTexts}
 use Rattle.rng_model.specs.View.{class_of, name_of}
-use Rattle.rng_model.specs.declared.name.NameClass.{NameClass, Choice, Name, the_lemmas}
+use Rattle.rng_model.specs.declared.name.NameClass.{NameClass, Choice, Name, AnyExcept, NsExcept, the_lemmas}
 use Rattle.rng_model.specs.declared.name.Name as declared
 
 -- a choice is seen as one of its members, each as it is seen
@@ -14,6 +14,14 @@ choice_is class members xs e items = ap class_of e ∙ search (rules, the_lemmas
 -- a plain name is seen as a name
 pub name_class_is : (class : NameClass) (n : declared.Name) → class ≡ Name n → class_of class ≡ name_is (name_of n)
 name_class_is class n e = ap class_of e ∙ search (rules, the_lemmas)
+
+-- classes with an except are seen so
+pub any_except_is : (class : NameClass) (except : Box NameClass Global) → class ≡ AnyExcept except → class_of class ≡ any_except (class_of except.value)
+any_except_is class except e = ap class_of e ∙ search (rules, the_lemmas)
+
+pub ns_except_is : (class : NameClass) (ns : String Global) (except : Box NameClass Global) → class ≡ NsExcept ns except
+    → class_of class ≡ ns_except (string_bytes ns) (class_of except.value)
+ns_except_is class ns except e = ap class_of e ∙ search (rules, the_lemmas)
 
 -- the parts of a name of the code are texts
 pub are_texts : (n : declared.Name) → IsPairOfTexts (name_of n)

@@ -1,3 +1,4 @@
+pub mod Alternatives
 pub mod Holding
 pub mod Written
 pub mod PlainNames

@@ -3,20 +3,22 @@ ghost use Rattle.std.specs.Prelude.{◌≡◌, ◌<◌, ◌&&◌, length, ◌⊎
 ghost use Rattle.std.specs.String.{string_bytes};
 ghost use Rattle.rng_model.specs.Names.{Overlap, AreApart};
 ghost use Rattle.rng_model.specs.View.{class_of};
+ghost use Rattle.rng_names.specs.Alternatives.{IsFresh, Stands};
 ghost use Rattle.rng_names.specs.Holding.{pair};
 ghost use Rattle.rng_names.specs.PlainNames.{IsPlain};
 ghost use Rattle.rng_names.specs.Written.{both_hold, is_met, longest};
 
-use crate::membership::{contains, holds};
+use crate::alternatives::Alternatives;
+use crate::membership::contains;
 use rng_model::{NameClass, OutOfMemory};
 use std::alloc::{AllocError, Global};
 
 /// Whether some name lies in both classes, a name being any pair of texts.
 ///
 /// RELAX NG Specification, section 7.3. Only want of memory is an error. Where one of the two is a plain name, the cost
-/// is one `contains` of the other, and no memory is taken. Else the memory is one text longer than each that is written
-/// in the two classes, and the cost is two `contains` for each namespace that is written in them, four for each name,
-/// and two more: the square of their size, however deep they are.
+/// is one `contains` of the other, and no memory is taken. Else memory and cost are linear in the size of the two
+/// classes, but for hashing, where no alternative of them has an except; and for each alternative that has one, the cost
+/// is at most two comparisons of each name and each namespace of the classes with each that is written in it.
 pub fn overlap(alloc: Global, a: &NameClass, b: &NameClass) -> Result<bool, OutOfMemory>
     ensures common { IfOk result (λ yes. IsTrue yes → Overlap (class_of a.now) (class_of b.now)) }
     ensures apart { IfOk result (λ yes. IsFalse yes → AreApart (class_of a.now) (class_of b.now)) }
@@ -27,44 +29,81 @@ pub fn overlap(alloc: Global, a: &NameClass, b: &NameClass) -> Result<bool, OutO
         (_, NameClass::Name(name)) => Ok(contains(a, name)),
         _ => {
             let fresh = fresh_text(alloc, longest(a).max(longest(b)))?;
-            Ok(overlap_with(fresh.as_str(), a, b))
+            overlap_with(alloc, fresh.as_str(), a, b)
         }
     }
 }
 
 /// Whether some name lies in both classes, told by a text that is longer than each that is written in them.
-fn overlap_with(fresh: &str, a: &NameClass, b: &NameClass) -> bool
+fn overlap_with(
+    alloc: Global,
+    fresh: &str,
+    a: &NameClass,
+    b: &NameClass,
+) -> Result<bool, OutOfMemory>
     requires first { longest (class_of a.now) < length fresh.now }
     requires second { longest (class_of b.now) < length fresh.now }
-    ensures common { IsTrue result → Overlap (class_of a.now) (class_of b.now) }
-    ensures apart { IsFalse result → AreApart (class_of a.now) (class_of b.now) }
+    ensures common { IfOk result (λ yes. IsTrue yes → Overlap (class_of a.now) (class_of b.now)) }
+    ensures apart { IfOk result (λ yes. IsFalse yes → AreApart (class_of a.now) (class_of b.now)) }
 {
-    both_hold(a, b, fresh, fresh) || is_met(a, fresh, a, b) || is_met(b, fresh, a, b)
+    let first = Alternatives::of_class(alloc, a)?;
+    let second = Alternatives::of_class(alloc, b)?;
+    Ok(meet(&first, &second, fresh))
+}
+
+/// Whether some name lies in both classes, looked for among those that are written in them and those of the fresh text.
+fn meet(a: &Alternatives, b: &Alternatives, fresh: &str) -> bool
+    requires first { Stands a.now }
+    requires second { Stands b.now }
+    requires fresh_first { IsFresh fresh.now a.now }
+    requires fresh_second { IsFresh fresh.now b.now }
+    ensures common { IsTrue result → Overlap (class_of a.now.class.now) (class_of b.now.class.now) }
+    ensures apart { IsFalse result → AreApart (class_of a.now.class.now) (class_of b.now.class.now) }
+{
+    both_hold(a, b, fresh, fresh) || is_met(a.class, fresh, a, b) || is_met(b.class, fresh, a, b)
 }
 
 /// Whether both classes hold the name of this namespace and this local name.
-fn both_hold(a: &NameClass, b: &NameClass, ns: &str, local: &str) -> bool
-    ensures test { result ≡ both_hold (class_of a.now) (class_of b.now) (pair ns.now local.now) }
-    ensures common { IsTrue result → Overlap (class_of a.now) (class_of b.now) }
+fn both_hold(a: &Alternatives, b: &Alternatives, ns: &str, local: &str) -> bool
+    requires first { Stands a.now }
+    requires second { Stands b.now }
+    ensures test { result ≡ both_hold (class_of a.now.class.now) (class_of b.now.class.now) (pair ns.now local.now) }
+    ensures common { IsTrue result → Overlap (class_of a.now.class.now) (class_of b.now.class.now) }
 {
-    holds(a, ns, local) && holds(b, ns, local)
+    a.hold(ns, local) && b.hold(ns, local)
+}
+
+/// Whether both classes hold the name of this namespace and a local name that is longer than each that is written in them.
+fn both_hold_fresh(a: &Alternatives, b: &Alternatives, ns: &str, fresh: &str) -> bool
+    requires first { Stands a.now }
+    requires second { Stands b.now }
+    requires fresh_first { IsFresh fresh.now a.now }
+    requires fresh_second { IsFresh fresh.now b.now }
+    ensures test { result ≡ both_hold (class_of a.now.class.now) (class_of b.now.class.now) (pair ns.now fresh.now) }
+    ensures common { IsTrue result → Overlap (class_of a.now.class.now) (class_of b.now.class.now) }
+{
+    a.hold_fresh(ns, fresh) && b.hold_fresh(ns, fresh)
 }
 
 /// Whether both classes hold a name that is written in the first one, or the fresh local name in a namespace of it.
-fn is_met(written: &NameClass, fresh: &str, a: &NameClass, b: &NameClass) -> bool
-    ensures test { result ≡ is_met (both_hold (class_of a.now) (class_of b.now)) fresh.now (class_of written.now) }
-    ensures common { IsTrue result → Overlap (class_of a.now) (class_of b.now) }
+fn is_met(written: &NameClass, fresh: &str, a: &Alternatives, b: &Alternatives) -> bool
+    requires first { Stands a.now }
+    requires second { Stands b.now }
+    requires fresh_first { IsFresh fresh.now a.now }
+    requires fresh_second { IsFresh fresh.now b.now }
+    ensures test { result ≡ is_met (both_hold (class_of a.now.class.now) (class_of b.now.class.now)) fresh.now (class_of written.now) }
+    ensures common { IsTrue result → Overlap (class_of a.now.class.now) (class_of b.now.class.now) }
 {
     match written {
         NameClass::Any => false,
         NameClass::AnyExcept(except) => is_met(except, fresh, a, b),
-        NameClass::Ns(ns) => both_hold(a, b, ns.as_str(), fresh),
+        NameClass::Ns(ns) => both_hold_fresh(a, b, ns.as_str(), fresh),
         NameClass::NsExcept(ns, except) => {
-            both_hold(a, b, ns.as_str(), fresh) || is_met(except, fresh, a, b)
+            both_hold_fresh(a, b, ns.as_str(), fresh) || is_met(except, fresh, a, b)
         }
         NameClass::Name(name) => {
             both_hold(a, b, name.ns.as_str(), name.local.as_str())
-                || both_hold(a, b, name.ns.as_str(), fresh)
+                || both_hold_fresh(a, b, name.ns.as_str(), fresh)
         }
         NameClass::Choice(members) => {
             'members: for member in members {

@@ -6,6 +6,7 @@
 //! keeps its answer back, and none is wanted where one class is a plain name.
 #![tactic(auto)]
 
+mod alternatives;
 mod common_name;
 mod membership;
 

@@ -1,29 +1,12 @@
 -- A document has one verdict, and the same one wherever the same documents are valid.
 use Rattle.std.proofs.Common.{◌≡◌, ◌↔◌, ℕ, List, Result, Ok, Err, IfOk, sym, ap, subst, refl, ap₂, ◌∙◌, arith, inl, inr}
 use Rattle.rng_model.specs.Document.{Item}
-use Rattle.rng_model.specs.Lines.{lines}
-use Rattle.rng_model.specs.Pyx.{IsDocument}
-use Rattle.rng_model.specs.PyxFaults.{Fault, Broken, IsBefore}
+use Rattle.rng_model.specs.PyxFaults.{IsBefore}
 use Rattle.rng_model.specs.Texts.{TextTests}
-use Rattle.rng_run.specs.DocumentReader.{Outcome}
+use Rattle.pyx_tree.proofs.OneDocument.{one_document, nothing_broken}
 use Rattle.rng_run.specs.Verdict.{IsOnlyVerdict, IsVerdict}
 use Rattle.rng_run.specs.declared.answer.Verdict.{Verdict}
 use Rattle.rng_run.specs.declared.answer.Verdict.TheVariants.{Valid, Malformed, Invalid}
-use Rattle.rng_run.proofs.DocumentTree.{complete}
-use Rattle.rng_run.proofs.DocumentLeastFault.{at_most}
-use Rattle.rng_run.proofs.DocumentFaultWithin.{Within, within}
-
--- the bytes have one document
-one_document : (bytes : List ℕ) (a b : Item) → IsDocument bytes a → IsDocument bytes b → a ≡ b
-one_document bytes a b d e = let p = sym (complete d) ∙ complete e in cc
-
--- what reading answers is no tree where a clause is broken
-answers_a_fault : {g : Fault} {r : Outcome Item} (root : Item) → Within g r → r ≡ Ok root → ⊥
-answers_a_fault root (within b) e = absurd (cc)
-
--- no clause of a document is broken
-nothing_broken : (bytes : List ℕ) (root : Item) (f : Fault) → IsDocument bytes root → Broken (lines bytes) f → ⊥
-nothing_broken bytes root f d b = answers_a_fault root (at_most b) (complete d)
 
 -- two faults, neither of which comes after the other
 same_fault : (j m k n : ℕ) → IsBefore (record { clause = j; line = m }) (record { clause = k; line = n }) →

@@ -1,31 +1,5 @@
 mod AnswerLines
-mod LineCount
-pub mod ServedPatterns
-pub mod SchemaPatterns
-mod ServedSchema
-mod StringCuts
-mod DocumentLines
-mod LastAndFront
-mod PlainBytes
-mod DocumentLineCount
-mod Outcomes
-mod DocumentAllLines
-mod DocumentSteps
-mod DistinctNames
-mod DocumentComplete
-mod DocumentShape
-mod DocumentRefused
-mod DocumentBeginning
-mod DocumentSound
-mod DocumentTree
-mod DocumentBalance
-mod DocumentElementLines
-mod DocumentEnds
-mod DocumentPlaces
-mod DocumentKinds
-mod DocumentFaultWithin
-mod DocumentLeastFault
-mod DocumentBroken
-mod DocumentAnswer
-mod WellFormed
+mod ServedGrammars
+mod LoadedSchemas
 mod DocumentVerdict
+mod GoodSchemas

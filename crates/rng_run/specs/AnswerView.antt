@@ -7,4 +7,5 @@ use Rattle.rng_run.specs.Answer as answer
 abbrev pub answer_of : Answer → answer.Answer
 answer_of (answers.Refused clause) = answer.refused clause
 answer_of (answers.RefusedFile clause name) = answer.refused_file clause (string_bytes name)
+answer_of answers.SchemaOk = answer.schema_ok
 answer_of (answers.Judged verdict) = answer.judged verdict

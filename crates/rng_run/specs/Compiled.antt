@@ -1,21 +1,26 @@
--- By which pattern a command judges documents, and what it is compiled to.
-use Rattle.std.specs.Prelude.{Option, Some, None}
+-- What a schema is compiled to for a command: what is told of it alone, or the grammar by which documents are judged.
+use Rattle.std.specs.Prelude.{◌≡◌, ℕ, All}
 use Rattle.rng_model.specs.Schema.{Schema}
-use Rattle.rng_model.specs.SimpleForm.{AreSameDocuments}
-use Rattle.rng_model.specs.Table.{Table, grammar_of}
-use Rattle.rng_model.specs.Written.{Pattern}
-use Rattle.rng_run.specs.Fragment.{served_schema}
+use Rattle.rng_model.specs.SchemaClauses.{IsLeastClause}
+use Rattle.rng_model.specs.SchemaMatching.{AreSameDocuments}
+use Rattle.rng_model.specs.Table.{IsOfFirstKind, grammar_of}
+use Rattle.rng_model.specs.declared.fault.SchemaFault.{SchemaFault}
+use Rattle.rng_model.specs.declared.fault.SchemaFault.TheVariants as faults
+use Rattle.rng_run.specs.Answer.{refused, schema_ok}
+use Rattle.rng_run.specs.Run.{IsTold, JudgesDocuments}
+use Rattle.rng_run.specs.declared.compiling.Compiled.{Compiled}
+use Rattle.rng_run.specs.declared.compiling.Compiled.TheVariants as compiled
 use Rattle.rng_run.specs.declared.running.Command.{Command}
-use Rattle.rng_run.specs.declared.running.Command.TheVariants.{Valid, Check}
 
--- the pattern by which the command judges documents, where the files are this schema: `check` judges none
-abbrev pub pattern_by : Command → Schema → Option Pattern
-pattern_by Valid s = served_schema s
-pattern_by Check s = None
+-- it is told of the schema, or documents are judged by it, and the grammar has the same documents and takes no kind of pattern that the matcher does
+-- not take
+abbrev pub IsCompiled : Command → Schema → Compiled → Type 0
+IsCompiled command s (compiled.Refused clause) = IsTold command s (refused clause)
+IsCompiled command s compiled.Good = IsTold command s schema_ok
+IsCompiled command s (compiled.Grammar g) = JudgesDocuments command s × AreSameDocuments s (grammar_of g) × All IsOfFirstKind g.patterns
 
--- a grammar of the same documents as the pattern, and none where there is no pattern
-abbrev pub IsCompiled : Option Pattern → Option Table → Type 0
-IsCompiled None None = Unit {0}
-IsCompiled None (Some g) = ⊥
-IsCompiled (Some p) None = ⊥
-IsCompiled (Some p) (Some g) = AreSameDocuments p (grammar_of g)
+-- the least clause that the schema breaks; want of memory tells nothing
+abbrev pub IsLeastFault : Schema → SchemaFault → Type 0
+IsLeastFault s (faults.Clause clause) = IsLeastClause s clause
+IsLeastFault s (faults.File clause name) = ⊥
+IsLeastFault s faults.Memory = Unit {0}

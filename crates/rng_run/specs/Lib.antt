@@ -1,11 +1,6 @@
 pub mod Answer
 pub mod AnswerView
 pub mod Verdict
-pub mod Fragment
-pub mod FragmentFaults
+pub mod Served
 pub mod Compiled
 pub mod Run
-pub mod DocumentShape
-pub mod DocumentReader
-pub mod DocumentView
-pub mod DocumentAnswer

@@ -1,14 +1,14 @@
 -- What a run answers, and what it leaves behind.
 use Rattle.std.specs.Prelude.{◌≡◌, ℕ, List, [], ◌∷◌, take, Option, Some, None, string_bytes}
 use Rattle.std.specs.Io.KnownBytes.{Appends, Consumes, IsAtEnd, Keeps}
-use Rattle.rng_model.specs.Texts.{TextTests, texts_of}
-use Rattle.rng_model.specs.Written.{Pattern, IsValidWritten}
 use Rattle.rng_model.specs.Schema.{Schema}
-use Rattle.rng_run.specs.Answer.{Answer, refused, refused_file, judged, line_of, status_of}
+use Rattle.rng_model.specs.SchemaClauses.{BreaksNoClause, IsLeastClause}
+use Rattle.rng_model.specs.SchemaMatching.{IsValidBySchema}
+use Rattle.rng_run.specs.Answer.{Answer, refused, refused_file, schema_ok, judged, line_of, status_of}
 use Rattle.rng_load.specs.Loading.{TakenFiles, FilesVerdict, file_breaks, together_break, are_taken, IsTheFilesVerdict}
 use Rattle.rng_load.specs.LoadedSchema.{AreSchema}
 use Rattle.rng_load.specs.SchemaFile.{NamedFile}
-use Rattle.rng_run.specs.Fragment.{served_schema}
+use Rattle.rng_run.specs.Served.{IsServed, IsUnserved}
 use Rattle.rng_run.specs.Verdict.{IsOnlyVerdict, IsVerdict}
 use Rattle.rng_run.specs.declared.answer.Status.{Status}
 use Rattle.rng_run.specs.declared.answer.Verdict.{Verdict}
@@ -23,43 +23,46 @@ abbrev pub main_name : List (String Global × Vec ℕ Global) → List ℕ
 main_name [] = []
 main_name (file ∷ files) = string_bytes file.0
 
--- The verdict is that of the definition, and no other is, for the bytes that the reader had left, all of which were read, by this pattern as
--- it is written, whatever is known of texts.
-pub record IsJudged (p : Pattern) (verdict : Verdict) (input_old input_new : Option (List ℕ)) : Type 0 where
+-- What is told of the schema alone: the least clause that it breaks; or, where it breaks none, that it is good, by `check`, and by `valid` that it is
+-- not served.
+pub data IsTold (command : Command) (s : Schema) : Answer → Type 0 where
+  breaks_clause : {clause : ℕ} → IsLeastClause s clause → IsTold command s (refused clause)
+  is_good : command ≡ Check → BreaksNoClause s → IsTold command s schema_ok
+  not_served : command ≡ Valid → BreaksNoClause s → IsUnserved s → IsTold command s (refused 0)
+
+-- the command judges documents by the schema: it breaks no clause, and is served
+pub record JudgesDocuments (command : Command) (s : Schema) : Type 0 where
+  pub command_is : command ≡ Valid
+  pub breaks_none : BreaksNoClause s
+  pub served : IsServed s
+
+-- The verdict is that of the definition, and no other is, for the bytes that the reader had left, all of which were read, by this schema as it is
+-- written.
+pub record IsJudged (s : Schema) (verdict : Verdict) (input_old input_new : Option (List ℕ)) : Type 0 where
   pub document : List ℕ
   pub read : Consumes input_old input_new document
   pub end : IsAtEnd input_new
-  pub verdict_is : (tests : TextTests) → IsVerdict (IsValidWritten (texts_of tests) p) document verdict
-  pub only : (tests : TextTests) → IsOnlyVerdict (IsValidWritten (texts_of tests) p) document verdict
+  pub verdict_is : IsVerdict (IsValidBySchema s) document verdict
+  pub only : IsOnlyVerdict (IsValidBySchema s) document verdict
 
--- no document is judged where the files, of which the main one has this name, are taken: `check` judges none, and no more does `valid` by a schema
--- that is not served
-abbrev pub JudgesNoneBy : Command → List ℕ → TakenFiles → Type 0
-JudgesNoneBy Valid main read = (s : Schema) × AreSchema read main s × (served_schema s ≡ None)
-JudgesNoneBy Check main read = Unit {0}
+-- the answer by the schema: what is told of it alone, or the verdict on the document
+pub data IsAnswerBy (command : Command) (s : Schema) (input_old input_new : Option (List ℕ)) : Answer → Type 0 where
+  schema_is_told : {answer : Answer} → IsTold command s answer → IsAnswerBy command s input_old input_new answer
+  document_is_judged : {verdict : Verdict} → JudgesDocuments command s → IsJudged s verdict input_old input_new
+      → IsAnswerBy command s input_old input_new (judged verdict)
 
 -- no document is judged where this is the verdict on the files, of which the main one has this name
 abbrev pub JudgesNone : Command → List ℕ → FilesVerdict → Type 0
 JudgesNone command main (file_breaks f clause) = Unit {0}
 JudgesNone command main (together_break clause) = Unit {0}
-JudgesNone command main (are_taken read) = JudgesNoneBy command main read
-
--- the answer where a document is judged by this pattern, or where by none: then the schema is outside what is served
-abbrev pub IsAnswerBy : Option Pattern → Option (List ℕ) → Option (List ℕ) → Answer → Type 0
-IsAnswerBy None input_old input_new answer = answer ≡ refused 0
-IsAnswerBy (Some p) input_old input_new answer = (verdict : Verdict) × (answer ≡ judged verdict) × IsJudged p verdict input_old input_new
-
--- the answer where the files, of which the main one has this name, are taken: for `check` that no more is judged yet, for `valid` that by their schema
-abbrev pub IsAnswerOver : Command → List ℕ → TakenFiles → Option (List ℕ) → Option (List ℕ) → Answer → Type 0
-IsAnswerOver Valid main read input_old input_new answer = (s : Schema) × AreSchema read main s × IsAnswerBy (served_schema s) input_old input_new answer
-IsAnswerOver Check main read input_old input_new answer = answer ≡ refused 0
+JudgesNone command main (are_taken read) = (s : Schema) × AreSchema read main s × ¬ (JudgesDocuments command s)
 
 -- The answer for files of this verdict: a broken clause is told, with the name of the file that breaks it by itself; else it is that of the schema
 -- that the files are.
 abbrev pub IsAnswerTo : Command → List ℕ → FilesVerdict → Option (List ℕ) → Option (List ℕ) → Answer → Type 0
 IsAnswerTo command main (file_breaks f clause) input_old input_new answer = answer ≡ refused_file clause f
 IsAnswerTo command main (together_break clause) input_old input_new answer = answer ≡ refused clause
-IsAnswerTo command main (are_taken read) input_old input_new answer = IsAnswerOver command main read input_old input_new answer
+IsAnswerTo command main (are_taken read) input_old input_new answer = (s : Schema) × AreSchema read main s × IsAnswerBy command s input_old input_new answer
 
 -- the answer follows from the verdict on the files, which is the only one
 pub record IsAnswer (command : Command) (files : List NamedFile) (main : List ℕ) (input_old input_new : Option (List ℕ)) (answer : Answer) : Type 0 where

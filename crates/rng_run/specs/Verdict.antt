@@ -2,8 +2,8 @@
 use Rattle.std.specs.Prelude.{◌≡◌, List, ℕ, length}
 use Rattle.rng_model.specs.Document.{Item}
 use Rattle.rng_model.specs.Lines.{lines}
-use Rattle.rng_model.specs.Pyx.{IsDocument}
-use Rattle.rng_model.specs.PyxFaults.{IsLeastFault}
+use Rattle.rng_model.specs.PyxClauses.{IsFirstFault}
+use Rattle.pyx_tree.specs.Reading.{IsDocument}
 use Rattle.rng_run.specs.declared.answer.Verdict.{Verdict}
 use Rattle.rng_run.specs.declared.answer.Verdict.TheVariants.{Valid, Malformed, Invalid}
 
@@ -11,7 +11,7 @@ use Rattle.rng_run.specs.declared.answer.Verdict.TheVariants.{Valid, Malformed, 
 -- there. Invalid: the bytes are a document of n lines, and it is not valid.
 abbrev pub IsVerdict : (Item → Type 0) → List ℕ → Verdict → Type 0
 IsVerdict IsValid bytes Valid = (root : Item) × IsDocument bytes root × IsValid root
-IsVerdict IsValid bytes (Malformed clause line) = IsLeastFault (lines bytes) (record { clause = clause; line = line })
+IsVerdict IsValid bytes (Malformed clause line) = IsFirstFault (lines bytes) (record { clause = clause; line = line })
 IsVerdict IsValid bytes (Invalid n) = (root : Item) × IsDocument bytes root × ¬ (IsValid root) × (n ≡ length (lines bytes))
 
 -- whatever verdict holds is this one

@@ -10,7 +10,7 @@ use std::alloc::{AllocError, Global};
 #[derive(Clone, Copy)]
 pub enum Verdict {
     Valid,
-    /// The clause that is broken first, 0 for a line outside the fragment of the format, and its line, from 1.
+    /// The clause that is broken first, 1 to 13, and its line: 1 is the first, and 0 says that there is none.
     Malformed { clause: u8, line: u64 },
     /// The number of the document's lines.
     Invalid(u64),
@@ -32,6 +32,8 @@ pub enum Answer {
     Refused(u8),
     /// The file of this name breaks this clause.
     RefusedFile { clause: u8, name: String },
+    /// The schema breaks no clause.
+    SchemaOk,
     Judged(Verdict),
 }
 
@@ -42,7 +44,7 @@ impl Answer {
     {
         match self {
             Answer::Refused(_) | Answer::RefusedFile { .. } => Status::Refused,
-            Answer::Judged(Verdict::Valid) => Status::Good,
+            Answer::SchemaOk | Answer::Judged(Verdict::Valid) => Status::Good,
             Answer::Judged(Verdict::Invalid(_)) => Status::Invalid,
             Answer::Judged(Verdict::Malformed { .. }) => Status::Malformed,
         }
@@ -59,6 +61,7 @@ impl Answer {
                 *clause,
                 name.as_str(),
             ),
+            Answer::SchemaOk => String::from_str(alloc, "schema ok\n"),
             Answer::Judged(Verdict::Valid) => String::from_str(alloc, "valid\n"),
             Answer::Judged(Verdict::Invalid(line)) => format!(in alloc; "invalid line {line}\n"),
             Answer::Judged(Verdict::Malformed { clause, line }) => {

@@ -2,15 +2,13 @@
 //! NAME` or `refused Sk`.
 //!
 //! `run` reads the files that the first one reaches and the document, names the first clause that the files break or
-//! judges the document by the start of their main grammar, and writes the line, whatever the bytes are and however the
+//! judges the document by the schema that they are, and writes the line, whatever the bytes are and however the
 //! reader cuts them. It answers only where no device failed, and after a fault no more than a beginning of a line was
 //! written.
 #![tactic(auto)]
 
 mod answer;
-mod ascii;
-mod document;
-mod fragment;
+mod compiling;
 mod judging;
 mod running;
 mod streams;

@@ -1,21 +1,20 @@
 // From files and a document to one line.
-ghost use Rattle.std.specs.Prelude.{◌≡◌, ◌-◌, ◌^◌, ◌<◌, length, None, IfOk, IfErr, OnOk, IsErrOf};
+ghost use Rattle.std.specs.Prelude.{◌≡◌, ◌-◌, ◌^◌, ◌<◌, length, IfOk, IfErr, OnOk, IsErrOf};
 ghost use Rattle.rng_model.specs.Device.{device_inner, device_failures};
 ghost use Rattle.rng_run.specs.Answer.{status_of};
 ghost use Rattle.rng_run.specs.AnswerView.{answer_of};
 ghost use Rattle.rng_load.specs.FilesView.{named_files};
 ghost use Rattle.rng_load.specs.Loading.{FilesVerdict, IsTheFilesVerdict};
 ghost use Rattle.rng_load.specs.PlacedGrammars.{schema_of};
-ghost use Rattle.rng_run.specs.Run.{IsAnswer, IsAnswerBy, JudgesNone, WritesLine, WrittenAfter, main_name};
-ghost use Rattle.rng_run.specs.Compiled.{IsCompiled, pattern_by};
+ghost use Rattle.rng_model.specs.Schema.{IsWellPlaced};
+ghost use Rattle.rng_run.specs.Run.{IsAnswer, IsAnswerBy, JudgesDocuments, JudgesNone, WritesLine, WrittenAfter, main_name};
 
 use crate::answer::{Answer, Status};
-use crate::fragment::{FragmentFault, pattern_of_schema};
+use crate::compiling::{Compiled, compile};
 use crate::judging::document_verdict;
 use crate::streams::{StreamFault, read_whole, write_whole};
 use rng_load::{Schema, load};
-use rng_model::{Device, OutOfMemory, SchemaFault, SimpleGrammar};
-use rng_simple::simplify;
+use rng_model::{Device, OutOfMemory, SchemaFault};
 use std::alloc::Global;
 use std::io::{Read, Write};
 
@@ -44,13 +43,14 @@ pub enum RunFault {
 ///
 /// The line is `refused Sk file NAME` where a file breaks a clause by itself, with the first such file in load order
 /// and the clause that it breaks first, 1 to 8; else `refused S9` or `refused S10` where the files break that together,
-/// S9 before S10; else `refused S0` for `Check`, and for `Valid` where the main grammar of their schema is not one plain
-/// start of what is served; and else `valid`, `invalid line N` or `malformed Pk line N`, as the definition says for the
-/// document that `input` has left and the pattern of that start. A line feed ends it. A refused schema leaves the input
-/// unread; the bytes of files that are not reached from the main one are not looked at. `RunFault::Read` and
-/// `RunFault::Write` come only where that device counted a failed call, `RunFault::Memory` only where neither did; after
-/// `Read` and `Memory` nothing was written, after `Write` a beginning of the line was. The files and the document are
-/// kept whole; time is what `load` takes, and then what `simplify` and `is_valid` take.
+/// S9 before S10; else `refused Sk` with the least clause that their schema breaks, 11 to 27; else `schema ok` for
+/// `Check`, and for `Valid` `refused S0` where a list, a datatype, a value, a repetition or an interleave stands in the
+/// schema's simple form, and else `valid`, `invalid line N` or `malformed Pk line N`, as the definition says for the document that
+/// `input` has left and the schema as it is written. A line feed ends it. A refused schema leaves the input unread; the
+/// bytes of files that are not reached from the main one are not looked at. `RunFault::Read` and `RunFault::Write` come
+/// only where that device counted a failed call, `RunFault::Memory` only where neither did; after `Read` and `Memory`
+/// nothing was written, after `Write` a beginning of the line was. The files and the document are kept whole; time is
+/// what `load` takes, and then what `simplify_schema`, `restrict` and `is_valid` take.
 pub fn run<R: Read, W: Write>(
     alloc: Global,
     command: Command,
@@ -133,17 +133,19 @@ fn answer_by<R: Read>(
     schema: &Schema,
     input: &mut Device<R>,
 ) -> Result<Answer, RunFault>
-    requires { device_failures input.old < 2 ^ 64 - 1 }
+    requires placed { IsWellPlaced (schema_of schema.now) }
+    requires input { device_failures input.old < 2 ^ 64 - 1 }
     ensures calm { OnOk result (device_failures input.new ≡ device_failures input.old) }
-    ensures unread { pattern_by command (schema_of schema.now) ≡ None → input.new ≡ input.old }
+    ensures unread { ¬ (JudgesDocuments command (schema_of schema.now)) → input.new ≡ input.old }
     ensures read { IsErrOf result RunFault.Read → device_failures input.old < device_failures input.new }
     ensures memory { IsErrOf result RunFault.Memory → device_failures input.new ≡ device_failures input.old }
     ensures no_write { IsErrOf result RunFault.Write → ⊥ }
-    ensures answer { IfOk result (λ answer. IsAnswerBy (pattern_by command (schema_of schema.now)) (R.remaining (device_inner input.old)) (R.remaining (device_inner input.new)) (answer_of answer)) }
+    ensures answer { IfOk result (λ answer. IsAnswerBy command (schema_of schema.now) (R.remaining (device_inner input.old)) (R.remaining (device_inner input.new)) (answer_of answer)) }
 {
-    let grammar = match compiled(alloc, command, schema) {
-        Ok(Some(grammar)) => grammar,
-        Ok(None) => return Ok(Answer::Refused(0)),
+    let grammar = match compile(alloc, command, schema) {
+        Ok(Compiled::Grammar(grammar)) => grammar,
+        Ok(Compiled::Refused(clause)) => return Ok(Answer::Refused(clause)),
+        Ok(Compiled::Good) => return Ok(Answer::SchemaOk),
         Err(OutOfMemory) => return Err(RunFault::Memory),
     };
     let document = match read_whole(alloc, input) {
@@ -154,23 +156,5 @@ fn answer_by<R: Read>(
     match document_verdict(alloc, &grammar, document.as_slice()) {
         Ok(verdict) => Ok(Answer::Judged(verdict)),
         Err(OutOfMemory) => Err(RunFault::Memory),
-    }
-}
-
-/// The grammar by which the command judges documents: none for `check`, and where the schema is outside what is served.
-fn compiled(
-    alloc: Global,
-    command: Command,
-    schema: &Schema,
-) -> Result<Option<SimpleGrammar>, OutOfMemory>
-    ensures { IfOk result (IsCompiled (pattern_by command (schema_of schema.now))) }
-{
-    match command {
-        Command::Valid => match pattern_of_schema(alloc, schema) {
-            Ok(pattern) => Ok(Some(simplify(alloc, &pattern)?)),
-            Err(FragmentFault::NotServed) => Ok(None),
-            Err(FragmentFault::Memory) => Err(OutOfMemory),
-        },
-        Command::Check => Ok(None),
     }
 }

@@ -13,7 +13,7 @@ fn pieces_of_any_length(rt: HostRuntime) -> Result<(), Fail> {
     let cases: [(&[u8], &[u8]); 4] = [
         (DOCUMENT, b"valid\n"),
         (b"(b\n)b\n", b"invalid line 2\n"),
-        (b"(c\n-x\n-y\n)c\nzz\n", b"malformed P0 line 5\n"),
+        (b"(c\n-x\n-y\n)c\nzz\n", b"malformed P4 line 5\n"),
         (b"", b"malformed P13 line 0\n"),
     ];
     for (document, line) in &cases {

@@ -7,7 +7,8 @@ use Rattle.rng_model.specs.Written.{Pattern, patterns_of}
 use Rattle.rng_model.specs.Unfold.{Leaf, main, tree_of, body_of}
 use Rattle.rng_model.specs.Step.{Step, Steps, IsSimpleFormOf}
 use Rattle.rng_model.specs.Step as step
-use Rattle.rng_simple.specs.SimpleOf.{nested, simple_of, join_all}
+use Rattle.rng_simple.specs.SimpleOf.{simple_of, join_all}
+use Rattle.rng_graph.specs.InTwos.{nested}
 
 abbrev simplify_group : Pattern → Pattern → Pattern
 simplify_group p q = written.joined group p q written.no_patterns

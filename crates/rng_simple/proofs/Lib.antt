@@ -1,5 +1,4 @@
 pub mod GrammarBuilder
-pub mod SimpleClass
 pub mod Sorts
 pub mod StepSimpleOf
 pub mod NoStep
@@ -21,3 +20,30 @@ pub mod Nesting
 pub mod Views
 pub mod Numbered
 pub mod Examples
+pub mod SimpleForms
+pub mod PointSimples
+pub mod SimpleLeaves
+pub mod Queues
+pub mod SimpleTables
+pub mod RenamedTwice
+pub mod NumberedSchema
+pub mod GrammarOf
+pub mod RowIndex
+pub mod RowTrees
+pub mod RowTable
+pub mod SimpleParts
+pub mod SimpleRows
+pub mod RowReach
+pub mod Marks
+pub mod RowCopies
+pub mod GrammarElements
+pub mod MadeGrammar
+mod RenamedRestrictions
+pub mod SameRestrictions
+mod UsedPatterns
+pub mod KeptLeaves
+pub mod WrittenMatches
+pub mod SchemaDocuments
+pub mod SimplifiedSchemas
+pub mod OneNumber
+pub mod KnownDatatypes

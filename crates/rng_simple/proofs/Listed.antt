@@ -13,7 +13,8 @@ use Rattle.rng_model.specs.declared.name.NameClass.{NameClass}
 use Rattle.rng_model.specs.declared.simple.PatternId.{PatternId}
 use Rattle.rng_model.proofs.Table.{tree_stays}
 use Rattle.rng_simple.specs.GrammarBuilder.{Tables, Extends}
-use Rattle.rng_simple.specs.SimpleOf.{nested, simple_of}
+use Rattle.rng_simple.specs.SimpleOf.{simple_of}
+use Rattle.rng_graph.specs.InTwos.{nested}
 use Rattle.rng_simple.specs.Representation.{simple_renamed, no_element, element_at, AreDistinct, IsWithin, AreApart, IsListedAs, Lists}
 use Rattle.rng_simple.proofs.GrammarBuilder.{front_is_shorter}
 use Rattle.rng_simple.proofs.Renamed.{renamed_corresponds}

@@ -8,7 +8,7 @@ use Rattle.rng_model.specs.Tree.{Simple, as_tree}
 use Rattle.rng_model.specs.Step.{ClassStep, ClassesStep, HasNotAllowed, Step, StepAmong, Steps, HasNoStep, IsSimpleFormOf}
 use Rattle.rng_model.specs.Step as step
 use Rattle.rng_simple.specs.SimpleOf.{Sort, sort_of, attribute_by, list_by, except_by, one_or_more_by, choice_by, both_by, join, some_of, simple_of, join_all}
-use Rattle.rng_simple.proofs.SimpleClass.{class_unchanged}
+use Rattle.rng_graph.proofs.SimpleClass.{class_unchanged}
 use Rattle.rng_simple.proofs.Sorts.{Sorted, is_nothing, is_blank, is_proper, sorted, proper_is_not_empty}
 
 module _ {L : Type 0} where

@@ -18,9 +18,10 @@ use Rattle.rng_model.specs.SimpleForm as f
 use Rattle.rng_model.specs.Texts.{texts_of}
 use Rattle.rng_model.specs.declared.simple.PatternId.{PatternId}
 use Rattle.rng_simple.specs.GrammarBuilder.{Tables}
-use Rattle.rng_simple.specs.SimpleOf.{nested, simple_of}
+use Rattle.rng_simple.specs.SimpleOf.{simple_of}
+use Rattle.rng_graph.specs.InTwos.{nested}
 use Rattle.rng_simple.specs.Representation.{simple_renamed, no_element, element_at, IsWithin, Lists, IsRepresented, Represents}
-use Rattle.rng_simple.proofs.SimpleClass.{has_simple_class}
+use Rattle.rng_graph.proofs.SimpleClass.{has_simple_class}
 use Rattle.rng_simple.proofs.Unique.{has_simple_form, is_only_simple_form}
 use Rattle.rng_simple.proofs.Renamed.{as_tree_renamed, origin}
 use Rattle.rng_simple.proofs.SameDocuments.{same_class, same_form, same_documents}
@@ -36,7 +37,7 @@ found_some g xs k y None e h = cc
 found_some g xs k y (Some x) e h = (x, e, cc)
 
 -- what is found in a mapped list was one before
-found_mapped : {A B : Type 0} (g : A → B) (xs : List A) (k : ℕ) (y : B) → slice_get (map g xs) k ≡ Some y → (x : A) × (slice_get xs k ≡ Some x) × (g x ≡ y)
+pub found_mapped : {A B : Type 0} (g : A → B) (xs : List A) (k : ℕ) (y : B) → slice_get (map g xs) k ≡ Some y → (x : A) × (slice_get xs k ≡ Some x) × (g x ≡ y)
 found_mapped g xs k y found = found_some g xs k y (slice_get xs k) refl (sym (slice_get-map g xs k) ∙ found)
 
 is_found : {A : Type 0} (xs : List A) (k : ℕ) → k < length xs → (x : A) × (slice_get xs k ≡ Some x)

@@ -14,7 +14,8 @@ use Rattle.rng_model.specs.declared.name.NameClass.{NameClass}
 use Rattle.rng_model.specs.declared.simple.PatternId.{PatternId}
 use Rattle.rng_simple.specs.GrammarBuilder.{Tables, Extends}
 use Rattle.rng_simple.specs.Simplified.{Keeps}
-use Rattle.rng_simple.specs.SimpleOf.{Sort, nothing, blank, proper, sort_of, attribute_by, nested, simple_of, join_all}
+use Rattle.rng_simple.specs.SimpleOf.{Sort, nothing, blank, proper, sort_of, attribute_by, simple_of, join_all}
+use Rattle.rng_graph.specs.InTwos.{nested}
 use Rattle.rng_simple.specs.Representation.{simple_renamed, no_element, element_at, AreDistinct, IsWithin, IsListedAs, Lists, IsRepresented, Represents}
 use Rattle.rng_simple.proofs.Renamed.{renamed_sort, reached_more, reached_through}
 use Rattle.rng_simple.proofs.Listed.{element_last, distinct_append, within_child, not_within_child, lists_stay, lists_more}

@@ -12,8 +12,9 @@ use Rattle.rng_model.specs.Table.{Grammar, IsListed, is_listed, grammar_leaves, 
 use Rattle.rng_model.specs.Unfold.{Leaf, leaf_at, main, renamed, tree_of, body_of}
 use Rattle.rng_model.specs.Step.{Step, IsSimpleClassOf, IsSimpleFormOf}
 use Rattle.rng_model.specs.SimpleForm.{SimpleForm, IsElementOf, IsSimpleFormOfSchema, IsSameUpToNumbering}
-use Rattle.rng_simple.specs.SimpleOf.{nested, simple_of}
-use Rattle.rng_simple.proofs.SimpleClass.{has_simple_class, is_only_simple_class}
+use Rattle.rng_simple.specs.SimpleOf.{simple_of}
+use Rattle.rng_graph.specs.InTwos.{nested}
+use Rattle.rng_graph.proofs.SimpleClass.{has_simple_class, is_only_simple_class}
 use Rattle.rng_simple.proofs.Unique.{has_simple_form, is_only_simple_form}
 use Rattle.rng_simple.proofs.StepLex as lexes
 use Rattle.rng_simple.proofs.StepMatches.{weakly, steps_in, steps_out}

@@ -5,8 +5,9 @@ use Rattle.rng_model.specs.Tree.{Tree, Trees, no_trees, tree_and}
 use Rattle.rng_model.specs.Tree.{Simple, s_not_allowed, s_empty, s_text}
 use Rattle.rng_model.specs.Step.{ClassStep, ClassesStep, HasNotAllowed, Step, StepAmong, Steps, HasNoStep, IsSimpleFormOf}
 use Rattle.rng_model.specs.Step as step
-use Rattle.rng_simple.proofs.SimpleClass.{class_keeps}
-use Rattle.rng_simple.specs.SimpleOf.{nested, Sort, nothing, blank, proper, sort_of, attribute_by, list_by, except_by, joined_by, join, some_of, simple_of}
+use Rattle.rng_graph.proofs.SimpleClass.{class_keeps}
+use Rattle.rng_simple.specs.SimpleOf.{Sort, nothing, blank, proper, sort_of, attribute_by, list_by, except_by, joined_by, join, some_of, simple_of}
+use Rattle.rng_graph.specs.InTwos.{nested}
 use Rattle.rng_simple.specs.SimpleOf.{join_all}
 
 module _ {L : Type 0} where

@@ -1,6 +1,6 @@
 -- The tables of a grammar that is being built.
 use Rattle.std.specs.Prelude.{◌≡◌, ◌<◌, List, length, take, All}
-use Rattle.rng_model.specs.Table.{Falls, IsClassPaired, IsLeafListed, IsPaired, tree_at}
+use Rattle.rng_model.specs.Table.{Falls, IsClassPaired, IsLeafListed, IsOfFirstKind, IsPaired, tree_at}
 use Rattle.rng_model.specs.Tree.{IsSimpleBody}
 use Rattle.rng_model.specs.declared.name.NameClass.{NameClass}
 use Rattle.rng_model.specs.declared.simple.PatternId.{PatternId}
@@ -19,6 +19,7 @@ pub record AreTables (d : Tables) : Type 0 where
   pub falls : Falls d.patterns
   pub listed : All (IsLeafListed (length d.elements)) d.patterns
   pub paired : All IsClassPaired d.patterns
+  pub kinds : All IsOfFirstKind d.patterns
   pub paired_elements : All (λ e. IsPaired e.0) d.elements
 
 -- what the tables held when they were as long as the mark says

@@ -2,3 +2,17 @@ pub mod GrammarBuilder
 pub mod Simplified
 pub mod SimpleOf
 pub mod Representation
+pub mod Worklist
+pub mod SimpleWith
+pub mod Numbering
+pub mod GrammarBy
+pub mod RowIndex
+pub mod Rows
+pub mod RowTable
+pub mod Joining
+pub mod SimpleParts
+pub mod RowReach
+pub mod Copying
+pub mod GrammarElements
+pub mod SimplifiedSchema
+pub mod KnownDatatypes

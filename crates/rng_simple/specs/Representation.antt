@@ -13,7 +13,8 @@ use Rattle.rng_model.specs.declared.name.NameClass.{NameClass}
 use Rattle.rng_model.specs.declared.simple.PatternId.{PatternId}
 use Rattle.rng_model.specs.declared.simple.Simple as declared
 use Rattle.rng_simple.specs.GrammarBuilder.{Tables}
-use Rattle.rng_simple.specs.SimpleOf.{nested, simple_of, join}
+use Rattle.rng_simple.specs.SimpleOf.{simple_of, join}
+use Rattle.rng_graph.specs.InTwos.{nested}
 
 -- the simple tree with each leaf under another name
 abbrev pub simple_renamed : {K L : Type 0} → (K → L) → Simple K → Simple L

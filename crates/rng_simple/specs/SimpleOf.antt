@@ -1,25 +1,11 @@
 -- The plain function that simplifies a tree, from the leaves up (RELAX NG Specification, sections 4.12 to 4.15, 4.20 and
 -- 4.21). Private contracts cite it; `Step` and `SimpleForm` of `rng_model` say what it has to give.
-use Rattle.rng_model.specs.Names.{NameClass, any_name, any_except, ns_name, ns_except, name_is, one_of, NameClasses, no_classes, class_and}
+use Rattle.rng_model.specs.Names.{NameClass}
 use Rattle.rng_model.specs.Tree.{Datatype, Connector, choice, group, interleave}
 use Rattle.rng_model.specs.Tree.{Tree, not_allowed, empty, text, leaf, attribute, list, data_of, data_except, value, mixed, optional, zero_or_more, one_or_more}
 use Rattle.rng_model.specs.Tree.{joined, Trees, no_trees, tree_and}
 use Rattle.rng_model.specs.Tree.{Simple, s_not_allowed, s_empty, s_text, s_leaf, s_attribute, s_list, s_data, s_data_except, s_value, s_one_or_more, s_joined}
-
--- a name class with its members nested in twos from the left (4.12)
-abbrev mutual
-  pub nested : NameClass → NameClass
-  nested any_name = any_name
-  nested (any_except c) = any_except (nested c)
-  nested (ns_name u) = ns_name u
-  nested (ns_except u c) = ns_except u (nested c)
-  nested (name_is n) = name_is n
-  nested (one_of c d cs) = nested_after (one_of (nested c) (nested d) no_classes) cs
-
-  -- a class, and the members after it
-  pub nested_after : NameClass → NameClasses → NameClass
-  nested_after c no_classes = c
-  nested_after c (class_and d ds) = nested_after (one_of c (nested d) no_classes) ds
+use Rattle.rng_graph.specs.InTwos.{nested}
 
 -- what the rules ask of a side: notAllowed, empty, or something else
 pub data Sort : Type 0 where

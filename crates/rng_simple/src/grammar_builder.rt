@@ -1,6 +1,6 @@
 // The tables of a grammar that is being built.
 ghost use Rattle.std.specs.Prelude.{◌≡◌, ◌<◌, ◌≤◌, [], ◌∷◌, ◌++◌, length, All, IfOk, OnErr, OnOk};
-ghost use Rattle.rng_model.specs.Table.{AreChildrenBelow, IsClassPaired, IsLeafListed, IsPaired, tree_over, tree_at};
+ghost use Rattle.rng_model.specs.Table.{AreChildrenBelow, IsClassPaired, IsLeafListed, IsOfFirstKind, IsPaired, tree_over, tree_at};
 ghost use Rattle.rng_model.specs.Tree.{IsSimpleBody};
 ghost use Rattle.rng_simple.specs.GrammarBuilder.{AreTables, cut};
 
@@ -64,6 +64,7 @@ impl GrammarBuilder {
         requires below { AreChildrenBelow (length self.old.patterns) pattern }
         requires listed { IsLeafListed (length self.old.elements) pattern }
         requires paired { IsClassPaired pattern }
+        requires kind { IsOfFirstKind pattern }
         ensures id { IfOk result (λ id. id.0 ≡ length self.old.patterns) }
         ensures there { IfOk result (λ id. id.0 < length self.new.patterns) }
         ensures ok { OnOk result (self.new ≡ record self.old { patterns = self.old.patterns ++ pattern ∷ [] }) }
@@ -107,6 +108,7 @@ impl GrammarBuilder {
         requires { start.0 < length self.patterns }
         ensures grammar { result ≡ record { patterns = self.patterns; elements = self.elements; start = start } }
         ensures bodies { All (λ e. IsSimpleBody (tree_at self.patterns e.1)) self.elements }
+        ensures kinds { All IsOfFirstKind self.patterns }
     {
         SimpleGrammar::new(self.patterns, self.elements, start)
     }

@@ -1,12 +1,12 @@
 // From a pattern to its simple form, from the leaves up.
-ghost use Rattle.std.specs.Prelude.{◌≡◌, ◌<◌, length, map, IfOk, OnOk};
+ghost use Rattle.std.specs.Prelude.{All, ◌≡◌, ◌<◌, length, map, IfOk, OnOk};
 ghost use Rattle.rng_model.specs.Names as names;
 ghost use Rattle.rng_model.specs.SimpleForm.{
   AreSameDocuments,
   IsOnlySimpleGrammarOf,
   IsSimpleGrammarOf,
 };
-ghost use Rattle.rng_model.specs.Table.{IsInSimpleSyntax, grammar_of, tree_at};
+ghost use Rattle.rng_model.specs.Table.{IsInSimpleSyntax, IsOfFirstKind, grammar_of, tree_at};
 ghost use Rattle.rng_model.specs.Tree.{IsSimpleBody, choice, group, s_empty, s_joined};
 ghost use Rattle.rng_model.specs.View.{pattern_of};
 ghost use Rattle.rng_model.specs.Written.{members};
@@ -37,6 +37,7 @@ pub enum Simplified {
 /// and recurses as deep as it nests.
 pub fn simplify(alloc: Global, pattern: &Pattern) -> Result<SimpleGrammar, OutOfMemory>
     ensures syntax { IfOk result (λ g. IsInSimpleSyntax (grammar_of g)) }
+    ensures kinds { IfOk result (λ g. All IsOfFirstKind g.patterns) }
     ensures simple_form { IfOk result (λ g. IsSimpleGrammarOf (pattern_of pattern.now) (grammar_of g)) }
     ensures only { IfOk result (λ g. IsOnlySimpleGrammarOf (pattern_of pattern.now) (grammar_of g)) }
     ensures documents { IfOk result (λ g. AreSameDocuments (pattern_of pattern.now) (grammar_of g)) }
@@ -56,7 +57,8 @@ fn simplify_pattern(
 ) -> Result<Simplified, OutOfMemory>
     ensures extends { OnOk result (Extends builder.old builder.new) }
     ensures simplified { IfOk result (IsSimplified builder.new.patterns) }
-    ensures represents { IfOk result (λ simplified. Represents builder.old builder.new (simplified_tree builder.new.patterns simplified) (pattern_of pattern.now)) }
+    ensures represents { IfOk result (λ simplified.
+        Represents builder.old builder.new (simplified_tree builder.new.patterns simplified) (pattern_of pattern.now)) }
 {
     match pattern {
         Pattern::NotAllowed => Ok(Simplified::NotAllowed),
@@ -91,7 +93,8 @@ fn simplify_group(
 ) -> Result<Simplified, OutOfMemory>
     ensures extends { OnOk result (Extends builder.old builder.new) }
     ensures simplified { IfOk result (IsSimplified builder.new.patterns) }
-    ensures represents { IfOk result (λ simplified. Represents builder.old builder.new (simplified_tree builder.new.patterns simplified) (members group (map pattern_of all.now))) }
+    ensures represents { IfOk result (λ simplified.
+        Represents builder.old builder.new (simplified_tree builder.new.patterns simplified) (members group (map pattern_of all.now))) }
 {
     let mark = builder.mark();
     let mut joined = Simplified::Empty;
@@ -111,7 +114,8 @@ fn simplify_choice(
 ) -> Result<Simplified, OutOfMemory>
     ensures extends { OnOk result (Extends builder.old builder.new) }
     ensures simplified { IfOk result (IsSimplified builder.new.patterns) }
-    ensures represents { IfOk result (λ simplified. Represents builder.old builder.new (simplified_tree builder.new.patterns simplified) (members choice (map pattern_of all.now))) }
+    ensures represents { IfOk result (λ simplified.
+        Represents builder.old builder.new (simplified_tree builder.new.patterns simplified) (members choice (map pattern_of all.now))) }
 {
     let mut joined = Simplified::NotAllowed;
     for member in all {

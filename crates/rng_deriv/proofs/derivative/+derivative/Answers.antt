@@ -148,7 +148,7 @@ after_parent-returns-in_ok-whole-in-Group-2 t c = record {
   known = Knows-longer c.args.grammar.now _ _ _ c.after-in-Group.new.memo c.in_ok-whole-in-Group-2.ensures.longer c.in_ok-right-in-Group-2.ensures.known;
   after = group_step c.args.grammar.now _ _ _ _ _ _ _ _ _ _ c.at.result c.in-Group.first c.in-Group.second c.at.ensures.found c.at.ensures.below
       (c.at.ensures.tree c.args.grammar.now) c.in-Group.is
-      c.requires.first (content_from _ c.in_default-symbol.not-Attribute) (entry_derivable c.args.grammar.now _ c.in-Group.first)
+      c.requires.first (content_from _ c.in_default-symbol.not-Attribute) (entry_derivable c.args.grammar.now c.requires.copied.kinds _ c.in-Group.first)
       (sym (c.at-in-Group.ensures.flag c.args.grammar.now)
       ∙ not-false _ c.if-not-at.false) c.in_ok-front-in-Group.ensures c.in_ok-right-in-Group-2.ensures.longer c.in_ok-right-in-Group-2.ensures.after
       c.in_ok-whole-in-Group-2.ensures;
@@ -234,5 +234,5 @@ takes_attribute-returns-else-not-contains-clause-left t c =
 pub takes_text-returns-clause-takes : goal.takes_text-returns-clause-takes
 takes_text-returns-clause-takes t c =
     let g = c.args.grammar.now in
-    text_answer g c.args.table.now _ _ c.args.number _ _ _ _ c.requires.1.1.0 c.in_ok-left.ensures.longer c.in_ok-left.ensures.after
+    text_answer g c.requires.1.1.1.kinds c.args.table.now _ _ c.args.number _ _ _ _ c.requires.1.1.0 c.in_ok-left.ensures.longer c.in_ok-left.ensures.after
     (c.at-alone.ensures.flag g) (c.at-empty.ensures.flag g) c.is_taken.ensures

@@ -1,6 +1,8 @@
 use Rattle.std.proofs.Common.{◌<◌, length, sym, ap, ◌∙◌, arith}
 use Rattle.std.proofs.lemmas.Option.{slice_get_within}
 use Rattle.rng_deriv.specs.PatternTable.{tree_of, tree_over}
+use Rattle.rng_model.specs.Table.{IsOfFirstKind}
+use Rattle.rng_deriv.proofs.Follows.{All-found}
 use Rattle.rng_deriv.proofs.Copied.{agrees_more, past_from_none}
 use Rattle.rng_deriv.proofs.pattern_table.table_of.Goals as goal
 
@@ -14,7 +16,7 @@ patterns-preserved c =
     record {
       within = omega arith;
       trees = agrees_more t c.patterns.table c.push.new.self c.in-Some.pattern.now
-          (record { 0 = c.len.result }) at long c.in_ok-push.ensures.longer found c.in-Some.ensures.below c.in-Some.ensures.tree
+          (record { 0 = c.len.result }) at long c.in_ok-push.ensures.longer found (All-found IsOfFirstKind t.patterns c.len.result c.in-Some.pattern.now c.requires.kinds found) c.in-Some.ensures.below c.in-Some.ensures.tree
           (ap (λ k. tree_of t c.push.new.self k) (sym c.in_ok-push.ensures.number) ∙ c.in_ok-push.ensures.tree t
           ∙ ap (tree_over t (tree_of t c.patterns.table)) c.node_of.ensures)
           c.patterns.invariant.trees;
@@ -25,4 +27,4 @@ returns-in_default c =
     let past = past_from_none c.args.grammar.now.patterns c.len.result (sym c.in_default.ensures.value) in
     let long = c.patterns.invariant.within in
     let at = c.len.ensures in
-    record { table = c.requires; long = omega arith; trees = λ i h. c.patterns.invariant.trees i (omega arith) }
+    record { table = c.requires.table; kinds = c.requires.kinds; long = omega arith; trees = λ i h. c.patterns.invariant.trees i (omega arith) }

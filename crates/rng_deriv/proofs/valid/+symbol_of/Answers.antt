@@ -79,5 +79,5 @@ returns-in_ok-found-in-Element-clause-stands t c =
     (map attribute_of xs) c.as_slice-content.result.now c.in_ok-found-in-Element.found) c.as_slice-attrs.ensures.value c.in_ok-found-in-Element.ensures.found in
     let answers =
     subst (λ ss. AnswersNodes g (name_of c.in-Element.name) (map attribute_of c.in-Element.attrs.items) ss c.in_ok-found-in-Element.found) symbols named in
-    element_answer g c.args.item.now c.in-Element.name c.in-Element.attrs c.in-Element.children c.children.content.items c.in_ok-found-in-Element.found
+    element_answer g c.requires.copied.kinds c.args.item.now c.in-Element.name c.in-Element.attrs c.in-Element.children c.children.content.items c.in_ok-found-in-Element.found
     c.in-Element.is c.requires.well_formed there answers

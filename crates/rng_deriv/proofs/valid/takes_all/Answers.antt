@@ -21,5 +21,5 @@ symbols-preserved c =
 pub returns-clause-takes : goal.returns-clause-takes
 returns-clause-takes c =
     let end : c.symbols.symbol-index ≡ length c.args.content.now = omega arith in
-    symbols_end c.args.grammar.now _ c.symbols.table _ c.symbols.left _ c.symbols.symbol-index _ end
+    symbols_end c.args.grammar.now c.symbols.invariant.copied.kinds _ c.symbols.table _ c.symbols.left _ c.symbols.symbol-index _ end
     (c.at.ensures.flag c.args.grammar.now) c.symbols.invariant.after

@@ -1,5 +1,5 @@
 use Rattle.rng_load.specs.PlacedGrammars.{schema_of}
-use Rattle.rng_run.proofs.ServedSchema.{judges_none, loaded_answer}
+use Rattle.rng_run.proofs.LoadedSchemas.{judges_none, loaded_answer}
 use Rattle.rng_run.proofs.running.answer_for.Goals as goal
 
 pub returns-in-Ok-clause-unread : goal.returns-in-Ok-clause-unread

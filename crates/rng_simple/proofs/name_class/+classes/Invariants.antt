@@ -2,7 +2,7 @@ use Rattle.std.proofs.Common.{◌≡◌, map, drop}
 use Rattle.rng_model.specs.Names.{classes_of, some_of}
 use Rattle.rng_model.specs.Table.{IsPaired}
 use Rattle.rng_model.specs.View.{class_of}
-use Rattle.rng_simple.specs.SimpleOf.{nested as nested_tree, nested_after}
+use Rattle.rng_graph.specs.InTwos.{nested as nested_tree, nested_after}
 use Rattle.rng_simple.proofs.name_class.+classes.Given as goal
 
 abbrev pub invariant-nested_members-loop-member : goal.invariant-nested_members-loop-member

@@ -8,7 +8,7 @@ use Rattle.rng_simple.specs.GrammarBuilder.{Extends, AreTables, cut}
 use Rattle.rng_simple.specs.Representation.{Represents, RepresentsFirst}
 use Rattle.rng_model.specs.Written.{members}
 use Rattle.rng_simple.specs.Simplified.{simplified_tree}
-use Rattle.rng_simple.specs.SimpleOf.{nested}
+use Rattle.rng_graph.specs.InTwos.{nested}
 use Rattle.rng_simple.specs.declared.simplification.Simplified.TheVariants as variants
 use Rattle.rng_simple.proofs.GrammarBuilder.{keeps_after_push, some_simplified, simplified_stays, extends_itself, extends_twice, cut_again}
 use Rattle.rng_simple.proofs.Representation.{represents_stays, represents_not_allowed, represents_empty, represents_text, represents_element}

@@ -1,4 +1,4 @@
-use Rattle.std.proofs.Common.{[], subst, sym}
+use Rattle.std.proofs.Common.{subst, sym}
 use Rattle.rng_model.specs.SimpleForm.{IsSimpleGrammarOf}
 use Rattle.rng_model.specs.Table.{IsInSimpleSyntax, grammar_of}
 use Rattle.rng_model.specs.View.{pattern_of}

@@ -1,10 +1,10 @@
-use Rattle.std.proofs.Common.{◌≡◌, ◌∙◌, rules, arith, sym, ap, map, Some, None, ◌<◌, ◌≤◌, ◌∷◌, [], ◌++◌, length, reverse}
+use Rattle.std.proofs.Common.{◌≡◌, ◌∙◌, rules, arith, sym, ap, subst, IfOk, map, Some, None, ◌<◌, ◌≤◌, ◌∷◌, [], ◌++◌, length, reverse}
 use Rattle.std.proofs.lemmas.List.{map_push}
 use Rattle.rng_model.specs.Patterns as pattern
 use Rattle.rng_model.specs.SchemaView.{schema_pattern_of}
 use Rattle.rnc_grammar.specs.declared.file_tree.Pattern.TheVariants as trees
 use Rattle.rnc_grammar.specs.View.{file_of, pattern_of}
-use Rattle.rng_load.specs.ReadPatterns.{files_in, nested_of}
+use Rattle.rng_load.specs.ReadPatterns.{connector_of, files_in, nested_of}
 use Rattle.rng_load.specs.PlainReading.{read_at}
 use Rattle.rng_load.proofs.LeftToRead.{falls_to_file, falls_to_member}
 use Rattle.rng_load.proofs.ReadDatatypes.{plain_read, except_read}
@@ -60,11 +60,11 @@ members-loop-number-preserved t c =
           (child.nested ∙ ap (λ r. map nested_of c.loop-number.grammars.items ++ r.1) here);
     }
 
-pub members-returns-clause-patterns : goal.members-returns-clause-patterns
-members-returns-clause-patterns t c =
+pub members-returns-clause-pattern : goal.members-returns-clause-pattern
+members-returns-clause-pattern t c =
     let end : length c.args.patterns.now ≤ c.loop-number.number = search rules in
-    all_patterns pattern_of c.args.patterns.now c.loop-number.number (map schema_pattern_of c.loop-number.members.items)
-    (map nested_of c.loop-number.grammars.items) end c.loop-number.invariant.read
+    c.joined.ensures ∙ ap (pattern.members (connector_of c.args.connector)) (all_patterns pattern_of c.args.patterns.now c.loop-number.number
+    (map schema_pattern_of c.loop-number.members.items) (map nested_of c.loop-number.grammars.items) end c.loop-number.invariant.read)
 
 pub members-returns-clause-nested : goal.members-returns-clause-nested
 members-returns-clause-nested t c =
@@ -76,8 +76,9 @@ pub pattern-returns-in-None-clause-pattern : goal.pattern-returns-in-None-clause
 pattern-returns-in-None-clause-pattern t c =
     let arm = c.in-Data in
     let is : c.args.pattern.now ≡ trees.Data arm.type_name arm.parameters None = arm.is ∙ ap (trees.Data arm.type_name arm.parameters) c.in-None.is in
-    plain_read (files_in c.args.self) c.args.levels c.args.uri.now (reverse c.args.way.now.items) c.args.pattern.now arm.type_name arm.parameters
-    c.deref-in-Data.result.now c.deref-in-Data.ensures.value c.in_ok-datatype-in-Data.datatype c.in_ok-datatype-in-Data.ensures is
+    let read = plain_read (files_in c.args.self) c.args.levels c.args.uri.now (reverse c.args.way.now.items) c.args.pattern.now arm.type_name arm.parameters
+    c.deref-in-None.result.now c.deref-in-None.ensures.value is in
+    subst (λ r. IfOk c.data.result (λ p. schema_pattern_of p ≡ r)) read c.data.ensures
 
 pub pattern-returns-in_ok-except-in-Some-clause-pattern : goal.pattern-returns-in_ok-except-in-Some-clause-pattern
 pattern-returns-in_ok-except-in-Some-clause-pattern t c =
@@ -85,6 +86,7 @@ pattern-returns-in_ok-except-in-Some-clause-pattern t c =
     let is : c.args.pattern.now ≡ trees.Data arm.type_name arm.parameters (Some c.in-Some.except) =
     arm.is ∙ ap (trees.Data arm.type_name arm.parameters) c.in-Some.is in
     let body : c.deref-in-Some.result.now ≡ c.in-Some.except.value = c.deref-in-Some.ensures in
-    except_read (files_in c.args.self) c.args.levels c.args.uri.now (reverse c.args.way.now.items) c.args.pattern.now arm.type_name arm.parameters
-    c.deref-in-Data.result.now c.deref-in-Data.ensures.value c.in_ok-datatype-in-Data.datatype c.in_ok-datatype-in-Data.ensures c.in-Some.except
-    c.deref-in-Some.result.now c.in_ok-except-in-Some.except is body c.in_ok-except-in-Some.ensures.pattern
+    let read = except_read (files_in c.args.self) c.args.levels c.args.uri.now (reverse c.args.way.now.items) c.args.pattern.now arm.type_name arm.parameters
+    c.deref-in-Some-2.result.now c.deref-in-Some-2.ensures.value c.in-Some.except c.deref-in-Some.result.now
+    (schema_pattern_of c.in_ok-except-in-Some.except.value) is body c.in_ok-except-in-Some.ensures.pattern in
+    subst (λ r. IfOk c.data_except.result (λ p. schema_pattern_of p ≡ r)) read c.data_except.ensures

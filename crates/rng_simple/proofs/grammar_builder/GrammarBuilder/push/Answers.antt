@@ -1,4 +1,6 @@
-use Rattle.std.proofs.Common.{◌≡◌, ◌∷◌, ◌++◌, [], length, rules}
+use Rattle.std.proofs.Common.{◌≡◌, ◌∷◌, ◌++◌, [], length, rules, All, subst, sym}
+use Rattle.std.proofs.lemmas.List.Elements.{All-push}
+use Rattle.rng_model.specs.Table.{IsOfFirstKind}
 use Rattle.rng_model.specs.Table.{AreChildrenBelow}
 use Rattle.rng_model.proofs.Table.{tree_of_pushed}
 use Rattle.rng_simple.proofs.GrammarBuilder.{bodies_stay, falls_after_push}
@@ -12,6 +14,8 @@ invariant_of-self-2 c =
       falls = falls_after_push _ _ _ c.self.invariant.falls c.in_ok-push.ensures.items below;
       listed = search rules;
       paired = search rules;
+      kinds = subst (All IsOfFirstKind) (sym c.in_ok-push.ensures.items)
+          (All-push IsOfFirstKind c.self.inside.patterns.items c.args.pattern c.self.invariant.kinds c.requires.kind);
       paired_elements = search rules;
     }
 

@@ -1,0 +1,5 @@
+pub mod BuiltTrees
+pub mod Answers
+pub mod WellFormed
+pub mod OneDocument
+pub mod LineCount

@@ -1,0 +1,203 @@
+-- The alternatives of a class answer as the class does.
+use Rattle.std.proofs.Common.{◌≡◌, refl, sym, subst, ap, ap₂, ◌∙◌, arith, ℕ, ◌<◌, List, [], ◌∷◌, length, map, Bool, true, false, ◌&&◌, ◌||◌, Option, Some, None}
+use Rattle.std.proofs.Common.{bytes_eq, ◌++◌, Bor, Vec, Global}
+use Rattle.std.specs.List.{list_any}
+use Rattle.std.proofs.Math.Bool.{or-false}
+use Rattle.rng_model.specs.Names.{Name, NameClass, NameClasses, any_name, any_except, ns_name, ns_except, name_is, one_of, no_classes, class_and}
+use Rattle.rng_model.specs.Names.{classes_of, some_of}
+use Rattle.std.proofs.lemmas.List.Folds.{list_any-append}
+use Rattle.rng_model.specs.View.{class_of}
+use Rattle.rng_model.specs.declared.name.NameClass as declared
+use Rattle.rng_names.specs.Alternatives.{Adds, Stands, has, hold_fresh, excepted_hold, has_alternative, some_has_alternative, is_any, is_written, is_excepted}
+use Rattle.rng_names.specs.Holding.{holds, some_hold}
+use Rattle.rng_names.specs.Written.{longest, longest_of}
+use Rattle.rng_names.specs.declared.alternatives.Alternatives.{Alternatives}
+use Rattle.rng_names.proofs.Fresh.{shorter}
+
+or-true : (b : Bool) → true ≡ (b || true)
+or-true true = refl
+or-true false = refl
+
+or-swap : (a b c d : Bool) → ((a || b) || (c || d)) ≡ ((a || c) || (b || d))
+or-swap true b c d = refl
+or-swap false b true d = sym (or-true b)
+or-swap false b false d = refl
+
+-- ---- a choice has the alternatives of its members
+
+module _ {A : Type 0} (f : A → NameClass) (test : NameClass → Bool) where
+  abbrev pub among : List A → Bool
+  among xs = list_any (λ x. has_alternative test (f x)) xs
+
+  some-members : (xs : List A) → some_has_alternative test (classes_of (map f xs)) ≡ among xs
+  some-members [] = refl
+  some-members (x ∷ xs) = ap (λ b. has_alternative test (f x) || b) (some-members xs)
+
+  pub alternatives-members : test (any_except any_name) ≡ false → (xs : List A) → has_alternative test (some_of (map f xs)) ≡ among xs
+  alternatives-members none [] = none
+  alternatives-members none (x ∷ []) = sym (or-false (has_alternative test (f x)))
+  alternatives-members none (x ∷ (y ∷ xs)) = ap (λ b. has_alternative test (f x) || (has_alternative test (f y) || b)) (some-members xs)
+
+-- ---- what is added
+
+or-assoc : (a b c : Bool) → ((a || b) || c) ≡ (a || (b || c))
+or-assoc true b c = refl
+or-assoc false b c = refl
+
+-- nothing is added
+pub adds_none : (old : Alternatives) → Adds old old (λ test. false)
+adds_none old = record {
+  class = refl;
+  any = sym (or-false old.any);
+  written = λ u l. sym (or-false (has old.written u l));
+  excepted = λ q. sym (or-false (excepted_hold old q));
+}
+
+-- one thing after another
+pub adds_more : (old between new : Alternatives) (first more both : (NameClass → Bool) → Bool) → Adds old between first → Adds between new more
+    → ((test : NameClass → Bool) → both test ≡ (first test || more test)) → Adds old new both
+adds_more old between new first more both a b joined = record {
+  class = b.class ∙ a.class;
+  any = b.any ∙ ap (λ x. x || more is_any) a.any ∙ or-assoc old.any (first is_any) (more is_any) ∙ ap (λ x. old.any || x) (sym (joined is_any));
+  written = λ u l. let t = is_written u l in
+      b.written u l ∙ ap (λ x. x || more t) (a.written u l) ∙ or-assoc (has old.written u l) (first t) (more t)
+      ∙ ap (λ x. has old.written u l || x) (sym (joined t));
+  excepted = λ q. let t = is_excepted q in
+      b.excepted q ∙ ap (λ x. x || more t) (a.excepted q) ∙ or-assoc (excepted_hold old q) (first t) (more t)
+      ∙ ap (λ x. excepted_hold old q || x) (sym (joined t));
+}
+
+-- a choice, from its members
+pub adds_choice : {A : Type 0} (f : A → NameClass) (xs : List A) (c : NameClass) (old new : Alternatives) → c ≡ some_of (map f xs)
+    → Adds old new (λ test. list_any (λ x. has_alternative test (f x)) xs) → Adds old new (λ test. has_alternative test c)
+adds_choice f xs c old new is a =
+    let whole : (test : NameClass → Bool) → test (any_except any_name) ≡ false → list_any (λ x. has_alternative test (f x)) xs ≡ has_alternative test c =
+    λ test none. sym (ap (has_alternative test) is ∙ alternatives-members f test none xs) in
+    record {
+      class = a.class;
+      any = a.any ∙ ap (λ x. old.any || x) (whole is_any refl);
+      written = λ u l. a.written u l ∙ ap (λ x. has old.written u l || x) (whole (is_written u l) refl);
+      excepted = λ q. a.excepted q ∙ ap (λ x. excepted_hold old q || x) (whole (is_excepted q) refl);
+    }
+
+-- a class with an except
+module _ (old : Alternatives) (more : Vec (Bor declared.NameClass) Global) (class : Bor declared.NameClass)
+    (put : more.items ≡ old.excepted.items ++ class ∷ []) where
+  pub adds_excepted : (c : NameClass) → class_of class.now ≡ c → has_alternative is_any c ≡ false
+      → ((u : List ℕ) (l : Option (List ℕ)) → has_alternative (is_written u l) c ≡ false) → ((q : Name) → has_alternative (is_excepted q) c ≡ holds c q)
+      → Adds old (record { class = old.class; any = old.any; written = old.written; excepted = more }) (λ test. has_alternative test (class_of class.now))
+  adds_excepted c is no_any no_written as_held = subst (λ d. Adds old new (λ test. has_alternative test d)) (sym is) (record {
+    class = refl;
+    any = sym (ap (λ x. old.any || x) no_any ∙ or-false old.any);
+    written = λ u l. sym (ap (λ x. has old.written u l || x) (no_written u l) ∙ or-false (has old.written u l));
+    excepted = λ q. held_too q ∙ ap (λ x. excepted_hold old q || x) (ap (λ d. holds d q) is ∙ sym (as_held q));
+  }) where
+    new : Alternatives
+    new = record { class = old.class; any = old.any; written = old.written; excepted = more }
+
+    held_too : (q : Name) → excepted_hold new q ≡ (excepted_hold old q || holds (class_of class.now) q)
+    held_too q =
+        let test : Bor declared.NameClass → Bool = λ x. holds (class_of x.now) q in
+        ap (list_any test) put ∙ list_any-append test old.excepted.items (class ∷ [])
+        ∙ ap (λ x. list_any test old.excepted.items || x) (or-false (holds (class_of class.now) q))
+
+-- ---- a class holds what one of its alternatives holds
+
+module _ (q : Name) where
+  abbrev parts : ((NameClass → Bool) → Bool) → Bool
+  parts some = some (is_written q.ns (Some q.local)) || (some is_any || (some (is_written q.ns None) || some (is_excepted q)))
+
+  parts_of_both : (f g : (NameClass → Bool) → Bool) → (parts f || parts g) ≡ parts (λ test. f test || g test)
+  parts_of_both f g =
+      let name = is_written q.ns (Some q.local) in
+      let ns = is_written q.ns None in
+      let other = is_excepted q in
+      or-swap (f name) (f is_any || (f ns || f other)) (g name) (g is_any || (g ns || g other))
+      ∙ ap (λ x. (f name || g name) || x)
+      (or-swap (f is_any) (f ns || f other) (g is_any) (g ns || g other)
+      ∙ ap (λ x. (f is_any || g is_any) || x) (or-swap (f ns) (f other) (g ns) (g other)))
+
+  and-swap : (a b : Bool) → (a && b) ≡ (b && a)
+  and-swap true true = refl
+  and-swap true false = refl
+  and-swap false true = refl
+  and-swap false false = refl
+
+  and-true : (a : Bool) → a ≡ (a && true)
+  and-true true = refl
+  and-true false = refl
+
+  and-none : (a : Bool) → false ≡ (a && false)
+  and-none true = refl
+  and-none false = refl
+
+  mutual
+    pub held_by_alternatives : (c : NameClass) → holds c q ≡ parts (λ test. has_alternative test c)
+    held_by_alternatives any_name = refl
+    held_by_alternatives (any_except c) = refl
+    held_by_alternatives (ns_name u) = ap₂ (λ x y. x || y) (and-none (bytes_eq u q.ns)) (and-true (bytes_eq u q.ns) ∙ sym (or-false (bytes_eq u q.ns && true)))
+    held_by_alternatives (ns_except u c) = refl
+    held_by_alternatives (name_is n) = and-swap (bytes_eq n.local q.local) (bytes_eq n.ns q.ns)
+        ∙ named_alone (bytes_eq n.ns q.ns && bytes_eq n.local q.local) (bytes_eq n.ns q.ns)
+      where
+        named_alone : (a b : Bool) → a ≡ (a || (false || ((b && false) || false)))
+        named_alone true b = refl
+        named_alone false true = refl
+        named_alone false false = refl
+    held_by_alternatives (one_of c d cs) =
+        let after : (NameClass → Bool) → Bool = λ test. has_alternative test d || some_has_alternative test cs in
+        let more : (holds d q || some_hold cs q) ≡ parts after =
+        ap₂ (λ x y. x || y) (held_by_alternatives d) (some_held_by_alternatives cs)
+        ∙ parts_of_both (λ test. has_alternative test d) (λ test. some_has_alternative test cs) in
+        ap₂ (λ x y. x || y) (held_by_alternatives c) more ∙ parts_of_both (λ test. has_alternative test c) after
+
+    some_held_by_alternatives : (cs : NameClasses) → some_hold cs q ≡ parts (λ test. some_has_alternative test cs)
+    some_held_by_alternatives no_classes = refl
+    some_held_by_alternatives (class_and c cs) =
+        ap₂ (λ x y. x || y) (held_by_alternatives c) (some_held_by_alternatives cs)
+        ∙ parts_of_both (λ test. has_alternative test c) (λ test. some_has_alternative test cs)
+
+-- ---- a local name that is not written is none of the names
+
+neither : (x y : Bool) → x ≡ false → y ≡ false → (x || y) ≡ false
+neither true y e f = e
+neither false y e f = f
+
+and-off : (x y : Bool) → y ≡ false → (x && y) ≡ false
+and-off true y e = e
+and-off false y e = refl
+
+module _ (q : Name) where
+  mutual
+    none_named : (c : NameClass) → longest c < length q.local → has_alternative (is_written q.ns (Some q.local)) c ≡ false
+    none_named any_name less = refl
+    none_named (any_except c) less = refl
+    none_named (ns_name u) less = and-off (bytes_eq u q.ns) false refl
+    none_named (ns_except u c) less = refl
+    none_named (name_is n) less = and-off (bytes_eq n.ns q.ns) (bytes_eq n.local q.local) (shorter n.local q.local (omega (arith, less)))
+    none_named (one_of c d cs) less =
+        neither _ _ (none_named c (omega (arith, less))) (neither _ _ (none_named d (omega (arith, less))) (none_of_some_named cs (omega (arith, less))))
+
+    none_of_some_named : (cs : NameClasses) → longest_of cs < length q.local → some_has_alternative (is_written q.ns (Some q.local)) cs ≡ false
+    none_of_some_named no_classes less = refl
+    none_of_some_named (class_and c cs) less = neither _ _ (none_named c (omega (arith, less))) (none_of_some_named cs (omega (arith, less)))
+
+-- ---- a table of all alternatives, made from none, stands for the class
+
+pub stands : (old all : Alternatives) → old.any ≡ false → ((u : List ℕ) (l : Option (List ℕ)) → has old.written u l ≡ false)
+    → ((q : Name) → excepted_hold old q ≡ false) → Adds old all (λ test. has_alternative test (class_of old.class.now)) → Stands all
+stands old all none_any none_written none_excepted a =
+    let c : NameClass = class_of all.class.now in
+    let b : Adds old all (λ test. has_alternative test c) = subst (λ k. Adds old all (λ test. has_alternative test (class_of k.now))) (sym a.class) a in
+    let some : (NameClass → Bool) → Bool = λ test. has_alternative test c in
+    let any : all.any ≡ some is_any = b.any ∙ ap (λ x. x || some is_any) none_any in
+    let written : (u : List ℕ) (l : Option (List ℕ)) → has all.written u l ≡ some (is_written u l) =
+    λ u l. b.written u l ∙ ap (λ x. x || some (is_written u l)) (none_written u l) in
+    let excepted : (q : Name) → excepted_hold all q ≡ some (is_excepted q) = λ q. b.excepted q ∙ ap (λ x. x || some (is_excepted q)) (none_excepted q) in
+    let others : (q : Name) → hold_fresh all q ≡ (some is_any || (some (is_written q.ns None) || some (is_excepted q))) =
+    λ q. ap₂ (λ x y. x || y) any (ap₂ (λ x y. x || y) (written q.ns None) (excepted q)) in
+    record {
+      held = λ q. ap₂ (λ x y. x || y) (written q.ns (Some q.local)) (others q) ∙ sym (held_by_alternatives q c);
+      fresh = λ q less. others q
+          ∙ sym (held_by_alternatives q c ∙ ap (λ x. x || (some is_any || (some (is_written q.ns None) || some (is_excepted q)))) (none_named q c less));
+    }

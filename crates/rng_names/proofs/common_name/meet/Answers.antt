@@ -1,0 +1,17 @@
+use Rattle.std.proofs.Common.{◌≡◌, false, sym, ◌∙◌, rules}
+use Rattle.rng_model.specs.View.{class_of}
+use Rattle.rng_names.specs.Holding.{pair}
+use Rattle.rng_names.specs.Written.{both_hold, is_met}
+use Rattle.rng_names.proofs.Fresh.{none_is_found}
+use Rattle.rng_names.proofs.common_name.meet.Goals as goal
+
+pub returns-else-is_met-clause-apart : goal.returns-else-is_met-clause-apart
+returns-else-is_met-clause-apart c = λ denied.
+    let x = class_of c.args.a.now.class.now in
+    let y = class_of c.args.b.now.class.now in
+    let fresh = c.args.fresh.now in
+    let test = both_hold x y in
+    let outside : test (pair fresh fresh) ≡ false = search rules in
+    let first : is_met test fresh x ≡ false = search rules in
+    let second : is_met test fresh y ≡ false = sym c.is_met-else-is_met.ensures.test ∙ denied in
+    none_is_found fresh x y c.requires.fresh_first c.requires.fresh_second outside first second

@@ -1,0 +1,17 @@
+pub mod Wildcards
+pub mod Standing
+pub mod FactsOver
+pub mod Clauses
+pub mod ContentTypes
+pub mod Occurrence
+pub mod Parts
+pub mod BrokenClauses
+pub mod Bodies
+pub mod NamesMeetQueues
+pub mod NamesMeetTables
+pub mod NamesMeetBetween
+pub mod NamesMeetGroups
+pub mod NamesMeetSearch
+pub mod RowPaths
+pub mod NamesMeetBreaches
+pub mod NamesMeetAnswers

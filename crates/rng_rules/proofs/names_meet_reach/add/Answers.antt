@@ -1,0 +1,15 @@
+use Rattle.std.proofs.Common.{sym, subst, ◌∙◌, take}
+use Rattle.std.proofs.lemmas.List.{take_more}
+use Rattle.rng_rules.specs.NamesMeetReach.{Adds}
+use Rattle.rng_rules.proofs.NamesMeetQueues.{adds_then}
+use Rattle.rng_rules.proofs.names_meet_reach.add.Goals as goal
+
+pub loop-k-preserved : goal.loop-k-preserved
+loop-k-preserved c =
+    let n = take_more c.args.numbers.now c.loop-k.k-index 0 c.loop-k-test.true in
+    let a = adds_then c.args.rows.now.items (take c.loop-k.k-index c.args.numbers.now) c.loop-k.rows.items _ c.add_one.new.rows.items
+    c.loop-k.invariant.adds c.in_ok-add_one.ensures.adds in record {
+      marked = c.in_ok-add_one.ensures.marked;
+      long = c.in_ok-add_one.ensures.long ∙ c.loop-k.invariant.long;
+      adds = subst (λ xs. Adds c.args.rows.now.items xs c.add_one.new.rows.items) (sym n) a;
+    }

@@ -1,0 +1,39 @@
+use Rattle.std.proofs.Common.{rules, sym, ◌∙◌, ap, subst, ◌+◌, true≢false, length, slice_index_or, []}
+use Rattle.rng_rules.specs.NamesMeetReach.{lists}
+use Rattle.rng_rules.specs.NamesMeetSides.{MeetBetween}
+use Rattle.rng_rules.proofs.NamesMeetSearch.{group_at, group_below, none_more}
+use Rattle.rng_rules.proofs.names_meet_search.groups_meet.Goals as goal
+
+pub meet-requires-clause-first : goal.meet-requires-clause-first
+meet-requires-clause-first c =
+    group_below (length c.args.rows.now.standing.items) (lists c.args.groups.now) c.loop-group.group-index c.as_slice.result.now c.requires.below
+    (c.as_slice.ensures.value ∙ group_at c.args.groups.now c.loop-group.group-index c.group-item.result c.loop-group-test.true c.group-item.is)
+
+pub meet-requires-clause-second : goal.meet-requires-clause-second
+meet-requires-clause-second c =
+    group_below (length c.args.rows.now.standing.items) (lists c.args.groups.now) c.loop-group.group-index c.as_slice-in-loop-group.result.now c.requires.below
+    (c.as_slice-in-loop-group.ensures.value ∙ group_at c.args.groups.now c.loop-group.group-index c.group-item.result c.loop-group-test.true c.group-item.is)
+
+pub returns-then-branch-clause-only : goal.returns-then-branch-clause-only
+returns-then-branch-clause-only c = λ answer.
+    let rows = c.args.rows.now in
+    let group = group_at c.args.groups.now c.loop-group.group-index c.group-item.result c.loop-group-test.true c.group-item.is in (
+      c.loop-group.group-index,
+      subst (λ xs. MeetBetween rows.of rows.grammar.now (lists rows.above.items) xs (slice_index_or (lists c.args.groups.now) c.loop-group.group-index []))
+          (c.as_slice.ensures.value ∙ group)
+          (subst (λ xs. MeetBetween rows.of rows.grammar.now (lists rows.above.items) c.as_slice.result.now xs)
+          (c.as_slice-in-loop-group.ensures.value ∙ group) (c.in_ok-meet.ensures.only (search rules))),
+    )
+
+pub loop-group-preserved : goal.loop-group-preserved
+loop-group-preserved c =
+    let rows = c.args.rows.now in
+    let i = c.loop-group.group-index in
+    let group = group_at c.args.groups.now i c.group-item.result c.loop-group-test.true c.group-item.is in record {
+      marks = c.in_ok-meet.ensures.marks;
+      round = ap (λ k. k + 1) c.loop-group.invariant.round;
+      none = none_more i c.loop-group.invariant.none (λ m. true≢false (sym (c.in_ok-meet.ensures.all
+          (subst (λ xs. MeetBetween rows.of rows.grammar.now (lists rows.above.items) xs c.as_slice-in-loop-group.result.now) (sym (c.as_slice.ensures.value ∙ group))
+          (subst (λ xs. MeetBetween rows.of rows.grammar.now (lists rows.above.items) (slice_index_or (lists c.args.groups.now) i []) xs)
+          (sym (c.as_slice-in-loop-group.ensures.value ∙ group)) m))) ∙ c.if-branch.false));
+    }

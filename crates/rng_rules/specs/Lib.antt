@@ -1,0 +1,10 @@
+pub mod Kinds
+pub mod Facts
+pub mod FactsOver
+pub mod Broken
+pub mod Restricted
+pub mod NamesMeetReach
+pub mod NamesMeetRows
+pub mod NamesMeetSides
+pub mod NamesMeetLabels
+pub mod NamesMeetSearch

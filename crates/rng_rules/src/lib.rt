@@ -1,0 +1,22 @@
+//! The restrictions on schemas: section 7 of the specification, judged over a simple grammar.
+//!
+//! `restrict` answers `Ok` exactly where the start and the bodies of the listed elements break none of the clauses
+//! S18 to S27, and else the least clause that is broken. Only want of memory keeps its answer back.
+#![tactic(auto)]
+
+mod broken;
+mod content;
+mod facts;
+mod held;
+mod kind;
+mod names_meet;
+mod names_meet_groups;
+mod names_meet_labels;
+mod names_meet_reach;
+mod names_meet_rows;
+mod names_meet_search;
+mod names_meet_sides;
+mod restrictions;
+mod wildcard;
+
+pub use restrictions::restrict;

@@ -1,0 +1,99 @@
+// The search for rows whose names meet.
+ghost use Rattle.std.specs.Prelude.{◌≡◌, ◌<◌, ◌+◌, ◌∷◌, [], ◌↔◌, ℕ, length, map, slice_index_or, Contains, IfOk, OnOk, IsTrue, IsFalse};
+ghost use Rattle.rng_model.specs.Names.{Overlap};
+ghost use Rattle.rng_model.specs.View.{class_of};
+ghost use Rattle.rng_model.specs.declared.name.NameClass.{NameClass};
+ghost use Rattle.rng_names.specs.PlainNames.{IsPlain};
+ghost use Rattle.rng_rules.specs.NamesMeetLabels.{label_of};
+ghost use Rattle.rng_rules.specs.NamesMeetReach.{AreBelow, lists};
+ghost use Rattle.rng_rules.specs.NamesMeetSearch.{Meeting};
+ghost use Rattle.rng_rules.specs.NamesMeetSides.{AreMarks, AreRows, MeetBetween};
+
+use crate::names_meet_labels::{Label, overlapping};
+use crate::names_meet_sides::{Marks, Rows};
+use rng_model::{NameClass, OutOfMemory};
+use std::alloc::Global;
+
+/// Whether two rows of one group stand on the two sides of a row. Takes time in proportion to what each group reaches.
+pub(crate) fn groups_meet(
+    alloc: Global,
+    rows: &Rows<'_>,
+    groups: &[Vec<usize>],
+) -> Result<bool, OutOfMemory>
+    requires rows { AreRows rows.now }
+    requires below { AreBelow (length rows.now.standing.items) (lists groups.now) }
+    ensures only { IfOk result (λ yes. IsTrue yes → (k : ℕ) × MeetBetween rows.now.of rows.now.grammar.now (lists rows.now.above.items)
+        (slice_index_or (lists groups.now) k []) (slice_index_or (lists groups.now) k [])) }
+    ensures none { IfOk result (λ yes. IsFalse yes → (k : ℕ) → k < length groups.now → ¬ (MeetBetween rows.now.of rows.now.grammar.now
+        (lists rows.now.above.items) (slice_index_or (lists groups.now) k []) (slice_index_or (lists groups.now) k []))) }
+{
+    let mut marks = rows.marks(alloc)?;
+    let mut round = 1;
+    for group in groups {
+        if rows.meet(alloc, &mut marks, round, group.as_slice(), group.as_slice())? {
+            return Ok(true);
+        }
+        round += 1;
+    }
+    Ok(false)
+}
+
+/// Whether two rows stand on the two sides of a row, of which one has a class that is no name, and both have a name in
+/// common. Takes, for each class that is no name, one `overlap` for each other, and time in proportion to what is reached.
+pub(crate) fn others_meet(
+    alloc: Global,
+    rows: &Rows<'_>,
+    labels: &[Label<'_>],
+) -> Result<bool, OutOfMemory>
+    requires rows { AreRows rows.now }
+    requires below { (row : ℕ) (c : NameClass) → Contains (map label_of labels.now) (row, c) → row < length rows.now.standing.items }
+    ensures only { IfOk result (λ yes. IsTrue yes → Meeting rows.now.of rows.now.grammar.now (lists rows.now.above.items) (map label_of labels.now)) }
+    ensures none { IfOk result (λ yes. IsFalse yes → (m : Meeting rows.now.of rows.now.grammar.now (lists rows.now.above.items) (map label_of labels.now))
+        → IsPlain m.first.1) }
+{
+    let mut marks = rows.marks(alloc)?;
+    let mut round = 1;
+    for label in labels {
+        if one_meets(alloc, rows, &mut marks, round, labels, *label)? {
+            return Ok(true);
+        }
+        round += 1;
+    }
+    Ok(false)
+}
+
+/// Whether this row, if its class is no name, stands with another one on the two sides of a row.
+fn one_meets(
+    alloc: Global,
+    rows: &Rows<'_>,
+    marks: &mut Marks,
+    round: usize,
+    labels: &[Label<'_>],
+    label: Label<'_>,
+) -> Result<bool, OutOfMemory>
+    requires rows { AreRows rows.now }
+    requires below { (row : ℕ) (c : NameClass) → Contains (map label_of labels.now) (row, c) → row < length rows.now.standing.items }
+    requires there { Contains (map label_of labels.now) (label_of label) }
+    requires marks { AreMarks (length rows.now.standing.items) round marks.old }
+    ensures marks { OnOk result (AreMarks (length rows.now.standing.items) (round + 1) marks.new) }
+    ensures only { IfOk result (λ yes. IsTrue yes → Meeting rows.now.of rows.now.grammar.now (lists rows.now.above.items) (map label_of labels.now)) }
+    ensures none { IfOk result (λ yes. IsFalse yes → (m : Meeting rows.now.of rows.now.grammar.now (lists rows.now.above.items) (map label_of labels.now))
+        → m.first ≡ label_of label.entry → IsPlain m.first.1) }
+{
+    if is_name(label.class) {
+        return Ok(false);
+    }
+    let others = overlapping(alloc, labels, label.class)?;
+    let alone = [label.row];
+    rows.meet(alloc, marks, round, alone.as_slice(), others.as_slice())
+}
+
+/// Whether the class is a name.
+fn is_name(class: &NameClass) -> bool
+    ensures { IsTrue result ↔ IsPlain class.now }
+{
+    match class {
+        NameClass::Name(_) => true,
+        _ => false,
+    }
+}

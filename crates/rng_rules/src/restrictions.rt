@@ -1,0 +1,48 @@
+// The restrictions, judged.
+ghost use Rattle.std.specs.Prelude.{MatchOption, IfErr, IfOk, OnOk};
+ghost use Rattle.rng_model.specs.Restrictions.{IsLeastRestriction};
+ghost use Rattle.rng_model.specs.Table.{grammar_of};
+ghost use Rattle.rng_rules.specs.Restricted.{IsRestricted, IsRestrictionFault};
+
+use crate::broken::broken_in;
+use crate::names_meet::{attribute_names_meet, element_names_meet};
+use rng_model::{OutOfMemory, SchemaFault, SimpleGrammar};
+use std::alloc::Global;
+
+/// Whether a simple grammar keeps the restrictions of RELAX NG Specification, section 7: clauses S18 to S27.
+///
+/// Judged are the start and the body of each listed element, whether or not a ref leads to it, and nothing else that
+/// the tables hold. An error is the least clause that is broken, or want of memory. Each pattern of the table is looked
+/// at a fixed number of times.
+pub fn restrict(alloc: Global, grammar: &SimpleGrammar) -> Result<(), SchemaFault>
+    ensures kept { OnOk result (IsRestricted (grammar_of grammar.now)) }
+    ensures broken { IfErr result (IsRestrictionFault (grammar_of grammar.now)) }
+{
+    match first_broken(alloc, grammar)? {
+        Some(clause) => Err(SchemaFault::Clause(clause)),
+        None => Ok(()),
+    }
+}
+
+/// The least clause that is broken.
+fn first_broken(alloc: Global, grammar: &SimpleGrammar) -> Result<Option<u8>, OutOfMemory>
+    ensures { IfOk result (λ found. MatchOption found (IsRestricted (grammar_of grammar.now)) (IsLeastRestriction (grammar_of grammar.now))) }
+{
+    let broken = broken_in(alloc, grammar)?;
+    if let Some(clause) = broken.first_before_names() {
+        return Ok(Some(clause));
+    }
+    if attribute_names_meet(alloc, grammar)? {
+        return Ok(Some(24));
+    }
+    if broken.wildcard {
+        return Ok(Some(25));
+    }
+    if element_names_meet(alloc, grammar)? {
+        return Ok(Some(26));
+    }
+    if broken.text {
+        return Ok(Some(27));
+    }
+    Ok(None)
+}

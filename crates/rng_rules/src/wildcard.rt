@@ -1,0 +1,25 @@
+// Wildcards in name classes.
+ghost use Rattle.std.specs.Prelude.{◌≡◌};
+ghost use Rattle.rng_model.specs.View.{class_of};
+ghost use Rattle.rng_rules.specs.Facts as facts;
+
+use rng_model::NameClass;
+
+/// Whether `*` or `p:*` is written in the class, with an except or without. A choice of no members is seen as `* - *`.
+pub fn has_wildcard(class: &NameClass) -> bool
+    ensures { result ≡ facts.has_wildcard (class_of class.now) }
+{
+    match class {
+        NameClass::Any | NameClass::AnyExcept(_) | NameClass::Ns(_) | NameClass::NsExcept(_, _) =>
+            true,
+        NameClass::Name(_) => false,
+        NameClass::Choice(members) => {
+            'members: for member in members {
+                if has_wildcard(member) {
+                    return true;
+                }
+            }
+            members.is_empty()
+        }
+    }
+}

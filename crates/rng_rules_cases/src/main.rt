@@ -1,0 +1,33 @@
+//! Prints which restriction the grammar in each row of `cases.txt` breaks first, a line a row.
+//!
+//! A row has how many elements a grammar has, and its tables, as `written_tables` reads them.
+#![tactic(auto)]
+
+mod grammar_builder;
+mod written_tables;
+
+use case_rows::rows;
+use rng_model::SchemaFault;
+use rng_rules::restrict;
+use std::io;
+use written_tables::read_grammar;
+
+fn main(rt: HostRuntime) -> io::Result<()> {
+    for row in rows(&rt, "cases.txt")? {
+        print_answer(&rt, row.text(0)?, row.text(1)?)?;
+    }
+    Ok(())
+}
+
+/// Prints what is answered of a grammar.
+fn print_answer(rt: &(impl Print + AllocGlobal), count: &str, tables: &str) -> io::Result<()> {
+    let Some(grammar) = read_grammar(rt.alloc(), count, tables) else {
+        return println!(rt; "no grammar");
+    };
+    match restrict(rt.alloc(), &grammar) {
+        Ok(()) => println!(rt; "ok"),
+        Err(SchemaFault::File { clause, name }) => println!(rt; "S{clause} {name}"),
+        Err(SchemaFault::Clause(clause)) => println!(rt; "S{clause}"),
+        Err(SchemaFault::Memory) => println!(rt; "out of memory"),
+    }
+}

@@ -1,0 +1,146 @@
+// Grammars from rows.
+use crate::grammar_builder::GrammarBuilder;
+use rng_model::{Datatype, ElementId, Name, NameClass, PatternId, Simple, SimpleGrammar};
+use std::alloc::{AllocError, Global};
+
+/// The grammar with this many elements whose tables are written so: its patterns and elements, parted by `; `.
+///
+/// The patterns are `notAllowed`, `empty`, `text`, `data`, `value`, `eN` for a ref to the element N, `@CLASS N`, `list N`,
+/// `except N`, `N+`, `N,M`, `N&M` and `N|M`, and `attributes K` for K lists of 500 attributes of different names with the pattern 0
+/// each, joined by groups. An element is `CLASS N`, its body N; `start N` is the start.
+pub fn read_grammar(alloc: Global, count: &str, tables: &str) -> Option<SimpleGrammar> {
+    let mut builder = GrammarBuilder::new(alloc, number_of(count));
+    let mut start = PatternId(0);
+    for entry in tables.split("; ") {
+        let (word, of) = entry.split_once(' ').unwrap_or((entry, ""));
+        let number = number_of(of);
+        match word {
+            "start" => start = PatternId(number),
+            "attributes" => add_attributes(alloc, &mut builder, number),
+            _ => add_entry(alloc, &mut builder, word, of, PatternId(number)),
+        }
+    }
+    builder.finish(start)
+}
+
+/// Adds a pattern or an element.
+fn add_entry(alloc: Global, builder: &mut GrammarBuilder, word: &str, of: &str, body: PatternId) {
+    match word {
+        "list" => builder.add(Simple::List(body)),
+        "except" => builder.add(Simple::DataExcept(some_datatype(alloc), body)),
+        _ => match (word.strip_prefix('@'), class_of(alloc, word)) {
+            (Some(class), _) => add_attribute(alloc, builder, class, body),
+            (None, Ok(class)) if !of.is_empty() => builder.list(class, body),
+            _ => builder.add(pattern_of(alloc, word)),
+        },
+    }
+}
+
+/// Adds an attribute.
+fn add_attribute(alloc: Global, builder: &mut GrammarBuilder, class: &str, body: PatternId) {
+    match class_of(alloc, class) {
+        Ok(class) => builder.add(Simple::Attribute(class, body)),
+        Err(AllocError) => builder.refuse(),
+    }
+}
+
+/// A pattern that is one word.
+fn pattern_of(alloc: Global, word: &str) -> Simple {
+    if let Some((first, second)) = word.split_once(',') {
+        return Simple::Group(place(first), place(second));
+    }
+    if let Some((first, second)) = word.split_once('&') {
+        return Simple::Interleave(place(first), place(second));
+    }
+    if let Some((first, second)) = word.split_once('|') {
+        return Simple::Choice(place(first), place(second));
+    }
+    if let Some(body) = word.strip_suffix('+') {
+        return Simple::OneOrMore(place(body));
+    }
+    match word {
+        "empty" => Simple::Empty,
+        "text" => Simple::Text,
+        "notAllowed" => Simple::NotAllowed,
+        "data" => Simple::Data(some_datatype(alloc)),
+        "value" => some_value(alloc),
+        _ => Simple::Element(ElementId(number_of(word.strip_prefix('e').unwrap_or("")))),
+    }
+}
+
+fn place(digits: &str) -> PatternId {
+    PatternId(number_of(digits))
+}
+
+fn number_of(digits: &str) -> usize {
+    digits.parse::<usize>().unwrap_or(0)
+}
+
+/// A datatype with empty names.
+fn some_datatype(alloc: Global) -> Datatype {
+    Datatype {
+        library: String::new(alloc),
+        name: String::new(alloc),
+        parameters: Vec::new(alloc),
+    }
+}
+
+/// The empty text of a datatype with empty names.
+fn some_value(alloc: Global) -> Simple {
+    Simple::Value {
+        library: String::new(alloc),
+        name: String::new(alloc),
+        text: String::new(alloc),
+    }
+}
+
+/// A name class: `*`, `NS:*`, a name, `*-NAME` for every name but one, or `A|B` for two classes.
+fn class_of(alloc: Global, written: &str) -> Result<NameClass, AllocError> {
+    if let Some((first, second)) = written.split_once('|') {
+        let members = vec![in alloc; one_class(alloc, first)?, one_class(alloc, second)?]?;
+        return Ok(NameClass::Choice(members));
+    }
+    one_class(alloc, written)
+}
+
+/// A name class that is no choice.
+fn one_class(alloc: Global, written: &str) -> Result<NameClass, AllocError> {
+    if let Some(name) = written.strip_prefix("*-") {
+        return Ok(NameClass::AnyExcept(Box::new(alloc, named(alloc, name)?)?));
+    }
+    match written.strip_suffix(":*") {
+        Some(ns) => Ok(NameClass::Ns(String::from_str(alloc, ns)?)),
+        None if written == "*" => Ok(NameClass::Any),
+        None => named(alloc, written),
+    }
+}
+
+/// The class of a name without a namespace.
+fn named(alloc: Global, local: &str) -> Result<NameClass, AllocError> {
+    Ok(NameClass::Name(Name {
+        ns: String::new(alloc),
+        local: String::from_str(alloc, local)?,
+    }))
+}
+
+/// Adds lists of attributes, each joined by a group with what stands before it.
+fn add_attributes(alloc: Global, builder: &mut GrammarBuilder, lists: usize) {
+    for list in 0..lists {
+        let before = builder.last();
+        add_list(alloc, builder, list);
+        builder.add(Simple::Group(before, builder.last()));
+    }
+}
+
+/// Adds a list of attributes of different names, joined by groups.
+fn add_list(alloc: Global, builder: &mut GrammarBuilder, list: usize) {
+    builder.add(Simple::Empty);
+    for number in 0..500 {
+        let before = builder.last();
+        match format!(in alloc; "a{list}x{number}") {
+            Ok(name) => add_attribute(alloc, builder, name.as_str(), PatternId(0)),
+            Err(_) => builder.refuse(),
+        }
+        builder.add(Simple::Group(before, builder.last()));
+    }
+}

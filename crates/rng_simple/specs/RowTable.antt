@@ -1,0 +1,53 @@
+-- What the table of rows holds, and how it grows.
+use Rattle.std.specs.Prelude.{◌≡◌, ℕ, ◌<◌, ◌≤◌, List, length, map}
+use Rattle.rng_model.specs.Patterns.{without_parameters}
+use Rattle.rng_model.specs.Tree.{Datatype, Simple}
+use Rattle.rng_model.specs.Types.{datatype_of}
+use Rattle.rng_model.specs.View.{class_of}
+use Rattle.rng_graph.specs.InTwos.{nested}
+use Rattle.rng_simple.specs.RowIndex.{IsIndex}
+use Rattle.rng_simple.specs.Rows.{Labels, tree_at, AreRows}
+use Rattle.rng_simple.specs.SimpleOf as sorts
+use Rattle.rng_simple.specs.declared.row_table.RowTable.{RowTable}
+use Rattle.rng_simple.specs.declared.row_table.ValueLabel.{ValueLabel}
+use Rattle.rng_simple.specs.declared.row_table.Sort.{Sort}
+use Rattle.rng_simple.specs.declared.row_table.Sort.TheVariants as seen
+
+abbrev pub sort_seen : Sort → sorts.Sort
+sort_seen seen.NotAllowed = sorts.nothing
+sort_seen seen.Empty = sorts.blank
+sort_seen seen.Proper = sorts.proper
+
+abbrev pub value_of : ValueLabel → Datatype × List ℕ
+value_of v = (without_parameters v.library.now v.name.now, v.text.now)
+
+abbrev pub labels_of : RowTable → Labels
+labels_of t = record {
+  classes = map (λ c. nested (class_of c.now)) t.classes.items;
+  datatypes = map (λ d. datatype_of d.now) t.datatypes.items;
+  values = map value_of t.values.items;
+}
+
+abbrev pub row_count : RowTable → ℕ
+row_count t = length t.rows.items
+
+-- the tree of a row
+abbrev pub tree_of : RowTable → ℕ → Simple ℕ
+tree_of t = tree_at (labels_of t) t.rows.items
+
+-- the rows have their numbers in the index
+pub record IsRowTable (t : RowTable) : Type 0 where
+  pub index : IsIndex t.rows.items t.numbers
+  pub rows : AreRows (labels_of t) t.rows.items
+
+-- rows have been added
+pub record IsGrown (old new : RowTable) : Type 0 where
+  pub table : IsRowTable new
+  pub long : row_count old ≤ row_count new
+  pub stays : (i : ℕ) → i < row_count old → tree_of new i ≡ tree_of old i
+
+-- labels have been added
+pub record IsRelabelled (old new : RowTable) : Type 0 where
+  pub table : IsRowTable new
+  pub count : row_count new ≡ row_count old
+  pub same : (i : ℕ) → tree_of new i ≡ tree_of old i

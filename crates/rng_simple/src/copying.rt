@@ -1,0 +1,151 @@
+// Rows, with new numbers, in the tables of a grammar.
+ghost use Rattle.std.specs.Prelude.{◌≡◌, ◌<◌, ◌^◌, ◌++◌, ℕ, length, slice_get, true, IfOk, OnOk, Some};
+ghost use Rattle.rng_model.specs.Table.{IsPaired};
+ghost use Rattle.rng_model.specs.Types.{datatype_of};
+ghost use Rattle.rng_model.specs.View.{class_of};
+ghost use Rattle.rng_simple.specs.Copying.{AllChildren, AreCopied, IsRowCopy, own_elements};
+ghost use Rattle.rng_simple.specs.RowTable.{IsRowTable, labels_of, row_count};
+ghost use Rattle.rng_simple.specs.Rows.{IsLabelled, class_at, datatype_at};
+
+use crate::name_class::nested;
+use crate::row_table::RowTable;
+use crate::rows::Row;
+use crate::simple_parts::row_of;
+use rng_model::{Datatype, ElementId, NameClass, PatternId, Simple};
+use std::alloc::{AllocError, Global};
+
+/// A row as a pattern: its children by the places that they have, its element by its place in the list, where it is put.
+pub fn copied_row(
+    alloc: Global,
+    table: &RowTable<'_>,
+    places: &[usize],
+    listed: &mut Vec<usize>,
+    row: Row,
+) -> Result<Simple, AllocError>
+    requires { IsLabelled (labels_of table.now) row }
+    ensures listed { OnOk result (listed.new.items ≡ listed.old.items ++ own_elements row) }
+    ensures copy { IfOk result (IsRowCopy (labels_of table.now) places.now listed.old.items row) }
+{
+    match row {
+        Row::NotAllowed => Ok(Simple::NotAllowed),
+        Row::Empty => Ok(Simple::Empty),
+        Row::Text => Ok(Simple::Text),
+        Row::Element(element) => {
+            let id = ElementId(listed.len());
+            listed.push(element)?;
+            Ok(Simple::Element(id))
+        }
+        Row::Attribute(class, body) => {
+            let class = class_copy(alloc, table, class)?;
+            Ok(Simple::Attribute(class, PatternId(row_of(places, body))))
+        }
+        Row::List(body) => Ok(Simple::List(PatternId(row_of(places, body)))),
+        Row::Data(datatype) => Ok(Simple::Data(datatype_copy(alloc, table, datatype)?)),
+        Row::DataExcept(datatype, except) => {
+            let datatype = datatype_copy(alloc, table, datatype)?;
+            Ok(Simple::DataExcept(datatype, PatternId(row_of(places, except))))
+        }
+        Row::Value(value) => {
+            let value = table.values[value];
+            Ok(Simple::Value {
+                library: String::from_str(alloc, value.library)?,
+                name: String::from_str(alloc, value.name)?,
+                text: String::from_str(alloc, value.text)?,
+            })
+        }
+        Row::OneOrMore(body) => Ok(Simple::OneOrMore(PatternId(row_of(places, body)))),
+        Row::Choice(a, b) => Ok(Simple::Choice(
+            PatternId(row_of(places, a)),
+            PatternId(row_of(places, b)),
+        )),
+        Row::Group(a, b) => Ok(Simple::Group(
+            PatternId(row_of(places, a)),
+            PatternId(row_of(places, b)),
+        )),
+        Row::Interleave(a, b) => Ok(Simple::Interleave(
+            PatternId(row_of(places, a)),
+            PatternId(row_of(places, b)),
+        )),
+    }
+}
+
+/// A copy of a name class, in simple form.
+fn class_copy(alloc: Global, table: &RowTable<'_>, class: usize) -> Result<NameClass, AllocError>
+    requires { class < length (labels_of table.now).classes }
+    ensures copy { IfOk result (λ copy. class_of copy ≡ class_at (labels_of table.now) class) }
+    ensures paired { IfOk result IsPaired }
+{
+    nested(alloc, table.classes[class])
+}
+
+/// A copy of a datatype.
+fn datatype_copy(
+    alloc: Global,
+    table: &RowTable<'_>,
+    datatype: usize,
+) -> Result<Datatype, AllocError>
+    requires { datatype < length (labels_of table.now).datatypes }
+    ensures { IfOk result (λ copy. datatype_of copy ≡ datatype_at (labels_of table.now) datatype) }
+{
+    same_datatype(alloc, table.datatypes[datatype])
+}
+
+fn same_datatype(alloc: Global, datatype: &Datatype) -> Result<Datatype, AllocError>
+    ensures { IfOk result (λ copy. datatype_of copy ≡ datatype_of datatype.now) }
+{
+    let mut parameters = Vec::new(alloc);
+    'parameters: for (name, value) in &datatype.parameters {
+        let name = String::from_str(alloc, name.as_str())?;
+        let value = String::from_str(alloc, value.as_str())?;
+        parameters.push((name, value))?;
+    }
+    Ok(Datatype {
+        library: String::from_str(alloc, datatype.library.as_str())?,
+        name: String::from_str(alloc, datatype.name.as_str())?,
+        parameters,
+    })
+}
+
+/// Rows as the patterns of a grammar.
+#[derive(Drop)]
+pub struct CopiedRows {
+    /// For each row the place of its pattern, if it is reached.
+    pub places: Vec<usize>,
+    pub patterns: Vec<Simple>,
+    /// The elements that are reached, by their numbers in the graph.
+    pub listed: Vec<usize>,
+}
+
+/// The rows that are reached, in their order.
+pub fn copied_rows(
+    alloc: Global,
+    table: &RowTable<'_>,
+    reached: &[bool],
+) -> Result<CopiedRows, AllocError>
+    requires table { IsRowTable table.now }
+    requires long { length reached.now ≡ row_count table.now }
+    requires closed { (i : ℕ) (r : Row) → slice_get table.now.rows.items i ≡ Some r → slice_get reached.now i ≡ Some true →
+        AllChildren (λ a. slice_get reached.now a ≡ Some true) r }
+    ensures copied { IfOk result (λ copied. AreCopied (labels_of table.now) table.now.rows.items reached.now (row_count table.now)
+        copied.places.items copied.patterns.items copied.listed.items) }
+    ensures few { IfOk result (λ copied. length copied.patterns.items < 2 ^ 64) }
+{
+    let mut places = Vec::new(alloc);
+    let mut patterns = Vec::new(alloc);
+    let mut listed = Vec::new(alloc);
+    'rows: for i in 0..table.rows.len() {
+        if reached[i] {
+            let row = table.rows[i];
+            let pattern = copied_row(alloc, table, places.as_slice(), &mut listed, row)?;
+            places.push(patterns.len())?;
+            patterns.push(pattern)?;
+        } else {
+            places.push(0)?;
+        }
+    }
+    Ok(CopiedRows {
+        places,
+        patterns,
+        listed,
+    })
+}

@@ -1,0 +1,149 @@
+// A table of patterns in simple form, in which equal rows have one number.
+ghost use Rattle.std.specs.Prelude.{◌≡◌, ◌<◌, length, IfOk, OnOk};
+ghost use Rattle.rng_model.specs.Patterns.{without_parameters};
+ghost use Rattle.rng_model.specs.Tree.{IsSimpleBody};
+ghost use Rattle.rng_model.specs.Types.{datatype_of};
+ghost use Rattle.rng_model.specs.View.{class_of};
+ghost use Rattle.rng_graph.specs.InTwos.{nested};
+ghost use Rattle.rng_simple.specs.Rows.{
+  AreChildrenBelow,
+  IsLabelled,
+  class_at,
+  datatype_at,
+  row_tree,
+  value_at,
+};
+ghost use Rattle.rng_simple.specs.RowTable.{
+  IsGrown,
+  IsRelabelled,
+  IsRowTable,
+  labels_of,
+  row_count,
+  sort_seen,
+  tree_of,
+};
+ghost use Rattle.rng_simple.specs.SimpleOf.{sort_of};
+
+use crate::rows::{Row, number};
+use rng_model::{Datatype, NameClass};
+use std::alloc::{AllocError, Global};
+use std::collections::HashMap;
+
+/// The number of the row that is empty.
+pub const EMPTY: usize = 0;
+
+/// A text of a datatype: the uri of its library, and its name there.
+#[derive(Clone, Copy)]
+pub struct ValueLabel<'a> {
+    pub library: &'a str,
+    pub name: &'a str,
+    pub text: &'a str,
+}
+
+/// Patterns in simple form, of which the first is `empty`. No row stands twice, and children stand before their parents.
+#[derive(Drop)]
+pub struct RowTable<'a> {
+    pub rows: Vec<Row>,
+    pub numbers: HashMap<Row, usize>,
+    pub classes: Vec<&'a NameClass>,
+    pub datatypes: Vec<&'a Datatype>,
+    pub values: Vec<ValueLabel<'a>>,
+}
+
+/// What the rules of simplification ask of a side.
+#[derive(Clone, Copy)]
+pub enum Sort {
+    NotAllowed,
+    Empty,
+    Proper,
+}
+
+impl<'a> RowTable<'a> {
+    /// The table of `empty` alone.
+    pub fn new(alloc: Global) -> Result<RowTable<'a>, AllocError>
+        ensures { IfOk result IsRowTable }
+    {
+        let mut rows = Vec::new(alloc);
+        let mut numbers = HashMap::new(alloc);
+        number(&mut rows, &mut numbers, Row::Empty)?;
+        Ok(RowTable {
+            rows,
+            numbers,
+            classes: Vec::new(alloc),
+            datatypes: Vec::new(alloc),
+            values: Vec::new(alloc),
+        })
+    }
+
+    /// The number of a row whose children and labels are there.
+    pub fn put(&mut self, row: Row) -> Result<usize, AllocError>
+        requires table { IsRowTable self.old }
+        requires below { AreChildrenBelow (row_count self.old) row }
+        requires labelled { IsLabelled (labels_of self.old) row }
+        requires simple { IsSimpleBody (row_tree (labels_of self.old) (tree_of self.old) row) }
+        ensures grown { OnOk result (IsGrown self.old self.new) }
+        ensures there { IfOk result (λ id. id < row_count self.new) }
+        ensures tree { IfOk result (λ id. tree_of self.new id ≡ row_tree (labels_of self.old) (tree_of self.old) row) }
+    {
+        let id = number(&mut self.rows, &mut self.numbers, row)?;
+        Ok(id)
+    }
+
+    /// What a row is as a side.
+    pub fn sort(&self, id: usize) -> Sort
+        requires table { IsRowTable self.now }
+        requires there { id < row_count self.now }
+        ensures { sort_seen result ≡ sort_of (tree_of self.now id) }
+    {
+        match self.rows[id] {
+            Row::NotAllowed => Sort::NotAllowed,
+            Row::Empty => Sort::Empty,
+            _ => Sort::Proper,
+        }
+    }
+
+    /// A number for a name class.
+    pub fn class_label(&mut self, class: &'a NameClass) -> Result<usize, AllocError>
+        requires table { IsRowTable self.old }
+        ensures table { OnOk result (IsRelabelled self.old self.new) }
+        ensures there { IfOk result (λ c. c < length (labels_of self.new).classes) }
+        ensures is { IfOk result (λ c. class_at (labels_of self.new) c ≡ nested (class_of class.now)) }
+    {
+        let label = self.classes.len();
+        self.classes.push(class)?;
+        Ok(label)
+    }
+
+    /// A number for a datatype.
+    pub fn datatype_label(&mut self, datatype: &'a Datatype) -> Result<usize, AllocError>
+        requires table { IsRowTable self.old }
+        ensures table { OnOk result (IsRelabelled self.old self.new) }
+        ensures there { IfOk result (λ d. d < length (labels_of self.new).datatypes) }
+        ensures is { IfOk result (λ d. datatype_at (labels_of self.new) d ≡ datatype_of datatype.now) }
+    {
+        let label = self.datatypes.len();
+        self.datatypes.push(datatype)?;
+        Ok(label)
+    }
+
+    /// A number for a value.
+    pub fn value_label(
+        &mut self,
+        library: &'a str,
+        name: &'a str,
+        text: &'a str,
+    ) -> Result<usize, AllocError>
+        requires table { IsRowTable self.old }
+        ensures table { OnOk result (IsRelabelled self.old self.new) }
+        ensures there { IfOk result (λ v. v < length (labels_of self.new).values) }
+        ensures is { IfOk result (λ v. value_at (labels_of self.new) v ≡ (without_parameters library.now name.now, text.now)) }
+    {
+        let label = self.values.len();
+        self.values.push(ValueLabel {
+            library,
+            name,
+            text,
+        })?;
+        Ok(label)
+    }
+}

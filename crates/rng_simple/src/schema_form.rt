@@ -1,0 +1,104 @@
+// The simple form of a graph.
+ghost use Rattle.std.specs.Prelude.{◌≡◌, ◌<◌, ◌^◌, length, take, slice_get, All, IfOk, Some};
+ghost use Rattle.rng_model.specs.Names as names;
+ghost use Rattle.rng_model.specs.Table.{IsInSimpleSyntax, IsPaired, grammar_of};
+ghost use Rattle.rng_model.specs.View.{class_of};
+ghost use Rattle.rng_model.specs.Schema.{Schema};
+ghost use Rattle.rng_model.specs.SchemaForm.{IsOnlySimpleGrammarOf, IsSimpleGrammarOf};
+ghost use Rattle.rng_graph.specs.ExpansionOrder.{IsGraphOfSchema, IsWholeOrder};
+ghost use Rattle.rng_graph.specs.Graph.{IsOrderBy, Mentions};
+ghost use Rattle.rng_graph.specs.GraphView.{classes_of, graph_of};
+ghost use Rattle.rng_graph.specs.InTwos.{nested as nested_tree};
+ghost use Rattle.rng_simple.specs.GrammarElements.{AreElementCopies};
+ghost use Rattle.rng_simple.specs.SimplifiedSchema.{AreAllUsed, IsMadeTable};
+
+use crate::copying::copied_rows;
+use crate::name_class::nested;
+use crate::reaching::reached_rows;
+use crate::row_table::RowTable;
+use crate::simple_parts::row_of;
+use crate::simple_rows::{content_rows, definition_rows};
+use rng_graph::Graph;
+use rng_model::{NameClass, OutOfMemory, PatternId, SimpleGrammar};
+use std::alloc::{AllocError, Global};
+
+/// The simple form of the schema whose graph this is, by the rules of sections 4.12 to 4.21 of the RELAX NG Specification. The
+/// order has all definitions, each after those that its body mentions outside elements.
+///
+/// The answer is in the simple syntax of section 5, and it is the only simple form of the schema, up to the numbers of its
+/// elements. Each definition and each element is simplified once, and elements that the start does not reach are not in it. The
+/// only fault is want of memory. Takes time and memory in proportion to the graph, and recurses as deep as a single body
+/// nests.
+pub fn simple_grammar(
+    alloc: Global,
+    graph: &Graph<'_>,
+    order: &[usize],
+) -> Result<SimpleGrammar, OutOfMemory>
+    requires { IsWholeOrder (graph_of graph.now) order.now }
+    ensures syntax { IfOk result (λ h. IsInSimpleSyntax (grammar_of h)) }
+    ensures used { IfOk result AreAllUsed }
+    ensures few { IfOk result (λ h. length h.patterns < 2 ^ 64) }
+    ensures simple_form { IfOk result (λ h. (s : Schema) → IsGraphOfSchema s graph.now → IsSimpleGrammarOf s (grammar_of h)) }
+    ensures only { IfOk result (λ h. (s : Schema) → IsGraphOfSchema s graph.now → IsOnlySimpleGrammarOf s (grammar_of h)) }
+{
+    Ok(made_grammar(alloc, graph, order)?)
+}
+
+/// The grammar of a graph whose definitions are taken in this order.
+fn made_grammar(
+    alloc: Global,
+    graph: &Graph<'_>,
+    order: &[usize],
+) -> Result<SimpleGrammar, AllocError>
+    requires order { IsOrderBy (Mentions (graph_of graph.now)) order.now }
+    requires within { All (λ j. j < length (graph_of graph.now).bodies) order.now }
+    ensures { IfOk result (IsMadeTable (classes_of graph.now) (graph_of graph.now) order.now) }
+{
+    let mut table = RowTable::new(alloc)?;
+    let definitions = definition_rows(alloc, &mut table, graph, order)?;
+    let contents = content_rows(alloc, &mut table, graph, definitions.as_slice())?;
+    let first = row_of(definitions.as_slice(), 0);
+    let reached = reached_rows(alloc, &table, contents.as_slice(), first)?;
+    let copied = copied_rows(alloc, &table, reached.as_slice())?;
+    let places = copied.places.as_slice();
+    let elements = grammar_elements(
+        alloc,
+        graph,
+        contents.as_slice(),
+        places,
+        copied.listed.as_slice(),
+    )?;
+    let start = PatternId(row_of(places, first));
+    Ok(SimpleGrammar::new(copied.patterns, elements, start))
+}
+
+/// The elements that are listed, the rows of the bodies being `contents`, and their places `places`.
+fn grammar_elements(
+    alloc: Global,
+    graph: &Graph<'_>,
+    contents: &[usize],
+    places: &[usize],
+    listed: &[usize],
+) -> Result<Vec<(NameClass, PatternId)>, AllocError>
+    ensures { IfOk result (λ elements. AreElementCopies (classes_of graph.now) contents.now places.now listed.now elements.items) }
+{
+    let mut elements = Vec::new(alloc);
+    'listed: for element in listed {
+        let class = element_class(alloc, graph, *element)?;
+        let body = PatternId(row_of(places, row_of(contents, *element)));
+        elements.push((class, body))?;
+    }
+    Ok(elements)
+}
+
+/// The name class of an element in simple form. A number past the graph's elements, which no body of a graph has, has any
+/// name.
+fn element_class(alloc: Global, graph: &Graph<'_>, element: usize) -> Result<NameClass, AllocError>
+    ensures class { IfOk result (λ copy. (c : names.NameClass) → slice_get (classes_of graph.now) element ≡ Some c → class_of copy ≡ nested_tree c) }
+    ensures paired { IfOk result IsPaired }
+{
+    match graph.elements.get(element) {
+        Some(element) => nested(alloc, element.class),
+        None => Ok(NameClass::Any),
+    }
+}
