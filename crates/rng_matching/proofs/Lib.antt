@@ -1,0 +1,25 @@
+pub mod Tools
+pub mod Joint
+pub mod Nullable
+pub mod Same
+pub mod Excepts
+pub mod ItemWays
+pub mod AttributeWays
+pub mod Hereditary
+pub mod Texts
+pub mod Attributes
+pub mod Starts
+pub mod DropBlanks
+pub mod PutBlanks
+pub mod States
+pub mod Levels
+pub mod Document
+pub mod Events
+pub mod Restricted
+pub mod PyxDocuments
+pub mod Place
+pub mod Laws
+mod Examples
+pub mod FreeForms
+pub mod Meanings
+pub mod StateMeanings

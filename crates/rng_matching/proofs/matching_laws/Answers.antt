@@ -1,0 +1,18 @@
+use Rattle.rng_matching.proofs.matching_laws.Goals as goal
+use Rattle.rng_matching.proofs.Laws.{accepts_valid_documents, never_is_invalid, unknown_name_is_never, invalid_is_never}
+
+-- src/lib.rt:27:1
+pub returns-clause-accepted : goal.returns-clause-accepted
+returns-clause-accepted c = accepts_valid_documents
+
+-- src/lib.rt:27:1
+pub returns-clause-never : goal.returns-clause-never
+returns-clause-never c = never_is_invalid
+
+-- src/lib.rt:27:1
+pub returns-clause-unknown : goal.returns-clause-unknown
+returns-clause-unknown c = unknown_name_is_never
+
+-- src/lib.rt:27:1
+pub returns-clause-invalid : goal.returns-clause-invalid
+returns-clause-invalid c = invalid_is_never

@@ -1,0 +1,10 @@
+pub mod Reading
+pub mod Taking
+pub mod Restricted
+pub mod Blanks
+pub mod Derivatives
+pub mod Ways
+pub mod States
+pub mod Events
+pub mod Laws
+pub mod Meanings

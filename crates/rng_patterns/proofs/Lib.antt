@@ -1,0 +1,8 @@
+pub mod Trees
+mod EqualPatterns
+mod KnownFacts
+mod Rows
+mod PatternKinds
+pub mod Matching
+pub mod Choices
+pub mod Taking

@@ -1,0 +1,24 @@
+use Rattle.std.proofs.Common.{ap}
+use Rattle.rng_patterns.specs.Reduced.{has_attribute, is_nullable}
+use Rattle.rng_patterns.specs.Trees.{tree_of}
+use Rattle.rng_patterns.proofs.KnownFacts.{all_members, member_more}
+use Rattle.rng_patterns.proofs.pattern_table.PatternTable.facts_of_choice.Goals as goal
+
+pub loop-member-preserved : goal.loop-member-preserved
+loop-member-preserved c = λ t.
+    let f = tree_of t c.args.self.now in
+    let ms = c.args.members.now in
+    let i = c.loop-member.member-index in
+    let kept = c.loop-member.invariant t in
+    record {
+      nullable = member_more (λ m. is_nullable (f m.0)) ms i _ c.loop-member.known.nullable c.facts-facts.result.nullable c.loop-member-test.true kept.nullable
+          (ap (λ (x : _). x.nullable) (c.facts-facts.ensures.exact t));
+      attributes = member_more (λ m. has_attribute (f m.0)) ms i _ c.loop-member.known.attributes c.facts-facts.result.attributes c.loop-member-test.true
+          kept.attributes (ap (λ (x : _). x.attributes) (c.facts-facts.ensures.exact t));
+    }
+
+pub returns : goal.returns
+returns c = λ t.
+    let kept = c.loop-member.invariant t in
+    all_members (tree_of t c.args.self.now) c.args.members.now c.loop-member.member-index c.loop-member.known c.loop-member-test.false kept.nullable
+    kept.attributes

@@ -1,0 +1,42 @@
+use Rattle.std.proofs.Common.{◌≡◌, [], ◌∷◌, length, slice_get, Some, List, subst, sym, ap, ◌∙◌}
+use Rattle.std.proofs.lemmas.List.{length-map}
+use Rattle.rng_patterns.specs.Node.{Node, node_of}
+use Rattle.rng_patterns.specs.PatternTable.{AreExact, ArePartsBelow, IsPatternTable, facts_of, nodes_of}
+use Rattle.rng_patterns.specs.Trees.{tree_of, tree_over}
+use Rattle.rng_patterns.specs.declared.pattern.Pattern.{Pattern}
+use Rattle.rng_patterns.specs.declared.pattern.Facts.{Facts}
+use Rattle.rng_patterns.proofs.Rows.{found_adds, goes_last, new_adds, nodes_more, one_more}
+use Rattle.rng_patterns.proofs.pattern_table.PatternTable.number_of.Goals as goal
+
+pub returns-in-Some-clause-adds : goal.returns-in-Some-clause-adds
+returns-in-Some-clause-adds c =
+    let Found : List Node → Type 0 = λ ns. slice_get ns c.in-Some.number ≡ Some (node_of c.args.pattern) in
+    found_adds c.args.self.now c.in-Some.number (node_of c.args.pattern) (subst IsPatternTable c.self.view_is c.self.invariant.0)
+    (subst Found c.self.view_is c.in-Some.ensures.found)
+
+pub invariant_of-self-2 : goal.invariant_of-self-2
+invariant_of-self-2 c =
+    let rows = c.self.inside.rows.entries in
+    let p = c.args.pattern in
+    let f = c.facts_of-facts.result in
+    let Kept : List (Pattern × Facts) → Type 0 = λ rows. IsPatternTable (nodes_of rows) × AreExact rows in
+    let Below : List Node → Type 0 = λ ns. ArePartsBelow (length ns) (node_of p) in
+    subst Kept (sym (c.in_ok-insert.ensures.entries ∙ goes_last rows p f c.in_default.ensures.none))
+    (one_more rows p f c.self.invariant (subst Below (sym c.self.view_is) c.requires) c.in_default.ensures.none
+    (λ t. c.facts_of-facts.ensures t ∙ ap (λ ns. facts_of (tree_over t (tree_of t ns) (node_of p))) (sym c.self.view_is)))
+
+pub returns-clause-longer : goal.returns-clause-longer
+returns-clause-longer c =
+    let rows = c.self.inside.rows.entries in
+    let p = c.args.pattern in
+    let f = c.facts_of-facts.result in
+    (node_of p ∷ [], nodes_more rows p f (c.in_ok-insert.ensures.entries ∙ goes_last rows p f c.in_default.ensures.none) c.self.view_is)
+
+pub returns-clause-adds : goal.returns-clause-adds
+returns-clause-adds c =
+    let rows = c.self.inside.rows.entries in
+    let p = c.args.pattern in
+    let f = c.facts_of-facts.result in
+    new_adds c.args.self.now _ (node_of p) _
+    (nodes_more rows p f (c.in_ok-insert.ensures.entries ∙ goes_last rows p f c.in_default.ensures.none) c.self.view_is)
+    (c.len-number.ensures.len ∙ sym (length-map rows (λ r. node_of r.0)) ∙ ap length c.self.view_is)

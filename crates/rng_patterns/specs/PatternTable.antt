@@ -1,0 +1,55 @@
+-- What holds of a table of patterns.
+use Rattle.std.specs.Prelude.{◌≡◌, ℕ, ◌<◌, ◌≤◌, ⊤, List, ◌++◌, length, map, slice_get, Some, All}
+use Rattle.std.specs.List.Sorted.{IsStrictlyIncreasing}
+use Rattle.rng_model.specs.Table.{Table}
+use Rattle.rng_model.specs.Tree.{Simple}
+use Rattle.rng_patterns.specs.Node.{Node, node_of}
+use Rattle.rng_patterns.specs.Node as node
+use Rattle.rng_patterns.specs.Reduced.{is_nullable, has_attribute}
+use Rattle.rng_patterns.specs.Trees.{trees, tree_of}
+use Rattle.rng_patterns.specs.declared.pattern.Facts.{Facts}
+use Rattle.rng_patterns.specs.declared.pattern.Pattern.{Pattern}
+
+-- the patterns in the order of their numbers
+abbrev pub nodes_of : List (Pattern × Facts) → List Node
+nodes_of rows = map (λ r. node_of r.0) rows
+
+-- what the pattern is made of stands below n; a choice has two members or more, by rising numbers
+abbrev pub ArePartsBelow : ℕ → Node → Type 0
+ArePartsBelow n node.not_allowed = ⊤
+ArePartsBelow n node.empty = ⊤
+ArePartsBelow n node.text = ⊤
+ArePartsBelow n (node.choice ms) = (2 ≤ length ms) × All (λ m. m < n) ms × IsStrictlyIncreasing ms
+ArePartsBelow n (node.group a b) = (a < n) × (b < n)
+ArePartsBelow n (node.interleave a b) = (a < n) × (b < n)
+ArePartsBelow n (node.one_or_more a) = a < n
+ArePartsBelow n (node.element e) = ⊤
+ArePartsBelow n (node.attribute a) = ⊤
+ArePartsBelow n (node.data_at d) = ⊤
+
+pub record IsPatternTable (ns : List Node) : Type 0 where
+  -- what each is made of stands before it
+  pub falls : (i : ℕ) (n : Node) → slice_get ns i ≡ Some n → ArePartsBelow i n
+  -- equal patterns have one number
+  pub apart : (i j : ℕ) (n : Node) → slice_get ns i ≡ Some n → slice_get ns j ≡ Some n → i ≡ j
+
+-- no pattern has this node
+abbrev pub IsNew : List Node → Node → Type 0
+IsNew ns n = (i : ℕ) → ¬ (slice_get ns i ≡ Some n)
+
+-- what is known of a tree
+abbrev pub facts_of : Simple ℕ → Facts
+facts_of s = record { nullable = is_nullable s; attributes = has_attribute s }
+
+-- what is kept of each pattern is so of its tree
+abbrev pub AreExact : List (Pattern × Facts) → Type 0
+AreExact rows = (t : Table) → map (λ r. r.1) rows ≡ map facts_of (trees t (nodes_of rows))
+
+-- some patterns were added
+abbrev pub Longer : List Node → List Node → Type 0
+Longer old new = (more : List Node) × (new ≡ old ++ more)
+
+-- the pattern of this number, new or not, is the tree that was built
+pub record Adds (old new : List Node) (number : ℕ) (built : Table → Simple ℕ) : Type 0 where
+  pub inside : number < length new
+  pub is : (t : Table) → tree_of t new number ≡ built t

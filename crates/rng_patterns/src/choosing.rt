@@ -1,0 +1,107 @@
+// Choices of patterns, as sets.
+ghost use Rattle.std.specs.Prelude.{◌≡◌, ◌⊎◌, ◌<◌, ◌↔◌, All, IfOk, OnOk, ℕ, List, length, map};
+ghost use Rattle.std.specs.List.{Contains};
+ghost use Rattle.std.specs.List.Sorted.{IsStrictlyIncreasing};
+ghost use Rattle.rng_model.specs.Document.{Attribute, Item};
+ghost use Rattle.rng_model.specs.Table.{Grammar, Table};
+ghost use Rattle.rng_model.specs.Texts.{TextTests};
+ghost use Rattle.rng_model.specs.Tree.{Simple};
+ghost use Rattle.rng_patterns.specs.Choices.{IsAlternativeOf, SomeMatches};
+ghost use Rattle.rng_patterns.specs.PatternTable.{Longer};
+ghost use Rattle.rng_patterns.specs.Reduced.{HasAlternative};
+ghost use Rattle.rng_patterns.specs.Same.{Matches};
+ghost use Rattle.rng_patterns.specs.Trees.{tree_of};
+ghost use Rattle.rng_patterns.specs.declared.pattern.PatternNumber.{PatternNumber};
+
+use crate::pattern::{Pattern, PatternNumber};
+use crate::pattern_table::PatternTable;
+use rng_model::OutOfMemory;
+use std::alloc::Global;
+
+impl PatternTable {
+    /// A choice of the members; of none it is notAllowed, and of one that one. The order of members, and how often each
+    /// is there, make no difference.
+    ///
+    /// RELAX NG Specification, sections 6.2.1 and 4.20. The error is want of memory. Costs a sort of all alternatives.
+    pub fn choice(
+        &mut self,
+        alloc: Global,
+        members: &[PatternNumber],
+    ) -> Result<PatternNumber, OutOfMemory>
+        requires { All (λ m. m.0 < length self.old) members.now }
+        ensures longer { Longer self.old self.new }
+        ensures inside { IfOk result (λ n. n.0 < length self.new) }
+        ensures alternatives { IfOk result (λ n. (t : Table) (s : Simple ℕ)
+            → HasAlternative (tree_of t self.new n.0) s ↔ IsAlternativeOf (tree_of t self.old) members.now s) }
+        ensures matches { IfOk result (λ n. (t : Table) (g : Grammar) (tests : TextTests) (xs : List Attribute) (ns : List Item)
+            → Matches g tests (tree_of t self.new n.0) xs ns ↔ SomeMatches g tests (tree_of t self.old) members.now xs ns) }
+    {
+        let mut alternatives = self.alternatives(alloc, members)?;
+        put_in_order(&mut alternatives);
+        self.choice_of(alternatives)
+    }
+
+    /// The alternatives of the members, in their order.
+    fn alternatives(
+        &self,
+        alloc: Global,
+        members: &[PatternNumber],
+    ) -> Result<Vec<PatternNumber>, OutOfMemory>
+        requires { All (λ m. m.0 < length self.now) members.now }
+        ensures inside { IfOk result (λ all. All (λ m. m.0 < length self.now) all.items) }
+        ensures same { IfOk result (λ all. (t : Table) (s : Simple ℕ)
+            → IsAlternativeOf (tree_of t self.now) all.items s ↔ IsAlternativeOf (tree_of t self.now) members.now s) }
+    {
+        let mut all = Vec::new(alloc);
+        for member in members {
+            self.add_alternatives(*member, &mut all)?;
+        }
+        Ok(all)
+    }
+
+    /// Adds the alternatives of a member to those of others.
+    fn add_alternatives(
+        &self,
+        member: PatternNumber,
+        all: &mut Vec<PatternNumber>,
+    ) -> Result<(), OutOfMemory>
+        requires { member.0 < length self.now }
+        ensures inside { OnOk result (All (λ m. m.0 < length self.now) all.old.items → All (λ m. m.0 < length self.now) all.new.items) }
+        ensures joined { OnOk result ((t : Table) (s : Simple ℕ) → IsAlternativeOf (tree_of t self.now) all.new.items s
+            ↔ (IsAlternativeOf (tree_of t self.now) all.old.items s ⊎ HasAlternative (tree_of t self.now member.0) s)) }
+    {
+        match self.pattern(member) {
+            Pattern::NotAllowed => {}
+            Pattern::Choice(members) => all.extend_from_slice(members.as_slice())?,
+            _ => all.push(member)?,
+        }
+        Ok(())
+    }
+
+    /// A choice of alternatives.
+    fn choice_of(&mut self, alternatives: Vec<PatternNumber>) -> Result<PatternNumber, OutOfMemory>
+        requires inside { All (λ m. m.0 < length self.old) alternatives.items }
+        requires rising { IsStrictlyIncreasing (map (λ m. m.0) alternatives.items) }
+        ensures longer { Longer self.old self.new }
+        ensures inside { IfOk result (λ n. n.0 < length self.new) }
+        ensures same { IfOk result (λ n. (t : Table) (s : Simple ℕ)
+            → HasAlternative (tree_of t self.new n.0) s ↔ IsAlternativeOf (tree_of t self.old) alternatives.items s) }
+    {
+        if alternatives.len() > 1 {
+            return self.number_of(Pattern::Choice(alternatives));
+        }
+        match alternatives.first() {
+            Some(only) => Ok(*only),
+            None => self.number_of(Pattern::NotAllowed),
+        }
+    }
+}
+
+/// Puts the numbers in rising order, each once.
+fn put_in_order(numbers: &mut Vec<PatternNumber>)
+    ensures same { (m : PatternNumber) → Contains numbers.new.items m ↔ Contains numbers.old.items m }
+    ensures rising { IsStrictlyIncreasing (map (λ m. m.0) numbers.new.items) }
+{
+    numbers.sort_unstable();
+    numbers.dedup();
+}

@@ -1,0 +1,69 @@
+// The patterns of a grammar, taken over into a table.
+ghost use Rattle.std.specs.Prelude.{◌≡◌, ◌<◌, All, IfOk, Some, length, slice_get};
+ghost use Rattle.rng_model.specs.Table.{AreChildrenBelow, Grammar, Table};
+ghost use Rattle.rng_model.specs.Texts.{TextTests};
+ghost use Rattle.rng_patterns.specs.PatternTable.{Longer};
+ghost use Rattle.rng_patterns.specs.Same.{Same};
+ghost use Rattle.rng_patterns.specs.Taking.{AreTaken, taken_over, tree_by};
+ghost use Rattle.rng_patterns.specs.Trees.{tree_of};
+
+use crate::pattern::{Pattern, PatternNumber};
+use crate::pattern_table::PatternTable;
+use rng_model::{OutOfMemory, PatternId, Simple, SimpleGrammar};
+use std::alloc::Global;
+
+impl PatternTable {
+    /// The patterns of a grammar in a table, and the number of each.
+    ///
+    /// Each number's pattern matches what the grammar's does. The error is want of memory.
+    pub fn of(
+        alloc: Global,
+        grammar: &SimpleGrammar,
+    ) -> Result<(PatternTable, Vec<PatternNumber>), OutOfMemory>
+        ensures long { IfOk result (λ r. length r.1.items ≡ length grammar.now.patterns) }
+        ensures taken { IfOk result (λ r. AreTaken grammar.now r.0 r.1.items) }
+    {
+        let mut table = PatternTable::new(alloc);
+        let mut numbers = Vec::new(alloc);
+        'rows: while let Some(row) = grammar.pattern(PatternId(numbers.len())) {
+            let position = PatternId(numbers.len());
+            numbers.push(table.take(alloc, row, position, numbers.as_slice())?)?;
+        }
+        Ok((table, numbers))
+    }
+
+    /// The number of the grammar's pattern at a position, whose members have these numbers.
+    fn take(
+        &mut self,
+        alloc: Global,
+        row: &Simple,
+        position: PatternId,
+        numbers: &[PatternNumber],
+    ) -> Result<PatternNumber, OutOfMemory>
+        requires below { AreChildrenBelow (length numbers.now) row.now }
+        requires inside { All (λ n. n.0 < length self.old) numbers.now }
+        ensures longer { Longer self.old self.new }
+        ensures inside { IfOk result (λ n. n.0 < length self.new) }
+        ensures same { IfOk result (λ n. (t : Table) → slice_get t.patterns position.0 ≡ Some row.now → (g : Grammar) (tests : TextTests)
+            → Same g tests (tree_of t self.new n.0) (taken_over t (tree_by t self.old numbers.now) row.now)) }
+    {
+        match row {
+            Simple::NotAllowed => self.number_of(Pattern::NotAllowed),
+            Simple::Empty => self.number_of(Pattern::Empty),
+            Simple::Text => self.number_of(Pattern::Text),
+            Simple::Element(element) => self.number_of(Pattern::Element(*element)),
+            Simple::Attribute(_, _) => self.number_of(Pattern::Attribute(position)),
+            Simple::List(_) | Simple::Data(_) | Simple::DataExcept(_, _) | Simple::Value { .. } => {
+                self.number_of(Pattern::Data(position))
+            }
+            Simple::OneOrMore(body) => self.one_or_more(numbers[body.0]),
+            Simple::Group(first, second) => self.group(numbers[first.0], numbers[second.0]),
+            Simple::Interleave(first, second) => {
+                self.interleave(numbers[first.0], numbers[second.0])
+            }
+            Simple::Choice(first, second) => {
+                self.choice(alloc, &[numbers[first.0], numbers[second.0]])
+            }
+        }
+    }
+}

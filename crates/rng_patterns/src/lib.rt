@@ -1,0 +1,15 @@
+//! The patterns that a matcher makes, in one table that only grows; equal patterns have one number.
+//!
+//! A number stands for a tree in simple form (RELAX NG Specification, section 5). The rules about notAllowed (4.20) and
+//! about empty (4.21) are applied as patterns are made, and what is made matches what its parts say by the rules of
+//! matching (section 6.2).
+#![tactic(auto)]
+
+mod choosing;
+mod grammar;
+mod making;
+mod pattern;
+mod pattern_table;
+
+pub use pattern::{Facts, Pattern, PatternNumber};
+pub use pattern_table::PatternTable;

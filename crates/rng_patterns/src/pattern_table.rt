@@ -1,0 +1,145 @@
+// A table of patterns, each once.
+ghost use Rattle.std.specs.Prelude.{◌≡◌, ◌↔◌, [], IsTrue, ◌<◌, All, IfOk, IfSome, IfNone, Some, length, map, slice_get};
+ghost use Rattle.std.specs.List.{list_any, list_all};
+ghost use Rattle.rng_model.specs.Table.{Grammar, Table};
+ghost use Rattle.rng_model.specs.Texts.{TextTests};
+ghost use Rattle.rng_patterns.specs.Node.{node_of};
+ghost use Rattle.rng_patterns.specs.PatternTable.{Adds, ArePartsBelow, IsNew, IsPatternTable, Longer, facts_of, nodes_of};
+ghost use Rattle.rng_patterns.specs.Same.{Matches};
+ghost use Rattle.rng_patterns.specs.Trees.{choice_over, tree_of, tree_over};
+
+use crate::pattern::{Facts, Pattern, PatternNumber};
+use indexmap::IndexMap;
+use rng_model::OutOfMemory;
+use std::alloc::Global;
+use std::marker::Model;
+
+/// Patterns by number, from 0, each once. What a pattern is made of has smaller numbers.
+#[derive(Drop)]
+pub struct PatternTable {
+    rows: IndexMap<Pattern, Facts>,
+}
+
+impl Model for PatternTable {
+    ghost use Rattle.std.specs.Prelude.{List};
+    ghost use Rattle.rng_patterns.specs.Node.{Node};
+
+    ghost Value = { List Node };
+
+    ghost use Rattle.rng_patterns.specs.PatternTable.{nodes_of, AreExact, IsPatternTable};
+
+    ghost view = { λ t. nodes_of t.rows.entries };
+
+    ghost invariant = { λ t. IsPatternTable (nodes_of t.rows.entries) × AreExact t.rows.entries };
+}
+
+impl PatternTable {
+    /// No pattern. Takes no memory.
+    pub fn new(alloc: Global) -> Self
+        ensures { length result ≡ 0 }
+    {
+        PatternTable {
+            rows: IndexMap::new(alloc),
+        }
+    }
+
+    /// The pattern of this number. Takes no memory.
+    pub fn pattern(&self, number: PatternNumber) -> &Pattern
+        requires { number.0 < length self.now }
+        ensures found { slice_get self.now number.0 ≡ Some (node_of result.now) }
+        ensures table { IsPatternTable self.now }
+    {
+        row_at(&self.rows, number.0).0
+    }
+
+    /// What is known of the pattern of this number. Takes no memory.
+    pub fn facts(&self, number: PatternNumber) -> Facts
+        requires { number.0 < length self.now }
+        ensures exact { (t : Table) → result ≡ facts_of (tree_of t self.now number.0) }
+        ensures nullable { (t : Table) (g : Grammar) (tests : TextTests) → IsTrue result.nullable ↔ Matches g tests (tree_of t self.now number.0) [] [] }
+    {
+        *row_at(&self.rows, number.0).1
+    }
+
+    /// What is known of a pattern whose parts are there.
+    fn facts_of(&self, pattern: &Pattern) -> Facts
+        requires { ArePartsBelow (length self.now) (node_of pattern.now) }
+        ensures { (t : Table) → result ≡ facts_of (tree_over t (tree_of t self.now) (node_of pattern.now)) }
+    {
+        match pattern {
+            Pattern::Empty | Pattern::Text => Facts {
+                nullable: true,
+                attributes: false,
+            },
+            Pattern::Choice(members) => self.facts_of_choice(members.as_slice()),
+            Pattern::Group(first, second) | Pattern::Interleave(first, second) => {
+                let first = self.facts(*first);
+                let second = self.facts(*second);
+                Facts {
+                    nullable: first.nullable && second.nullable,
+                    attributes: first.attributes || second.attributes,
+                }
+            }
+            Pattern::OneOrMore(pattern) => self.facts(*pattern),
+            Pattern::NotAllowed | Pattern::Element(_) | Pattern::Data(_) => Facts {
+                nullable: false,
+                attributes: false,
+            },
+            Pattern::Attribute(_) => Facts {
+                nullable: false,
+                attributes: true,
+            },
+        }
+    }
+
+    /// What is known of a choice of these members.
+    fn facts_of_choice(&self, members: &[PatternNumber]) -> Facts
+        requires { All (λ m. m.0 < length self.now) members.now }
+        ensures { (t : Table) → result ≡ facts_of (choice_over (tree_of t self.now) (map (λ m. m.0) members.now)) }
+    {
+        let mut known = Facts {
+            nullable: false,
+            attributes: false,
+        };
+        for member in members {
+            let facts = self.facts(*member);
+            known.nullable |= facts.nullable;
+            known.attributes |= facts.attributes;
+        }
+        known
+    }
+
+    /// The number of a pattern whose parts are there: a new one where no pattern of the table is equal to it.
+    pub(crate) fn number_of(&mut self, pattern: Pattern) -> Result<PatternNumber, OutOfMemory>
+        requires { ArePartsBelow (length self.old) (node_of pattern) }
+        ensures longer { Longer self.old self.new }
+        ensures adds { IfOk result (λ n. Adds self.old self.new n.0 (λ t. tree_over t (tree_of t self.old) (node_of pattern))) }
+    {
+        if let Some(number) = place_of(&self.rows, &pattern) {
+            return Ok(PatternNumber(number));
+        }
+        let number = self.rows.len();
+        let facts = self.facts_of(&pattern);
+        self.rows.insert(pattern, facts)?;
+        Ok(PatternNumber(number))
+    }
+}
+
+/// The row at a place.
+fn row_at(rows: &IndexMap<Pattern, Facts>, place: usize) -> (&Pattern, &Facts)
+    requires { place < length rows.now.entries }
+    ensures { slice_get rows.now.entries place ≡ Some (result.0.now, result.1.now) }
+{
+    match rows.get_index(place) {
+        Some(row) => row,
+        None => unreachable!(),
+    }
+}
+
+/// The place of a pattern among the rows.
+fn place_of(rows: &IndexMap<Pattern, Facts>, pattern: &Pattern) -> Option<usize>
+    ensures found { IfSome result (λ i. slice_get (nodes_of rows.now.entries) i ≡ Some (node_of pattern.now)) }
+    ensures none { IfNone result (IsNew (nodes_of rows.now.entries) (node_of pattern.now)) }
+{
+    rows.get_index_of(pattern)
+}
