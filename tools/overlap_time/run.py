@@ -1,0 +1,68 @@
+#!/usr/bin/env python3
+"""Times `overlap` over large classes. It is no part of the gate.
+
+    tools/overlap_time/run.py [PROGRAM]
+
+PROGRAM is `crates/rng_names_cases/out/rng_names_cases` where none is given: it answers rows, and this writes one row for it, of two classes in their
+words (`crates/rng_names_cases/src/classes.rt`). Each line tells the answers, either way round, and the seconds of a processor for the two calls
+together, less those for the same row with one call that is quick (what it takes to read the row and to make the classes).
+"""
+import pathlib
+import resource
+import subprocess
+import sys
+import tempfile
+
+HERE = pathlib.Path(__file__).resolve().parent
+
+
+def choice(words):
+    """The choice of the classes, nested in twos to a small depth."""
+    words = list(words)
+    while len(words) > 1:
+        pairs = [f"{a} {b} |" for a, b in zip(words[::2], words[1::2])]
+        words = pairs + (words[-1:] if len(words) % 2 else [])
+    return words[0]
+
+
+def names(ns, count, front="n"):
+    return [f"{ns}:{front}{i}" for i in range(count)]
+
+
+def namespaces(front, count):
+    return [f"{front}{i}:*" for i in range(count)]
+
+
+COUNT = 20000
+ROWS = [
+    ("20,000 names, and 20,000 others", choice(names("p", COUNT)), choice(names("p", COUNT, "m"))),
+    ("20,000 names, and 19,999 others and the last of them", choice(names("p", COUNT)), choice(names("p", COUNT - 1, "m") + [f"p:n{COUNT - 1}"])),
+    ("20,000 namespaces, and 20,000 others", choice(namespaces("p", COUNT)), choice(namespaces("q", COUNT))),
+    ("20,000 namespaces, and 20,000 names of others", choice(namespaces("p", COUNT)), choice(names("q", COUNT))),
+    ("20,000 names and one of 500,000 letters, and 20,000 others", choice(names("p", COUNT) + ["p:" + "x" * 500000]), choice(names("q", COUNT))),
+    ("`*` but 2,000 names, and those names", choice(names("p", 2000)) + " -", choice(names("p", 2000))),
+    ("`*` but 20,000 names, and those names", choice(names("p", COUNT)) + " -", choice(names("p", COUNT))),
+]
+
+
+def run(program, row):
+    """What is printed for the row, and the seconds of a processor."""
+    with tempfile.TemporaryDirectory() as folder:
+        pathlib.Path(folder, "cases.txt").write_text(row + "\n")
+        before = resource.getrusage(resource.RUSAGE_CHILDREN)
+        answer = subprocess.run([program], cwd=folder, capture_output=True, text=True)
+        after = resource.getrusage(resource.RUSAGE_CHILDREN)
+        spent = after.ru_utime + after.ru_stime - before.ru_utime - before.ru_stime
+        return answer.stdout.strip() or f"status {answer.returncode}: {answer.stderr.strip()}", spent
+
+
+def main():
+    program = str(pathlib.Path(sys.argv[1] if len(sys.argv) > 1 else HERE.parents[1] / "crates/rng_names_cases/out/rng_names_cases").resolve())
+    for what, first, second in ROWS:
+        answer, seconds = run(program, f"overlap\t{first}\t{second}")
+        _, reading = run(program, f"overlap\tp:a\t{first} {second} |")
+        print(f"{what}: {answer}: {max(seconds - reading, 0):.3f}")
+
+
+if __name__ == "__main__":
+    main()
