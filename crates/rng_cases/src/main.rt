@@ -1,10 +1,8 @@
-//! Prints what `rng_model`, `rng_simple` and `rng_deriv` answer for each row of `cases.txt`, a line a row.
+//! Prints what `rng_model` and `rng_deriv` answer for each row of `cases.txt`, a line a row.
 //!
-//! A row is a call and what it is of. `simple` has a pattern with each operator after what it is of: `element` and `attribute`
-//! take a name class and a pattern, `group:N` and `choice:N` the last N patterns, `except` and `except:URI` a name class,
-//! `names:N` the last N name classes; the tables of its simple form are printed. `grammar` has the number of its elements and
-//! its tables, and prints nothing; `document` has the lines of a document, parted by `/`, which is judged by the grammar before
-//! it. `reads` and `writes` count what fails of working devices and of broken ones. The other calls are those of texts.
+//! A row is a call and what it is of. `grammar` has the number of its elements and its tables, and prints nothing; `document`
+//! has the lines of a document, parted by `/`, which is judged by the grammar before it. `reads` and `writes` count what fails
+//! of working devices and of broken ones. The other calls are those of texts.
 #![tactic(auto)]
 
 ghost use Rattle.std.specs.Prelude.{All, IfSome};
@@ -13,8 +11,6 @@ ghost use Rattle.rng_model.specs.Table.{IsOfFirstKind};
 mod devices;
 mod document;
 mod grammar_builder;
-mod postfix;
-mod tables;
 mod texts;
 mod well_formed;
 mod written_tables;
@@ -23,7 +19,6 @@ use case_rows::rows;
 use document::read_document;
 use rng_deriv::is_valid;
 use rng_model::{OutOfMemory, SimpleGrammar};
-use rng_simple::simplify;
 use std::io;
 use well_formed::is_well_formed;
 use written_tables::read_grammar;
@@ -52,21 +47,9 @@ fn print_answer(
 {
     match call {
         "document" => print_judged(rt, grammar, of),
-        "simple" => print_simple_form(rt, of),
         "reads" => devices::print_reads(rt, of),
         "writes" => devices::print_writes(rt, of),
         _ => texts::print_answer(rt, call, of),
-    }
-}
-
-/// Prints the tables of the simple form of a pattern, or that there is no memory for it.
-fn print_simple_form(rt: &(impl Print + AllocGlobal), row: &str) -> io::Result<()> {
-    let Some(pattern) = postfix::read_pattern(rt.alloc(), row)? else {
-        return println!(rt; "no pattern");
-    };
-    match simplify(rt.alloc(), &pattern) {
-        Ok(grammar) => tables::print_tables(rt, &grammar),
-        Err(OutOfMemory) => println!(rt; "out of memory"),
     }
 }
 

@@ -5,8 +5,8 @@ use Rattle.rng_graph.specs.InTwos.{in_twos, more_in_twos}
 use Rattle.rng_model.specs.Depth.{depth}
 use Rattle.rng_model.specs.Patterns.{Place, Point}
 use Rattle.rng_model.specs.Schema.{Schema}
-use Rattle.rng_model.specs.SimpleForm.{LeafIn, LeafAmong}
-use Rattle.rng_model.specs.SimpleForm as at
+use Rattle.rng_model.specs.Leaves.{LeafIn, LeafAmong}
+use Rattle.rng_model.specs.Leaves as at
 use Rattle.rng_model.specs.Unfolding.{Leaf, Unfolds, UnfoldAll}
 use Rattle.rng_model.specs.Unfolding as u
 use Rattle.rng_graph.specs.DepthWith.{cut_off, depth_with, deeper_with, tree_depth}

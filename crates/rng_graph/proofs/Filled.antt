@@ -4,7 +4,7 @@ use Rattle.std.proofs.lemmas.List.Elements.{Contains-push, Contains-push_cases, 
 use Rattle.rng_model.specs.Tree.{Tree, leaf}
 use Rattle.rng_model.specs.Patterns.{Place, Point}
 use Rattle.rng_model.specs.Schema.{Schema, Definition}
-use Rattle.rng_model.specs.SimpleForm.{LeafIn}
+use Rattle.rng_model.specs.Leaves.{LeafIn}
 use Rattle.rng_model.specs.Unfolding.{Leaf, Aim, to_element, to_definition, to_nothing, aim, Unfolds, IsTreeOf}
 use Rattle.rng_model.specs.Unfolding as u
 use Rattle.rng_graph.specs.Met.{IsSettled, IsOrder, none_yet, and_then}

@@ -3,7 +3,7 @@ use Rattle.std.proofs.Common.{◌≡◌, inl, inr, refl, ap, sym, ◌∙◌, sub
 use Rattle.std.proofs.lemmas.Bool.{cases_eq}
 use Rattle.std.proofs.lemmas.List.Elements.{Contains-append_left, Contains-push_cases}
 use Rattle.rng_model.specs.Tree.{Tree}
-use Rattle.rng_model.specs.SimpleForm.{LeafIn}
+use Rattle.rng_model.specs.Leaves.{LeafIn}
 use Rattle.rng_graph.specs.Graph.{Spot, at_element, at_definition, Graph, Mentions, IsOrderBy, no_numbers, and_number, of_spot, spot_depth}
 use Rattle.rng_graph.specs.Graph.{IsFilledBy}
 use Rattle.rng_model.proofs.Unfolding.{some_is}

@@ -9,7 +9,7 @@ use Rattle.std.proofs.lemmas.Slice.Eq.{bytes_eq-Decides}
 use Rattle.rng_model.specs.Tree.{Tree}
 use Rattle.rng_model.specs.Patterns.{Place, Point}
 use Rattle.rng_model.specs.Schema.{Schema, Definition, body, same_name}
-use Rattle.rng_model.specs.SimpleForm.{LeafIn}
+use Rattle.rng_model.specs.Leaves.{LeafIn}
 use Rattle.rng_model.specs.Unfolding.{Leaf, Aim, to_definition, aim}
 use Rattle.rng_graph.specs.Met.{IsSettled, IsOrder, none_yet, and_then, Leads, directly, further}
 use Rattle.rng_graph.specs.DepthWith.{depth_with, of_aim, depth_at, IsFilled}

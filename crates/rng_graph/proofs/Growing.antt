@@ -8,11 +8,10 @@ use Rattle.rng_model.specs.Tree.{Tree, not_allowed, empty, text, leaf, attribute
 use Rattle.rng_model.specs.Tree.{one_or_more, joined, Trees, no_trees, tree_and}
 use Rattle.rng_model.specs.Patterns.{Place, Point}
 use Rattle.rng_model.specs.Schema.{Schema, Definition, main_start, body}
-use Rattle.rng_model.specs.SimpleForm.{LeafIn, LeafAmong}
-use Rattle.rng_model.specs.SimpleForm as at
+use Rattle.rng_model.specs.Leaves.{LeafIn, LeafAmong, renamed, all_renamed}
+use Rattle.rng_model.specs.Leaves as at
 use Rattle.rng_model.specs.Unfolding.{Leaf, content_of}
 use Rattle.rng_graph.specs.Met.{met_in_definition, met_in_element}
-use Rattle.rng_model.specs.Unfold.{renamed, all_renamed}
 use Rattle.rng_graph.specs.Graph.{Spot, at_element, at_definition, Graph, element_aim, definition_aim, aim_at, IsSpotBelow, IsResolved, IsGraphOf, IsPartOf}
 use Rattle.rng_graph.specs.Graph.{Brings}
 use Rattle.rng_graph.proofs.Graphs.{found, contains_found}

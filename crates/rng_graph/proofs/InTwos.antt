@@ -6,8 +6,8 @@ use Rattle.rng_model.specs.Tree.{Tree, not_allowed, empty, text, leaf, attribute
 use Rattle.rng_model.specs.Tree.{joined, Trees, no_trees, tree_and}
 use Rattle.rng_model.specs.Tree.{Simple, s_not_allowed, s_empty, s_text, s_leaf, s_attribute, s_list, s_data, s_data_except, s_value, s_one_or_more, s_joined}
 use Rattle.rng_model.specs.Tree.{as_tree}
-use Rattle.rng_model.specs.Step.{ClassStep, ClassSteps}
-use Rattle.rng_model.specs.Step as classes
+use Rattle.rng_model.specs.ClassSteps.{ClassStep, ClassSteps}
+use Rattle.rng_model.specs.ClassSteps as classes
 use Rattle.rng_model.specs.Simplification.{rewriting, Step, StepAmong, Steps, IsRewritten}
 use Rattle.rng_model.specs.Simplification as step
 use Rattle.rng_graph.specs.InTwos.{nested, in_twos, more_in_twos}

@@ -5,8 +5,8 @@ use Rattle.std.proofs.lemmas.List.Elements.{Contains-push_cases}
 use Rattle.rng_model.specs.Tree.{Tree, leaf}
 use Rattle.rng_model.specs.Patterns.{Place, Point}
 use Rattle.rng_model.specs.Schema.{Schema, Definition, main_start, body}
-use Rattle.rng_model.specs.SimpleForm.{LeafIn}
-use Rattle.rng_model.specs.SimpleForm as at
+use Rattle.rng_model.specs.Leaves.{LeafIn}
+use Rattle.rng_model.specs.Leaves as at
 use Rattle.rng_model.specs.Unfolding.{Leaf, content_of, Aim, to_element, to_definition, to_nothing, aim, Unfolds, IsTreeOf, IsBodyOf}
 use Rattle.rng_graph.specs.Expansion.{HasTree, KeepsExpansion}
 use Rattle.rng_model.specs.Unfolding as u

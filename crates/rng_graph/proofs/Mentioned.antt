@@ -8,8 +8,8 @@ use Rattle.std.proofs.lemmas.Option.{slice_get-get_or, slice_get_within, get_or_
 use Rattle.rng_model.specs.Schema.{nested_from}
 use Rattle.rng_model.specs.Tree.{Tree, not_allowed, empty, text, leaf, attribute, list, data_of, data_except, value, mixed, optional, zero_or_more, one_or_more}
 use Rattle.rng_model.specs.Tree.{joined, Trees, no_trees, tree_and, Connector, choice, group, interleave}
-use Rattle.rng_model.specs.SimpleForm.{LeafIn, LeafAmong}
-use Rattle.rng_model.specs.SimpleForm as at
+use Rattle.rng_model.specs.Leaves.{LeafIn, LeafAmong}
+use Rattle.rng_model.specs.Leaves as at
 use Rattle.rng_graph.specs.Graph.{Spot, at_element, at_definition, Graph, Mentions}
 use Rattle.rng_graph.specs.GraphView.{trees_of, members, combined, graph_pattern_of}
 use Rattle.rng_graph.specs.declared.graph.GraphPattern.{GraphPattern}

@@ -12,8 +12,8 @@ use Rattle.rng_model.specs.Patterns.{in_one_or_more, in_first, in_second, in_ano
 use Rattle.rng_model.specs.Schema.{Schema, Component, Definition, body, body_among, connector_of, nested, nested_from, same_name, trees_named}
 use Rattle.rng_model.specs.Schema.{HasComponent, IsWrittenAt, IsWellPlaced}
 use Rattle.rng_model.specs.SchemaClauses.{HasNoStart, BreaksRef, of_ref, of_parent_ref}
-use Rattle.rng_model.specs.SimpleForm.{LeafIn, LeafAmong}
-use Rattle.rng_model.specs.SimpleForm as at
+use Rattle.rng_model.specs.Leaves.{LeafIn, LeafAmong}
+use Rattle.rng_model.specs.Leaves as at
 use Rattle.rng_model.specs.Unfolding.{Leaf, content_of, Aim, to_element, to_definition, to_nothing, outside, aim}
 use Rattle.rng_model.proofs.Unfolding.{some_is}
 use Rattle.rng_load.proofs.NameLists.{in_none, in_cons}

@@ -4,9 +4,8 @@ use Rattle.rng_model.specs.Tree.{Tree, not_allowed, empty, text, leaf, attribute
 use Rattle.rng_model.specs.Tree.{optional, zero_or_more, one_or_more, joined, Trees, no_trees, tree_and}
 use Rattle.rng_graph.specs.InTwos.{nested}
 use Rattle.rng_model.specs.Depth.{class_depth}
-use Rattle.rng_model.specs.SimpleForm.{LeafIn, LeafAmong}
-use Rattle.rng_model.specs.SimpleForm as at
-use Rattle.rng_model.specs.Unfold.{renamed, all_renamed}
+use Rattle.rng_model.specs.Leaves.{LeafIn, LeafAmong, renamed, all_renamed}
+use Rattle.rng_model.specs.Leaves as at
 use Rattle.rng_graph.specs.DepthWith.{cut_off, one_more, depth_with, deeper_with}
 
 module _ {K L : Type 0} (f : K → L) (h : L → ℕ) (g : K → ℕ) where

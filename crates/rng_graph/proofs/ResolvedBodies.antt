@@ -6,9 +6,8 @@ use Rattle.std.proofs.lemmas.List.Elements.{Contains-append_cases, Contains-push
 use Rattle.rng_model.specs.Tree.{Tree, Connector, choice, interleave, joined, no_trees}
 use Rattle.rng_model.specs.Patterns.{Place, Point, pattern_tree}
 use Rattle.rng_model.specs.Schema.{Schema, Component, Definition, body, body_among, same_name, is_interleaved, trees_named, connector_of, nested, nested_from}
-use Rattle.rng_model.specs.SimpleForm.{LeafIn}
-use Rattle.rng_model.specs.SimpleForm as at
-use Rattle.rng_model.specs.Unfold.{renamed}
+use Rattle.rng_model.specs.Leaves.{LeafIn, renamed}
+use Rattle.rng_model.specs.Leaves as at
 use Rattle.rng_model.specs.Unfolding.{Leaf, to_definition, to_nothing, aim}
 use Rattle.rng_model.proofs.Unfolding.{some_is}
 use Rattle.rng_graph.specs.ComponentTable.{given, joining, schema_components}

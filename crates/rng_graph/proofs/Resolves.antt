@@ -14,9 +14,8 @@ use Rattle.rng_model.specs.Patterns.{Place, Position, Pattern, Patterns, no_patt
 use Rattle.rng_model.specs.Patterns.{a_grammar}
 use Rattle.rng_model.specs.Patterns as pattern
 use Rattle.rng_model.specs.Schema.{Schema, Definition, same_name}
-use Rattle.rng_model.specs.SimpleForm.{LeafIn, LeafAmong}
-use Rattle.rng_model.specs.SimpleForm as at
-use Rattle.rng_model.specs.Unfold.{all_renamed}
+use Rattle.rng_model.specs.Leaves.{LeafIn, LeafAmong, all_renamed}
+use Rattle.rng_model.specs.Leaves as at
 use Rattle.rng_model.specs.Unfolding.{Leaf, content_of, to_element, to_definition, to_nothing, aim, outside}
 use Rattle.rng_graph.specs.Graph.{Spot, IsSpotBelow, IsResolved, AreApart, aim_at, element_aim, definition_aim, same_definition, number_of}
 use Rattle.rng_graph.specs.Met.{Met, met_in_element}

@@ -7,8 +7,8 @@ use Rattle.rng_model.specs.Tree.{Tree, not_allowed, empty, text, leaf, attribute
 use Rattle.rng_model.specs.Tree.{one_or_more, joined, Trees, no_trees, tree_and}
 use Rattle.rng_model.specs.Patterns.{Place, Point}
 use Rattle.rng_model.specs.Schema.{Schema, Definition, body}
-use Rattle.rng_model.specs.SimpleForm.{LeafIn, LeafAmong}
-use Rattle.rng_model.specs.SimpleForm as at
+use Rattle.rng_model.specs.Leaves.{LeafIn, LeafAmong}
+use Rattle.rng_model.specs.Leaves as at
 use Rattle.rng_model.specs.Unfolding.{Aim, to_element, to_definition, to_nothing, aim}
 use Rattle.rng_model.specs.SchemaClauses.{BreaksExpansion}
 use Rattle.rng_graph.specs.Met.{Met, IsSettled, IsOrder, none_yet, and_then, Leads}

@@ -3,7 +3,7 @@ use Rattle.std.proofs.Common.{◌≡◌, ◌↔◌, refl, ap, subst, ℕ, ◌<�
 use Rattle.rng_model.specs.Tree.{Tree}
 use Rattle.rng_model.specs.Patterns.{Place, Point}
 use Rattle.rng_model.specs.Schema.{Schema, Definition, main_start}
-use Rattle.rng_model.specs.SimpleForm.{LeafIn}
+use Rattle.rng_model.specs.Leaves.{LeafIn}
 use Rattle.rng_model.specs.Unfolding.{Leaf, to_element, to_definition, content_of, aim, Unfolds, IsTreeOf}
 use Rattle.rng_model.specs.Reached.{of_start, of_body}
 use Rattle.rng_model.specs.SchemaClauses.{BreaksDepth}

@@ -5,12 +5,11 @@ use Rattle.std.specs.Prelude.{if◌then◌else◌, Contains}
 use Rattle.std.specs.Str.{bytes_eq}
 use Rattle.rng_model.specs.Names.{NameClass}
 use Rattle.rng_model.specs.Tree.{Tree}
-use Rattle.rng_model.specs.Unfold.{renamed}
+use Rattle.rng_model.specs.Leaves.{renamed, LeafIn}
 use Rattle.rng_model.specs.Depth.{class_depth, depth_limit}
 use Rattle.rng_graph.specs.InTwos.{nested}
 use Rattle.rng_model.specs.Patterns.{Place, Point}
 use Rattle.rng_model.specs.Schema.{Schema, Definition, main_start, body, same_name}
-use Rattle.rng_model.specs.SimpleForm.{LeafIn}
 use Rattle.rng_model.specs.Unfolding.{Leaf, content_of, Aim, to_element, to_definition, to_nothing, aim}
 use Rattle.rng_graph.specs.Met.{Met}
 use Rattle.rng_graph.specs.DepthWith.{depth_with}

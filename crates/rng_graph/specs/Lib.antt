@@ -3,6 +3,7 @@ pub mod Expansion
 pub mod Met
 pub mod DepthWith
 pub mod Graph
+pub mod Connectors
 pub mod GraphView
 pub mod Resolving
 pub mod Definitions

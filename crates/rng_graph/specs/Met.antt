@@ -3,7 +3,7 @@ use Rattle.std.specs.Prelude.{◌≡◌, List, [], ◌∷◌, ◌++◌, Some, Co
 use Rattle.rng_model.specs.Tree.{Tree}
 use Rattle.rng_model.specs.Patterns.{Point}
 use Rattle.rng_model.specs.Schema.{Schema, Definition, main_start, body}
-use Rattle.rng_model.specs.SimpleForm.{LeafIn}
+use Rattle.rng_model.specs.Leaves.{LeafIn}
 use Rattle.rng_model.specs.Unfolding.{Leaf, content_of, Aim, to_element, to_definition, to_nothing, aim}
 
 -- definitions and elements that are met from the start by going from a body to its points: what a worklist collects

@@ -2,15 +2,78 @@
 ghost use Rattle.std.specs.Prelude.{◌≡◌, IfOk, OnOk, map, option_map};
 ghost use Rattle.rng_model.specs.Patterns as schema;
 ghost use Rattle.rng_model.specs.SchemaView.{place_of, schema_pattern_of};
-ghost use Rattle.rng_model.specs.Tree.{choice, group, interleave};
+ghost use Rattle.rng_model.specs.Types.{datatype_of};
+ghost use Rattle.rng_model.specs.View.{class_of};
+ghost use Rattle.rng_graph.specs.Connectors.{around, connector_of};
 ghost use Rattle.rng_graph.specs.Definitions.{definition_of, numbering_of};
 ghost use Rattle.rng_graph.specs.GraphView.{graph_pattern_of, members};
-ghost use Rattle.rng_graph.specs.Resolving.{looked_up, looked_up_outside, resolve, resolve_each};
+ghost use Rattle.rng_graph.specs.Resolving.{looked_up, looked_up_outside, resolve, with_element, within};
 
 use crate::definitions::{Definition, Numbering, number};
 use crate::graph::{GraphElement, GraphPattern};
-use rng_model::{OutOfMemory, Place, SchemaPattern};
+use rng_model::{Datatype, NameClass, OutOfMemory, Place, SchemaPattern};
 use std::alloc::Global;
+
+/// What stands between the members of a list.
+#[derive(Clone, Copy)]
+pub(crate) enum Connector {
+    /// `,`
+    Group,
+    /// `&`
+    Interleave,
+    /// `|`
+    Choice,
+}
+
+impl Connector {
+    /// The pattern of these members.
+    #[tactic(auto, using(crate::proofs::GraphPatternViews::group_of, crate::proofs::GraphPatternViews::interleave_of, crate::proofs::GraphPatternViews::choice_of))]
+    fn joined(self, all: Vec<GraphPattern<'_>>) -> GraphPattern<'_>
+        ensures { graph_pattern_of result ≡ members (connector_of self) (map graph_pattern_of all.entry.items) }
+    {
+        match self {
+            Connector::Group => GraphPattern::Group(all),
+            Connector::Interleave => GraphPattern::Interleave(all),
+            Connector::Choice => GraphPattern::Choice(all),
+        }
+    }
+}
+
+/// What stands around one pattern.
+#[derive(Clone, Copy)]
+pub(crate) enum Around<'a> {
+    Attribute(&'a NameClass),
+    List,
+    /// A datatype, of which the pattern is excepted.
+    Data(&'a Datatype),
+    Mixed,
+    /// `p?`
+    Optional,
+    /// `p*`
+    ZeroOrMore,
+    /// `p+`
+    OneOrMore,
+}
+
+impl<'a> Around<'a> {
+    /// The pattern that has this around its only child.
+    fn of(self, child: Box<GraphPattern<'a>>) -> GraphPattern<'a>
+        ensures { graph_pattern_of result ≡ around self.entry (graph_pattern_of child.entry.value) }
+    {
+        match self {
+            Around::Attribute(class) => GraphPattern::Attribute(class, child),
+            Around::List => GraphPattern::List(child),
+            Around::Data(datatype) => GraphPattern::Data {
+                datatype,
+                except: Some(child),
+            },
+            Around::Mixed => GraphPattern::Mixed(child),
+            Around::Optional => GraphPattern::Optional(child),
+            Around::ZeroOrMore => GraphPattern::ZeroOrMore(child),
+            Around::OneOrMore => GraphPattern::OneOrMore(child),
+        }
+    }
+}
 
 /// Where patterns stand: in the grammar at a place, and which grammar is around that one.
 #[derive(Clone, Copy)]
@@ -27,12 +90,12 @@ impl<'a> Scope<'a> {
     #[cycle(resolving)]
     #[tactic(auto, unfolding(crate::specs::Resolving::resolve))]
     pub(crate) fn pattern(
-        self,
+        &self,
         pattern: &'a SchemaPattern,
         numbering: &mut Numbering<'a>,
     ) -> Result<GraphPattern<'a>, OutOfMemory>
-        ensures pattern { IfOk result (λ r. graph_pattern_of r ≡ (resolve (place_of self.entry.place.now) (option_map (λ z. place_of z.now) self.entry.outer) (schema_pattern_of pattern.now) (numbering_of numbering.old)).0) }
-        ensures numbering { OnOk result (numbering_of numbering.new ≡ (resolve (place_of self.entry.place.now) (option_map (λ z. place_of z.now) self.entry.outer) (schema_pattern_of pattern.now) (numbering_of numbering.old)).1) }
+        ensures pattern { IfOk result (λ r. graph_pattern_of r ≡ (resolve (place_of self.now.place.now) (option_map (λ z. place_of z.now) self.now.outer) (schema_pattern_of pattern.now) (numbering_of numbering.old)).0) }
+        ensures numbering { OnOk result (numbering_of numbering.new ≡ (resolve (place_of self.now.place.now) (option_map (λ z. place_of z.now) self.now.outer) (schema_pattern_of pattern.now) (numbering_of numbering.old)).1) }
     {
         match pattern {
             SchemaPattern::NotAllowed => Ok(GraphPattern::NotAllowed),
@@ -40,14 +103,14 @@ impl<'a> Scope<'a> {
             SchemaPattern::Text => Ok(GraphPattern::Text),
             SchemaPattern::Element(class, body) => {
                 let content = self.pattern(body, numbering)?;
-                let number = numbering.elements.len();
-                numbering.elements.push(GraphElement { class, content })?;
-                Ok(GraphPattern::Element(number))
+                element(class, content, numbering)
             }
-            SchemaPattern::Attribute(class, body) => {
-                Ok(GraphPattern::Attribute(class, self.body(body, numbering)?))
-            }
-            SchemaPattern::List(body) => Ok(GraphPattern::List(self.body(body, numbering)?)),
+            SchemaPattern::Attribute(class, body) => self.around(
+                Around::Attribute(class),
+                body,
+                numbering,
+            ),
+            SchemaPattern::List(body) => self.around(Around::List, body, numbering),
             SchemaPattern::Data {
                 datatype,
                 except: None,
@@ -58,10 +121,7 @@ impl<'a> Scope<'a> {
             SchemaPattern::Data {
                 datatype,
                 except: Some(except),
-            } => Ok(GraphPattern::Data {
-                datatype,
-                except: Some(self.body(except, numbering)?),
-            }),
+            } => self.around(Around::Data(datatype), except, numbering),
             SchemaPattern::Value {
                 library,
                 name,
@@ -71,21 +131,13 @@ impl<'a> Scope<'a> {
                 name: name.as_str(),
                 text: text.as_str(),
             }),
-            SchemaPattern::Mixed(body) => Ok(GraphPattern::Mixed(self.body(body, numbering)?)),
-            SchemaPattern::Optional(body) => Ok(GraphPattern::Optional(self.body(
-                body, numbering,
-            )?)),
-            SchemaPattern::ZeroOrMore(body) => {
-                Ok(GraphPattern::ZeroOrMore(self.body(body, numbering)?))
-            }
-            SchemaPattern::OneOrMore(body) => {
-                Ok(GraphPattern::OneOrMore(self.body(body, numbering)?))
-            }
-            SchemaPattern::Group(all) => Ok(GraphPattern::Group(self.members(all, numbering)?)),
-            SchemaPattern::Interleave(all) => {
-                Ok(GraphPattern::Interleave(self.members(all, numbering)?))
-            }
-            SchemaPattern::Choice(all) => Ok(GraphPattern::Choice(self.members(all, numbering)?)),
+            SchemaPattern::Mixed(body) => self.around(Around::Mixed, body, numbering),
+            SchemaPattern::Optional(body) => self.around(Around::Optional, body, numbering),
+            SchemaPattern::ZeroOrMore(body) => { self.around(Around::ZeroOrMore, body, numbering) }
+            SchemaPattern::OneOrMore(body) => self.around(Around::OneOrMore, body, numbering),
+            SchemaPattern::Group(all) => self.members(Connector::Group, all, numbering),
+            SchemaPattern::Interleave(all) => self.members(Connector::Interleave, all, numbering),
+            SchemaPattern::Choice(all) => self.members(Connector::Choice, all, numbering),
             SchemaPattern::Ref(name) => self.look_up(self.place, Some(name.as_str()), numbering),
             SchemaPattern::ParentRef(name) => self.look_up_outside(name.as_str(), numbering),
             SchemaPattern::Grammar(place) => self.look_up(place, None, numbering),
@@ -93,46 +145,51 @@ impl<'a> Scope<'a> {
         }
     }
 
-    /// The only child.
+    /// The pattern that has this around its only child.
     #[cycle(resolving)]
-    fn body(
-        self,
-        pattern: &'a SchemaPattern,
+    #[inline(never)]
+    fn around(
+        &self,
+        outside: Around<'a>,
+        child: &'a SchemaPattern,
         numbering: &mut Numbering<'a>,
-    ) -> Result<Box<GraphPattern<'a>>, OutOfMemory>
-        ensures pattern { IfOk result (λ r. graph_pattern_of r.value ≡ (resolve (place_of self.entry.place.now) (option_map (λ z. place_of z.now) self.entry.outer) (schema_pattern_of pattern.now) (numbering_of numbering.old)).0) }
-        ensures numbering { OnOk result (numbering_of numbering.new ≡ (resolve (place_of self.entry.place.now) (option_map (λ z. place_of z.now) self.entry.outer) (schema_pattern_of pattern.now) (numbering_of numbering.old)).1) }
+    ) -> Result<GraphPattern<'a>, OutOfMemory>
+        ensures pattern { IfOk result (λ r. graph_pattern_of r ≡ (within (around outside.entry) (resolve (place_of self.now.place.now) (option_map (λ z. place_of z.now) self.now.outer) (schema_pattern_of child.now) (numbering_of numbering.old))).0) }
+        ensures numbering { OnOk result (numbering_of numbering.new ≡ (within (around outside.entry) (resolve (place_of self.now.place.now) (option_map (λ z. place_of z.now) self.now.outer) (schema_pattern_of child.now) (numbering_of numbering.old))).1) }
     {
-        let body = self.pattern(pattern, numbering)?;
-        Ok(Box::new(self.alloc, body)?)
+        let child = self.pattern(child, numbering)?;
+        Ok(outside.of(Box::new(self.alloc, child)?))
     }
 
-    /// The members of a list, in order.
+    /// The pattern of these members, in order.
     #[cycle(resolving)]
+    #[inline(never)]
     fn members(
-        self,
+        &self,
+        connector: Connector,
         patterns: &'a [SchemaPattern],
         numbering: &mut Numbering<'a>,
-    ) -> Result<Vec<GraphPattern<'a>>, OutOfMemory>
-        ensures patterns { IfOk result (λ rs. map graph_pattern_of rs.items ≡ (resolve_each (place_of self.entry.place.now) (option_map (λ z. place_of z.now) self.entry.outer) (map schema_pattern_of patterns.now) (numbering_of numbering.old)).0) }
-        ensures numbering { OnOk result (numbering_of numbering.new ≡ (resolve_each (place_of self.entry.place.now) (option_map (λ z. place_of z.now) self.entry.outer) (map schema_pattern_of patterns.now) (numbering_of numbering.old)).1) }
+    ) -> Result<GraphPattern<'a>, OutOfMemory>
+        ensures pattern { IfOk result (λ r. graph_pattern_of r ≡ (resolve (place_of self.now.place.now) (option_map (λ z. place_of z.now) self.now.outer) (schema.members (connector_of connector) (map schema_pattern_of patterns.now)) (numbering_of numbering.old)).0) }
+        ensures numbering { OnOk result (numbering_of numbering.new ≡ (resolve (place_of self.now.place.now) (option_map (λ z. place_of z.now) self.now.outer) (schema.members (connector_of connector) (map schema_pattern_of patterns.now)) (numbering_of numbering.old)).1) }
     {
         let mut members = Vec::new(self.alloc);
         for pattern in patterns {
             members.push(self.pattern(pattern, numbering)?)?;
         }
-        Ok(members)
+        Ok(connector.joined(members))
     }
 
     /// A name of the grammar around, by its number; what allows nothing where there is none.
     #[tactic(auto, unfolding(crate::specs::Resolving::looked_up_outside))]
+    #[inline(never)]
     fn look_up_outside(
-        self,
+        &self,
         name: &'a str,
         numbering: &mut Numbering<'a>,
     ) -> Result<GraphPattern<'a>, OutOfMemory>
-        ensures pattern { IfOk result (λ r. graph_pattern_of r ≡ (looked_up_outside name.now (option_map (λ z. place_of z.now) self.entry.outer) (numbering_of numbering.old)).0) }
-        ensures numbering { OnOk result (numbering_of numbering.new ≡ (looked_up_outside name.now (option_map (λ z. place_of z.now) self.entry.outer) (numbering_of numbering.old)).1) }
+        ensures pattern { IfOk result (λ r. graph_pattern_of r ≡ (looked_up_outside name.now (option_map (λ z. place_of z.now) self.now.outer) (numbering_of numbering.old)).0) }
+        ensures numbering { OnOk result (numbering_of numbering.new ≡ (looked_up_outside name.now (option_map (λ z. place_of z.now) self.now.outer) (numbering_of numbering.old)).1) }
     {
         match self.outer {
             Some(outer) => self.look_up(outer, Some(name), numbering),
@@ -141,8 +198,9 @@ impl<'a> Scope<'a> {
     }
 
     /// What is looked up, by its number.
+    #[inline(never)]
     fn look_up(
-        self,
+        &self,
         place: &'a Place,
         name: Option<&'a str>,
         numbering: &mut Numbering<'a>,
@@ -153,4 +211,19 @@ impl<'a> Scope<'a> {
         let number = number(&mut numbering.definitions, Definition { place, name })?;
         Ok(GraphPattern::Definition(number))
     }
+}
+
+/// An element of names of this class, which gets the next number.
+#[inline(never)]
+fn element<'a>(
+    class: &'a NameClass,
+    content: GraphPattern<'a>,
+    numbering: &mut Numbering<'a>,
+) -> Result<GraphPattern<'a>, OutOfMemory>
+    ensures pattern { IfOk result (λ r. graph_pattern_of r ≡ (with_element (class_of class.now) (graph_pattern_of content.entry, numbering_of numbering.old)).0) }
+    ensures numbering { OnOk result (numbering_of numbering.new ≡ (with_element (class_of class.now) (graph_pattern_of content.entry, numbering_of numbering.old)).1) }
+{
+    let number = numbering.elements.len();
+    numbering.elements.push(GraphElement { class, content })?;
+    Ok(GraphPattern::Element(number))
 }

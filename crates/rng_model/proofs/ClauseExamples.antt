@@ -9,7 +9,7 @@ use Rattle.rng_model.specs.Patterns.{Place, Position, Point, Pattern, text, elem
 use Rattle.rng_model.specs.Patterns.{pattern_tree}
 use Rattle.rng_model.specs.Patterns as in_pattern
 use Rattle.rng_model.specs.Schema.{Schema, Component, Definition, body, main_start, IsWrittenAt}
-use Rattle.rng_model.specs.SimpleForm as at
+use Rattle.rng_model.specs.Leaves as at
 use Rattle.rng_model.specs.Simplification as steps
 use Rattle.rng_model.specs.Unfolding.{Leaf, to_definition, aim, Unfolds, IsTreeOf}
 use Rattle.rng_model.specs.Unfolding as u

@@ -8,11 +8,10 @@ use Rattle.rng_model.specs.Tree as tree
 use Rattle.rng_model.specs.Tree.{Datatype, Tree, group, interleave, choice, Simple, s_not_allowed, s_empty, s_text, s_leaf, s_attribute, s_list}
 use Rattle.rng_model.specs.Tree.{s_data, s_data_except, s_value, s_one_or_more, s_joined, as_tree}
 use Rattle.rng_model.specs.Table.{Grammar}
-use Rattle.rng_model.specs.Unfold.{renamed}
-use Rattle.rng_model.specs.Step.{ClassStep, ClassSteps, IsSimpleClassOf}
-use Rattle.rng_model.specs.Step as class_steps
-use Rattle.rng_model.specs.SimpleForm.{LeafIn}
-use Rattle.rng_model.specs.SimpleForm as at
+use Rattle.rng_model.specs.Leaves.{renamed, LeafIn}
+use Rattle.rng_model.specs.ClassSteps.{ClassStep, ClassSteps, IsSimpleClassOf}
+use Rattle.rng_model.specs.ClassSteps as class_steps
+use Rattle.rng_model.specs.Leaves as at
 use Rattle.rng_model.specs.Patterns.{Place, Pattern, text, not_allowed, element, attribute, data_of, data_except, value, ref, parent_ref, joined, no_patterns}
 use Rattle.rng_model.specs.Patterns.{IsWrittenIn}
 use Rattle.rng_model.specs.Patterns as in_pattern

@@ -7,7 +7,7 @@ use Rattle.rng_model.specs.Patterns.{Place, Pattern, element, empty, ref, parent
 use Rattle.rng_model.specs.Patterns.{a_parent_ref, a_grammar}
 use Rattle.rng_model.specs.Lists.{Among}
 use Rattle.rng_model.specs.Schema.{Schema, Component, Definition, body, main_start, HasComponent}
-use Rattle.rng_model.specs.SimpleForm as at
+use Rattle.rng_model.specs.Leaves as at
 use Rattle.rng_model.specs.Unfolding.{Leaf, Aim, to_definition, aim, Unfolds, IsTreeOf, IsBodyOf}
 use Rattle.rng_model.specs.Unfolding as u
 use Rattle.rng_model.specs.declared.method.Method.TheVariants.{Plain, Choice, Interleave}

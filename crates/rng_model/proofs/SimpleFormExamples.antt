@@ -1,7 +1,7 @@
 -- Trees and their simple forms.
-use Rattle.std.proofs.Common.{[], ◌∷◌, codes}
-use Rattle.rng_model.specs.Tree.{Datatype, Tree, group, data_of, data_except, value, joined, no_trees, not_allowed, empty}
-use Rattle.rng_model.specs.Simplification.{RuleGroup, propagation, Step, IsSimpleFormOf, no_step, step_and}
+use Rattle.std.proofs.Common.{refl, [], ◌∷◌, codes}
+use Rattle.rng_model.specs.Tree.{Datatype, Tree, choice, group, data_of, data_except, value, joined, no_trees, tree_and, not_allowed, empty, text}
+use Rattle.rng_model.specs.Simplification.{RuleGroup, rewriting, propagation, Step, IsSimpleFormOf, no_step, step_and}
 use Rattle.rng_model.specs.Simplification as steps
 
 abbrev plain : Datatype
@@ -29,4 +29,32 @@ module _ (L : Type 0) where
   except_of_a_group = record {
     reached = step_and (propagation, steps.in_except (steps.second_empty (λ e. cc))) no_step;
     last = λ c s. except_stays s.1;
+  }
+
+  empty_side_stays : {g : RuleGroup} {c : Tree L} → ¬ (Step g (joined choice empty text no_trees) c)
+  empty_side_stays (steps.other_not_allowed n h) = n refl
+  empty_side_stays (steps.first_empty n) = n refl
+  empty_side_stays (steps.in_first d) = elim d [ ]
+  empty_side_stays (steps.in_second d) = elim d [ ]
+  empty_side_stays (steps.in_others d) = elim d [ ]
+
+  -- `(empty, text) | empty` is `empty | text`
+  sides_change : IsSimpleFormOf {L = L} (joined choice (joined group empty text no_trees) empty no_trees) (joined choice empty text no_trees)
+  sides_change = record {
+    reached = step_and (propagation, steps.in_first (steps.first_empty (λ e. cc))) (step_and (propagation, steps.sides_change (λ e. cc)) no_step);
+    last = λ c s. empty_side_stays s.1;
+  }
+
+  nested_stays : {g : RuleGroup} {c : Tree L} → ¬ (Step g (joined choice (joined choice empty text no_trees) text no_trees) c)
+  nested_stays (steps.other_not_allowed n h) = n refl
+  nested_stays (steps.in_first d) = empty_side_stays d
+  nested_stays (steps.in_second d) = elim d [ ]
+  nested_stays (steps.in_others d) = elim d [ ]
+
+  -- `text | empty | text` is nested from the left, and then the inner choice changes its sides
+  nested_from_the_left : IsSimpleFormOf {L = L} (joined choice text empty (tree_and text no_trees))
+      (joined choice (joined choice empty text no_trees) text no_trees)
+  nested_from_the_left = record {
+    reached = step_and (rewriting, steps.nest) (step_and (propagation, steps.in_first (steps.sides_change (λ e. cc))) no_step);
+    last = λ c s. nested_stays s.1;
   }

@@ -1,7 +1,9 @@
 -- The trees of a table, one pattern at a time.
 use Rattle.std.proofs.Common.{◌≡◌, ℕ, ◌<◌, List, [], ◌∷◌, ◌++◌, length, take, drop, slice_get, Option, Some, None, option_copied, IfSome, Bor, refl, ap, ap₂}
-use Rattle.std.proofs.Common.{sym, ◌∙◌}
-use Rattle.std.proofs.lemmas.List.{take-append-drop}
+use Rattle.std.proofs.Common.{sym, ◌∙◌, subst, inl, inr, get_or, ◌+◌, length-append, arith}
+use Rattle.std.proofs.lemmas.Bool.{cases_lt}
+use Rattle.std.proofs.lemmas.List.{take-append-drop, get_or_push, get_or_append_left}
+use Rattle.std.proofs.lemmas.Option.{slice_get_within, get_or_from_slice_get, slice_get-get_or}
 use Rattle.rng_model.specs.Tree as tree
 use Rattle.rng_model.specs.Tree.{group, choice, interleave, s_not_allowed}
 use Rattle.rng_model.specs.View.{class_of}
@@ -54,3 +56,19 @@ unfolding trees
 tree_stays ps qs id front inside =
     let split : qs ≡ ps ++ drop (length ps) qs = sym (take-append-drop (length ps) qs) ∙ ap (λ xs. xs ++ drop (length ps) qs) front in
     numbered.tree_stays s_not_allowed over_numbers ps qs (drop (length ps) qs) id.0 split inside
+
+-- a pattern whose children stand before it leaves it so
+pub falls_after_push : (ps qs : List Simple) (p : Simple) → Falls ps → qs ≡ ps ++ p ∷ [] → AreChildrenBelow (length ps) p → Falls qs
+falls_after_push ps qs p falls more below i q found =
+    let inside = slice_get_within qs i q found in
+    let long : length qs ≡ length ps + 1 = omega (arith, ap length more, length-append ps (p ∷ [])) in
+    let at : get_or qs i q ≡ q = get_or_from_slice_get qs i q q found in
+    elim (cases_lt i (length ps)) [
+      | inl old ↦
+          let same : get_or ps i q ≡ q = sym (get_or_append_left ps (p ∷ []) q i old) ∙ ap (λ xs. get_or xs i q) (sym more) ∙ at in
+          falls i q (slice_get-get_or ps i q old ∙ ap (λ x. Some x) same)
+      | inr new ↦
+          let last : length ps ≡ i = omega arith in
+          let same : p ≡ q = sym (get_or_push ps p q i last) ∙ ap (λ xs. get_or xs i q) (sym more) ∙ at in
+          subst (λ x. AreChildrenBelow i x) same (subst (λ n. AreChildrenBelow n p) last below)
+    ]

@@ -3,8 +3,8 @@ use Rattle.std.proofs.Common.{◌≡◌, refl, ap, ◌∙◌, subst, Some, Optio
 use Rattle.rng_model.specs.Tree.{Tree, leaf, attribute, list, data_except, mixed, optional, zero_or_more, one_or_more, Trees}
 use Rattle.rng_model.specs.Patterns.{Place, Point}
 use Rattle.rng_model.specs.Schema.{Schema, Definition, body}
-use Rattle.rng_model.specs.SimpleForm.{LeafIn, LeafAmong}
-use Rattle.rng_model.specs.SimpleForm as at
+use Rattle.rng_model.specs.Leaves.{LeafIn, LeafAmong}
+use Rattle.rng_model.specs.Leaves as at
 use Rattle.rng_model.specs.Unfolding.{Leaf, Aim, to_element, to_definition, aim, Unfolds, UnfoldAll, IsTreeOf}
 use Rattle.rng_model.specs.Unfolding as u
 

@@ -5,7 +5,8 @@ pub mod Tree
 pub mod Document
 pub mod Matching
 pub mod Lex
-pub mod Written
+pub mod Leaves
+pub mod ClassSteps
 pub mod View
 pub mod Table
 pub mod Lines
@@ -17,9 +18,6 @@ pub mod EventView
 pub mod PyxClauses
 pub mod PyxHeld
 pub mod Texts
-pub mod Unfold
-pub mod Step
-pub mod SimpleForm
 pub mod Characters
 pub mod Blanks
 pub mod Types

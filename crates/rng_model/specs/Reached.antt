@@ -1,7 +1,7 @@
 -- Which elements a schema reaches from its start: by unfolded trees, before notAllowed is carried outward, and by simple
 -- forms (RELAX NG Specification, sections 4.18 to 4.20).
 use Rattle.rng_model.specs.Tree.{Tree}
-use Rattle.rng_model.specs.SimpleForm.{LeafIn}
+use Rattle.rng_model.specs.Leaves.{LeafIn}
 use Rattle.rng_model.specs.Schema.{Schema, main_start}
 use Rattle.rng_model.specs.Unfolding.{Leaf, IsTreeOf, IsBodyOf}
 use Rattle.rng_model.specs.Simplification.{IsSimpleFormOf}

@@ -8,7 +8,7 @@ use Rattle.rng_model.specs.Names.{Name, NameClass, NameClasses, any_name, any_ex
 use Rattle.rng_model.specs.Tree.{Tree, Datatype, Simple, as_tree}
 use Rattle.rng_model.specs.Table.{Grammar}
 use Rattle.rng_model.specs.Datatypes.{IsKnownDatatype, IsAllowed}
-use Rattle.rng_model.specs.Step.{IsSimpleClassOf}
+use Rattle.rng_model.specs.ClassSteps.{IsSimpleClassOf}
 use Rattle.rng_model.specs.Patterns.{Place, Pattern, element, attribute, data_of, data_except, value, without_parameters, ref, parent_ref}
 use Rattle.rng_model.specs.Schema.{Schema, Component, main_start, HasComponent, IsWrittenAt}
 use Rattle.rng_model.specs.Unfolding.{Leaf, IsTreeOf, IsBodyOf}

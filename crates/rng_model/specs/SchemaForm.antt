@@ -4,9 +4,8 @@ use Rattle.std.specs.Prelude.{◌≡◌, ℕ, ◌<◌, List, length, slice_get, 
 use Rattle.rng_model.specs.Names.{NameClass}
 use Rattle.rng_model.specs.Tree.{Tree, Simple, as_tree}
 use Rattle.rng_model.specs.Table.{Grammar}
-use Rattle.rng_model.specs.Unfold.{renamed}
-use Rattle.rng_model.specs.Step.{IsSimpleClassOf}
-use Rattle.rng_model.specs.SimpleForm.{AreLeavesBelow}
+use Rattle.rng_model.specs.Leaves.{renamed, AreLeavesBelow}
+use Rattle.rng_model.specs.ClassSteps.{IsSimpleClassOf}
 use Rattle.rng_model.specs.Schema.{Schema, main_start}
 use Rattle.rng_model.specs.Unfolding.{Leaf, IsTreeOf, IsBodyOf}
 use Rattle.rng_model.specs.Simplification.{IsSimpleFormOf}

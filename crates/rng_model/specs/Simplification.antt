@@ -3,7 +3,7 @@
 -- and those that carry notAllowed and empty outward (sections 4.20 and 4.21).
 use Rattle.std.specs.Prelude.{◌≡◌}
 use Rattle.rng_model.specs.Names.{NameClass}
-use Rattle.rng_model.specs.Step.{ClassStep, HasNotAllowed}
+use Rattle.rng_model.specs.ClassSteps.{ClassStep}
 use Rattle.rng_model.specs.Tree.{Datatype, Connector, choice, interleave}
 use Rattle.rng_model.specs.Tree.{Tree, not_allowed, empty, text, attribute, list, data_of, data_except, mixed, optional, zero_or_more, one_or_more, joined}
 use Rattle.rng_model.specs.Tree.{Trees, no_trees, tree_and}
@@ -13,6 +13,11 @@ pub data RuleGroup : Type 0 where
   rewriting : RuleGroup
   -- 4.20 and 4.21
   propagation : RuleGroup
+
+-- notAllowed is one of the trees
+pub data HasNotAllowed {L : Type 0} : Trees L → Type 0 where
+  this_one : {ts : Trees L} → HasNotAllowed (tree_and not_allowed ts)
+  later_one : {t : Tree L} {ts : Trees L} → HasNotAllowed ts → HasNotAllowed (tree_and t ts)
 
 -- one step of a group
 mutual

@@ -1,5 +1,6 @@
 -- A simple grammar in tables, and the trees that it stands for.
-use Rattle.std.specs.Prelude.{◌≡◌, ℕ, ◌<◌, ⊤, List, [], ◌∷◌, ◌++◌, length, fold, map, All, slice_get, slice_index_or, Some, Bool, true, ◌==◌, ◌&&◌, IsTrue, string_bytes}
+use Rattle.std.specs.Prelude.{◌≡◌, ℕ, ◌<◌, ⊤, List, [], ◌∷◌, ◌++◌, length, fold, map, All, slice_get, slice_index_or, Some, Bool, true, ◌==◌, ◌&&◌, IsTrue}
+use Rattle.std.specs.Prelude.{string_bytes}
 use Rattle.std.specs.List.{list_all}
 use Rattle.rng_model.specs.Names as names
 use Rattle.rng_model.specs.Names.{In}
@@ -8,7 +9,6 @@ use Rattle.rng_model.specs.Tree.{Tree, choice, group, interleave, IsSimpleBody, 
 use Rattle.rng_model.specs.Document.{Item}
 use Rattle.rng_model.specs.Matching.{Leaves, Texts, IsValid}
 use Rattle.rng_model.specs.Lex.{HasText}
-use Rattle.rng_model.specs.Written.{Nothing}
 use Rattle.rng_model.specs.View.{class_of}
 use Rattle.rng_model.specs.Types.{datatype_of}
 use Rattle.rng_model.specs.Patterns.{without_parameters}
@@ -76,6 +76,9 @@ pub record IsInSimpleSyntax (g : Grammar) : Type 0 where
 pub data IsListed (g : Grammar) : Unit {0} → ℕ → names.NameClass → Unit {0} → Tree ℕ → Type 0 where
   is_listed : {x y : Unit {0}} {k : ℕ} {c : names.NameClass} {t : Tree ℕ} {s : tree.Simple ℕ} → slice_get g.elements k ≡ Some (c, s) → t ≡ as_tree s
       → IsListed g x k c y t
+
+-- no leaf stands for another tree
+pub data Nothing (X L : Type 0) : X → L → X → Tree L → Type 0 where
 
 abbrev pub grammar_leaves : Grammar → Texts → Leaves (Unit {0}) ℕ
 grammar_leaves g texts = record { StandsFor = Nothing (Unit {0}) ℕ; IsElement = IsListed g; Excepts = λ x a w. HasText texts a w }

@@ -6,12 +6,8 @@ use Rattle.rng_model.specs.declared.name.NameClass.TheOpen.{NameClass-F}
 use Rattle.rng_model.specs.declared.document.Attr.{Attr}
 use Rattle.rng_model.specs.declared.document.Item.{Item, fold-Item}
 use Rattle.rng_model.specs.declared.document.Item.TheOpen.{Item-F}
-use Rattle.rng_model.specs.declared.pattern.Pattern.{Pattern, fold-Pattern}
-use Rattle.rng_model.specs.declared.pattern.Pattern.TheOpen.{Pattern-F}
 use Rattle.rng_model.specs.Names as names
-use Rattle.rng_model.specs.Tree.{group, choice}
 use Rattle.rng_model.specs.Document as document
-use Rattle.rng_model.specs.Written as written
 
 abbrev pub name_of : Name → names.Name
 name_of n = record { ns = string_bytes n.ns; local = string_bytes n.local }
@@ -42,16 +38,3 @@ item_step (Item-F.Element name attrs children) = document.an_element (name_of na
 
 abbrev pub item_of : Item → document.Item
 item_of = fold-Item document.Item item_step
-
--- one level of a pattern, with each pattern inside already seen as its tree
-abbrev pub pattern_step : Pattern-F written.Pattern → written.Pattern
-pattern_step Pattern-F.NotAllowed = written.not_allowed
-pattern_step Pattern-F.Empty = written.empty
-pattern_step Pattern-F.Text = written.text
-pattern_step (Pattern-F.Element class body) = written.element (class_of class) body.value
-pattern_step (Pattern-F.Attribute class body) = written.attribute (class_of class) body.value
-pattern_step (Pattern-F.Group all) = written.members group all.items
-pattern_step (Pattern-F.Choice all) = written.members choice all.items
-
-abbrev pub pattern_of : Pattern → written.Pattern
-pattern_of = fold-Pattern written.Pattern pattern_step

@@ -3,7 +3,7 @@
 /// An expanded name: a namespace, empty where there is none, and a local name.
 ///
 /// Namespaces in XML 1.0, section 2.1.
-#[derive(Debug, Drop, PartialEq, Eq)]
+#[derive(Debug, Drop, PartialEq, Eq, Hash)]
 pub struct Name {
     pub ns: String,
     pub local: String,

@@ -2,39 +2,9 @@
 use Rattle.std.proofs.Common.{◌≡◌, ℕ, ◌<◌, max, bytes_eq, List, length, Bool, true, false, not, ◌&&◌, ◌||◌, refl, ap, ap₂, sym, ◌∙◌, subst, rules, arith}
 use Rattle.std.proofs.lemmas.Slice.Eq.{bytes_eq-Decides}
 use Rattle.rng_model.specs.Names.{Name, NameClass, NameClasses, AreApart, any_name, any_except, ns_name, ns_except, name_is, one_of, no_classes, class_and}
-use Rattle.rng_names.specs.Holding.{holds, some_hold, same_name, pair}
-use Rattle.rng_names.specs.Written.{both_hold, is_met, is_some_met, longest, longest_of}
+use Rattle.rng_names.specs.Holding.{holds, some_hold, pair}
+use Rattle.rng_names.specs.Written.{both_hold, is_met, is_some_met, longest, longest_of, some_write_name, some_write_ns, writes_name, writes_ns}
 use Rattle.rng_names.proofs.Holding.{same_name-Decides, holds-Decides}
-
--- ---- what is written in a class
-
--- the name is written
-abbrev mutual
-  writes_name : NameClass → Name → Bool
-  writes_name any_name q = false
-  writes_name (any_except c) q = writes_name c q
-  writes_name (ns_name u) q = false
-  writes_name (ns_except u c) q = writes_name c q
-  writes_name (name_is n) q = same_name n q
-  writes_name (one_of c d cs) q = writes_name c q || (writes_name d q || some_write_name cs q)
-
-  some_write_name : NameClasses → Name → Bool
-  some_write_name no_classes q = false
-  some_write_name (class_and c cs) q = writes_name c q || some_write_name cs q
-
--- the namespace is written
-abbrev mutual
-  writes_ns : NameClass → List ℕ → Bool
-  writes_ns any_name v = false
-  writes_ns (any_except c) v = writes_ns c v
-  writes_ns (ns_name u) v = bytes_eq u v
-  writes_ns (ns_except u c) v = bytes_eq u v || writes_ns c v
-  writes_ns (name_is n) v = bytes_eq n.ns v
-  writes_ns (one_of c d cs) v = writes_ns c v || (writes_ns d v || some_write_ns cs v)
-
-  some_write_ns : NameClasses → List ℕ → Bool
-  some_write_ns no_classes v = false
-  some_write_ns (class_and c cs) v = writes_ns c v || some_write_ns cs v
 
 -- ---- tests
 
@@ -103,38 +73,60 @@ mutual
   some_met_by_ns test fresh no_classes v passes e = e
   some_met_by_ns test fresh (class_and c cs) v passes e = or_both _ _ _ _ (met_by_ns test fresh c v passes) (some_met_by_ns test fresh cs v passes) e
 
--- ---- a name that is not written is like one with the fresh local name
+-- ---- a name that is not written is like each other of its namespace that is not, and so like one with the fresh local name
 
 and-off : (x y : Bool) → x ≡ false → (x && y) ≡ false
 and-off false y e = refl
 and-off true y e = search rules
 
-other_local : (n q : Name) (fresh : List ℕ) → same_name n q ≡ false → max (length n.ns) (length n.local) < length fresh
-    → same_name n q ≡ same_name n (pair q.ns fresh)
-other_local n q fresh e less = e ∙ sym (and-off (bytes_eq n.local fresh) (bytes_eq n.ns q.ns) (shorter n.local fresh (max-below _ _ _ less).1))
+or-off : (x y : Bool) → x ≡ false → y ≡ false → (x || y) ≡ false
+or-off false y e f = f
+or-off true y e f = search rules
 
 mutual
-  like_local : (c : NameClass) (q : Name) (fresh : List ℕ) → writes_name c q ≡ false → longest c < length fresh → holds c q ≡ holds c (pair q.ns fresh)
-  like_local any_name q fresh e less = refl
-  like_local (any_except c) q fresh e less = ap not (like_local c q fresh e less)
-  like_local (ns_name u) q fresh e less = refl
-  like_local (ns_except u c) q fresh e less = ap (λ b. bytes_eq u q.ns && not b) (like_local c q fresh e (max-below (length u) (longest c) _ less).1)
-  like_local (name_is n) q fresh e less = other_local n q fresh e less
-  like_local (one_of c d cs) q fresh e less =
+  pub like_unwritten : (c : NameClass) (u v w : List ℕ) → writes_name c (pair u v) ≡ false → writes_name c (pair u w) ≡ false
+      → holds c (pair u v) ≡ holds c (pair u w)
+  like_unwritten any_name u v w e f = refl
+  like_unwritten (any_except c) u v w e f = ap not (like_unwritten c u v w e f)
+  like_unwritten (ns_name x) u v w e f = refl
+  like_unwritten (ns_except x c) u v w e f = ap (λ b. bytes_eq x u && not b) (like_unwritten c u v w e f)
+  like_unwritten (name_is n) u v w e f = e ∙ sym f
+  like_unwritten (one_of c d cs) u v w e f =
       let first = neither _ _ e in
       let rest = neither _ _ first.1 in
+      let first' = neither _ _ f in
+      let rest' = neither _ _ first'.1 in
+      ap₂ (λ x y. x || y) (like_unwritten c u v w first.0 first'.0)
+      (ap₂ (λ x y. x || y) (like_unwritten d u v w rest.0 rest'.0) (some_like_unwritten cs u v w rest.1 rest'.1))
+
+  some_like_unwritten : (cs : NameClasses) (u v w : List ℕ) → some_write_name cs (pair u v) ≡ false → some_write_name cs (pair u w) ≡ false
+      → some_hold cs (pair u v) ≡ some_hold cs (pair u w)
+  some_like_unwritten no_classes u v w e f = refl
+  some_like_unwritten (class_and c cs) u v w e f =
+      let apart = neither _ _ e in
+      let apart' = neither _ _ f in
+      ap₂ (λ x y. x || y) (like_unwritten c u v w apart.0 apart'.0) (some_like_unwritten cs u v w apart.1 apart'.1)
+
+mutual
+  unwritten : (c : NameClass) (u fresh : List ℕ) → longest c < length fresh → writes_name c (pair u fresh) ≡ false
+  unwritten any_name u fresh less = refl
+  unwritten (any_except c) u fresh less = unwritten c u fresh less
+  unwritten (ns_name x) u fresh less = refl
+  unwritten (ns_except x c) u fresh less = unwritten c u fresh (max-below (length x) (longest c) _ less).1
+  unwritten (name_is n) u fresh less = and-off (bytes_eq n.local fresh) (bytes_eq n.ns u) (shorter n.local fresh (max-below _ _ _ less).1)
+  unwritten (one_of c d cs) u fresh less =
       let below = max-below (longest c) (max (longest d) (longest_of cs)) _ less in
       let after = max-below (longest d) (longest_of cs) _ below.1 in
-      ap₂ (λ x y. x || y) (like_local c q fresh first.0 below.0)
-      (ap₂ (λ x y. x || y) (like_local d q fresh rest.0 after.0) (some_like_local cs q fresh rest.1 after.1))
+      or-off _ _ (unwritten c u fresh below.0) (or-off _ _ (unwritten d u fresh after.0) (none_written cs u fresh after.1))
 
-  some_like_local : (cs : NameClasses) (q : Name) (fresh : List ℕ) → some_write_name cs q ≡ false → longest_of cs < length fresh
-      → some_hold cs q ≡ some_hold cs (pair q.ns fresh)
-  some_like_local no_classes q fresh e less = refl
-  some_like_local (class_and c cs) q fresh e less =
-      let apart = neither _ _ e in
+  none_written : (cs : NameClasses) (u fresh : List ℕ) → longest_of cs < length fresh → some_write_name cs (pair u fresh) ≡ false
+  none_written no_classes u fresh less = refl
+  none_written (class_and c cs) u fresh less =
       let below = max-below (longest c) (longest_of cs) _ less in
-      ap₂ (λ x y. x || y) (like_local c q fresh apart.0 below.0) (some_like_local cs q fresh apart.1 below.1)
+      or-off _ _ (unwritten c u fresh below.0) (none_written cs u fresh below.1)
+
+pub like_local : (c : NameClass) (q : Name) (fresh : List ℕ) → writes_name c q ≡ false → longest c < length fresh → holds c q ≡ holds c (pair q.ns fresh)
+like_local c q fresh e less = like_unwritten c q.ns q.local fresh e (unwritten c q.ns fresh less)
 
 -- ---- a namespace that is not written is like the fresh one
 
@@ -142,7 +134,7 @@ other_ns : (u v fresh : List ℕ) → bytes_eq u v ≡ false → length u < leng
 other_ns u v fresh e less = e ∙ sym (shorter u fresh less)
 
 mutual
-  like_ns : (c : NameClass) (v w fresh : List ℕ) → writes_ns c v ≡ false → longest c < length fresh → holds c (pair v w) ≡ holds c (pair fresh w)
+  pub like_ns : (c : NameClass) (v w fresh : List ℕ) → writes_ns c v ≡ false → longest c < length fresh → holds c (pair v w) ≡ holds c (pair fresh w)
   like_ns any_name v w fresh e less = refl
   like_ns (any_except c) v w fresh e less = ap not (like_ns c v w fresh e less)
   like_ns (ns_name u) v w fresh e less = other_ns u v fresh e less

@@ -1,6 +1,5 @@
 // Whether two name classes have a name in common.
 ghost use Rattle.std.specs.Prelude.{◌≡◌, ◌<◌, ◌&&◌, length, ◌⊎◌, IfOk, IsOk, IsTrue, IsFalse};
-ghost use Rattle.std.specs.String.{string_bytes};
 ghost use Rattle.rng_model.specs.Names.{Overlap, AreApart};
 ghost use Rattle.rng_model.specs.View.{class_of};
 ghost use Rattle.rng_names.specs.Alternatives.{IsFresh, Stands};
@@ -10,8 +9,9 @@ ghost use Rattle.rng_names.specs.Written.{both_hold, is_met, longest};
 
 use crate::alternatives::Alternatives;
 use crate::membership::contains;
+use crate::written::{fresh_text, longest};
 use rng_model::{NameClass, OutOfMemory};
-use std::alloc::{AllocError, Global};
+use std::alloc::Global;
 
 /// Whether some name lies in both classes, a name being any pair of texts.
 ///
@@ -114,33 +114,4 @@ fn is_met(written: &NameClass, fresh: &str, a: &Alternatives, b: &Alternatives) 
             false
         }
     }
-}
-
-/// The bytes of the longest text that is written in the class.
-fn longest(class: &NameClass) -> usize
-    ensures { result ≡ longest (class_of class.now) }
-{
-    match class {
-        NameClass::Any => 0,
-        NameClass::AnyExcept(except) => longest(except),
-        NameClass::Ns(ns) => ns.len(),
-        NameClass::NsExcept(ns, except) => ns.len().max(longest(except)),
-        NameClass::Name(name) => name.ns.len().max(name.local.len()),
-        NameClass::Choice(members) => {
-            let mut most = 0;
-            'members: for member in members {
-                most = most.max(longest(member));
-            }
-            most
-        }
-    }
-}
-
-/// A text of more bytes than these.
-fn fresh_text(alloc: Global, bytes: usize) -> Result<String, AllocError>
-    ensures { IfOk result (λ text. bytes < length (string_bytes text)) }
-{
-    let mut text = "a".repeat(alloc, bytes)?;
-    text.push('a')?;
-    Ok(text)
 }

@@ -10,6 +10,7 @@ use Rattle.rng_model.specs.declared.simple.Simple.TheVariants as simple
 use Rattle.rng_model.specs.declared.simple.PatternId.{PatternId}
 use Rattle.rng_model.specs.declared.name.NameClass.{NameClass}
 use Rattle.rng_model.specs.Table.{AreChildrenBelow, Falls, IsTable, Table}
+use Rattle.rng_model.proofs.MadeLists.{past_end}
 use Rattle.rng_rules.specs.NamesMeetReach.{AreBelow}
 use Rattle.rng_rules.specs.NamesMeetRows.{IsAbove, Passes, children, part_rows, passed}
 use Rattle.rng_rules.proofs.NamesMeetQueues.{All-from_contains, one_only, not_there, some_same}
@@ -17,26 +18,6 @@ use Rattle.rng_rules.proofs.NamesMeetQueues.{All-from_contains, one_only, not_th
 pub on_ok : {A E : Type 0} {P Q : Type 0} (r : Result A E) → (P → Q) → OnOk r P → OnOk r Q
 on_ok (Ok x) f p = f p
 on_ok (Err x) f p = p
-
-pub past_end : {A : Type 0} (xs : List A) (n : ℕ) → None ≡ slice_get xs n → length xs ≤ n
-past_end xs n e = elim (cases_lt n (length xs)) [
-  | inl h ↦ elim (slice_get_cases xs n).1 [ inl f ↦ absurd (let g = f.2 in cc) | inr f ↦ omega arith ]
-  | inr h ↦ h
-]
-
--- one more of what is made of each
-pub made_more : {A B : Type 0} (f : A → B) (xs : List A) (n : ℕ) (x : A) (ys zs : List B) → Some x ≡ slice_get xs n → n ≡ length ys → ys ≡ take n (map f xs)
-    → zs ≡ ys ++ f x ∷ [] → zs ≡ take (length zs) (map f xs)
-made_more f xs n x ys zs at long so_far more =
-    let inside : n < length xs = slice_get_within xs n x (sym at) in
-    let here : f x ≡ get_or (map f xs) n (f x) = sym (get_or-map f xs n x (f x) inside ∙ ap f (get_or_from_slice_get xs n x x (sym at))) in
-    let longer : length zs ≡ n + 1 = omega (arith, ap length more, length-append ys (f x ∷ []), long) in
-    more ∙ ap (λ y. ys ++ y ∷ []) here ∙ ap (λ ws. ws ++ get_or (map f xs) n (f x) ∷ []) so_far
-    ∙ sym (take_more (map f xs) n (f x) (omega (arith, length-map xs f))) ∙ ap (λ k. take k (map f xs)) (sym longer)
-
-pub made_all : {A B : Type 0} (f : A → B) (xs : List A) (n : ℕ) (ys : List B) → None ≡ slice_get xs n → n ≡ length ys → ys ≡ take (length ys) (map f xs)
-    → ys ≡ map f xs
-made_all f xs n ys at long so_far = so_far ∙ take_all (length ys) (map f xs) (omega (arith, past_end xs n at, length-map xs f))
 
 -- ---- a row in the list of its child
 

@@ -5,9 +5,8 @@ use Rattle.rng_model.specs.Tree.{Datatype, Connector, choice, group, interleave,
 use Rattle.rng_model.specs.Tree.{value, mixed, optional, zero_or_more, one_or_more, joined, Trees, no_trees, tree_and}
 use Rattle.rng_model.specs.Matching.{Texts}
 use Rattle.rng_model.specs.Lex.{Lex, LexOne, LexAll}
-use Rattle.rng_model.specs.Unfold.{renamed, all_renamed}
-use Rattle.rng_model.specs.SimpleForm.{LeafIn, LeafAmong}
-use Rattle.rng_model.specs.SimpleForm as f
+use Rattle.rng_model.specs.Leaves.{renamed, all_renamed, LeafIn, LeafAmong}
+use Rattle.rng_model.specs.Leaves as f
 use Rattle.rng_simple.proofs.StepLex.{repeats}
 use Rattle.rng_simple.proofs.NestedNames.{either}
 

@@ -8,14 +8,13 @@ use Rattle.rng_model.specs.Tree.{Tree, Simple, s_leaf, as_tree, empty}
 use Rattle.rng_graph.specs.InTwos.{nested}
 use Rattle.rng_simple.specs.SimpleOf.{simple_of}
 use Rattle.rng_model.specs.Schema.{Schema, Definition, main_start}
-use Rattle.rng_model.specs.SimpleForm.{LeafIn}
+use Rattle.rng_model.specs.Leaves.{LeafIn, AreLeavesBelow}
 use Rattle.rng_model.specs.Unfolding.{Leaf, content_of, to_definition, aim, IsTreeOf, IsBodyOf}
 use Rattle.rng_model.specs.Reached.{IsReachedByTrees, from_start, from_element, IsReachedBySimpleForms, from_simple_start, from_simple_body}
 use Rattle.rng_graph.specs.Expansion.{KeepsExpansion}
 use Rattle.rng_graph.specs.Met.{met_start, met_in_element}
-use Rattle.rng_simple.specs.Representation.{simple_renamed}
+use Rattle.rng_simple.specs.Renamed.{simple_renamed}
 use Rattle.rng_model.specs.Table.{Grammar}
-use Rattle.rng_model.specs.SimpleForm.{AreLeavesBelow}
 use Rattle.rng_simple.specs.Numbering.{AreDistinct, no_element, element_at, AreBodies, IsListedAs, IsNumbering}
 use Rattle.rng_model.specs.SchemaForm.{IsSimpleGrammarOf, IsOnlySimpleGrammarOf}
 use Rattle.rng_simple.specs.SimpleWith.{simple_with, simple_at}

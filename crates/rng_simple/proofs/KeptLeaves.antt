@@ -4,8 +4,8 @@ use Rattle.std.proofs.Common.{◌≡◌, ◌⊎◌, inl, inr, refl, List, ℕ}
 use Rattle.rng_model.specs.Names.{NameClass}
 use Rattle.rng_model.specs.Tree.{Datatype, Connector, choice, group, interleave, Tree, empty, text, leaf, attribute, list, data_of, data_except}
 use Rattle.rng_model.specs.Tree.{value, mixed, optional, zero_or_more, one_or_more, joined, Trees, no_trees, tree_and, Simple, s_empty, s_text, as_tree}
-use Rattle.rng_model.specs.SimpleForm.{LeafIn}
-use Rattle.rng_model.specs.SimpleForm as at
+use Rattle.rng_model.specs.Leaves.{LeafIn}
+use Rattle.rng_model.specs.Leaves as at
 use Rattle.rng_graph.specs.InTwos.{nested}
 use Rattle.rng_simple.specs.SimpleOf.{Sort, nothing, sort_of, attribute_by, list_by, except_by, one_or_more_by, choice_by, both_by, join, some_of, simple_of}
 use Rattle.rng_simple.specs.SimpleOf.{join_all}

@@ -10,7 +10,7 @@ use Rattle.rng_model.specs.Tree.{Simple, s_not_allowed, s_empty, s_text, s_leaf,
 use Rattle.rng_model.specs.Tree.{s_one_or_more, s_joined}
 use Rattle.rng_model.specs.Datatypes.{IsKnownDatatype, IsValueDatatype, AreDatatypesKnown}
 use Rattle.rng_model.specs.Table.{Grammar}
-use Rattle.rng_model.specs.Unfold.{renamed}
+use Rattle.rng_model.specs.Leaves.{renamed, LeafIn, LeafAmong}
 use Rattle.rng_model.specs.Patterns as written
 use Rattle.rng_model.specs.Patterns.{Place, Position, Pattern, Patterns, no_patterns, pattern_and, Point, an_element, a_ref, a_parent_ref, a_grammar}
 use Rattle.rng_model.specs.Patterns.{pattern_tree, pattern_trees, without_parameters, IsWrittenIn, itself, in_element, in_attribute, in_list, in_except}
@@ -20,8 +20,7 @@ use Rattle.rng_model.specs.Schema.{Schema, Component, Definition, main_start, bo
 use Rattle.rng_model.specs.Schema.{trees_named, HasComponent, IsWrittenAt}
 use Rattle.rng_model.specs.SchemaClauses.{BreaksDatatype}
 use Rattle.rng_model.specs.SchemaForm.{IsElementOf, IsSimpleFormOfSchema, IsSameUpToNumbering, IsSimpleGrammarOf, SimpleForm}
-use Rattle.rng_model.specs.SimpleForm.{LeafIn, LeafAmong}
-use Rattle.rng_model.specs.SimpleForm as at
+use Rattle.rng_model.specs.Leaves as at
 use Rattle.rng_model.specs.Simplification as step
 use Rattle.rng_model.specs.Simplification.{RuleGroup, Step, StepAmong, AnyStep, Steps}
 use Rattle.rng_model.specs.Unfolding as unfolding_of

@@ -1,25 +1,16 @@
-pub mod GrammarBuilder
 pub mod Sorts
 pub mod StepSimpleOf
 pub mod NoStep
 pub mod Reached
 pub mod Normal
-pub mod Unique
 pub mod Sharing
 pub mod StepMatches
 pub mod StepLex
 pub mod NestedNames
 pub mod Correspondence
 pub mod Rereading
-pub mod SameDocuments
+pub mod MappedLists
 pub mod Renamed
-pub mod Listed
-pub mod Representation
-pub mod Members
-pub mod Nesting
-pub mod Views
-pub mod Numbered
-pub mod Examples
 pub mod SimpleForms
 pub mod PointSimples
 pub mod SimpleLeaves
@@ -47,3 +38,6 @@ pub mod SchemaDocuments
 pub mod SimplifiedSchemas
 pub mod OneNumber
 pub mod KnownDatatypes
+mod LabelCodes
+mod RowLabels
+mod ToldApart

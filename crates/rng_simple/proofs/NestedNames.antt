@@ -1,8 +1,8 @@
 -- Nesting in twos keeps the names of a class.
 use Rattle.std.proofs.Common.{◌⊎◌, inl, inr}
 use Rattle.rng_model.specs.Names.{Name, NameClass, any_name, any_except, ns_name, ns_except, name_is, one_of, NameClasses, no_classes, class_and}
-use Rattle.rng_model.specs.Step.{ClassStep, ClassesStep}
-use Rattle.rng_model.specs.Step as step
+use Rattle.rng_model.specs.ClassSteps.{ClassStep, ClassesStep}
+use Rattle.rng_model.specs.ClassSteps as step
 use Rattle.rng_graph.specs.InTwos.{nested, nested_after}
 use Rattle.rng_model.specs.Names.{In, InSome}
 

@@ -1,72 +1,86 @@
 -- No rule applies in the value.
-use Rattle.std.proofs.Common.{◌≡◌, refl}
+use Rattle.std.proofs.Common.{◌≡◌, refl, List, ℕ}
 use Rattle.rng_model.specs.Names.{NameClass}
 use Rattle.rng_model.specs.Tree.{Datatype, Connector, choice, group, interleave}
 use Rattle.rng_model.specs.Tree.{Tree, not_allowed, empty, text, leaf, attribute, list, data_of, data_except, value, mixed, optional, zero_or_more, one_or_more}
 use Rattle.rng_model.specs.Tree.{joined, Trees, no_trees, tree_and}
 use Rattle.rng_model.specs.Tree.{Simple, s_empty, s_text, as_tree}
-use Rattle.rng_model.specs.Step.{ClassStep, ClassesStep, HasNotAllowed, Step, StepAmong, Steps, HasNoStep, IsSimpleFormOf}
-use Rattle.rng_model.specs.Step as step
+use Rattle.rng_model.specs.ClassSteps.{ClassStep}
+use Rattle.rng_model.specs.Simplification.{RuleGroup, Step}
+use Rattle.rng_model.specs.Simplification as step
 use Rattle.rng_simple.specs.SimpleOf.{Sort, attribute_by, list_by, except_by, one_or_more_by, choice_by, both_by, join, some_of, simple_of, join_all}
 use Rattle.rng_graph.specs.InTwos.{nested}
 use Rattle.rng_graph.proofs.SimpleClass.{class_normal}
+use Rattle.rng_simple.proofs.NoStep.{HasNoStep}
 use Rattle.rng_simple.proofs.Sorts.{Sorted, is_nothing, is_blank, is_proper, sorted, proper_is_allowed, proper_is_not_empty}
 
 module _ {L : Type 0} where
-  attribute_plain : (c : NameClass) (a : Tree L) → ((d : NameClass) → ClassStep c d → ⊥) → HasNoStep a → (a ≡ not_allowed → ⊥) → (b : Tree L)
-      → Step (attribute c a) b → ⊥
-  attribute_plain c a m n x b step.attribute_not_allowed = x refl
-  attribute_plain c a m n x b (step.in_class s) = m _ s
-  attribute_plain c a m n x b (step.in_attribute s) = n _ s
+  attribute_plain : (c : NameClass) (a : Tree L) → ((d : NameClass) → ClassStep c d → ⊥) → HasNoStep a → (a ≡ not_allowed → ⊥) → (g : RuleGroup) (b : Tree L)
+      → Step g (attribute c a) b → ⊥
+  attribute_plain c a m n x _ b step.attribute_not_allowed = x refl
+  attribute_plain c a m n x _ b (step.in_class s) = m _ s
+  attribute_plain c a m n x _ b (step.in_attribute s) = n _ _ s
 
-  list_plain : (a : Tree L) → HasNoStep a → (a ≡ not_allowed → ⊥) → (b : Tree L) → Step (list a) b → ⊥
-  list_plain a n x b step.list_not_allowed = x refl
-  list_plain a n x b (step.in_list s) = n _ s
+  list_plain : (a : Tree L) → HasNoStep a → (a ≡ not_allowed → ⊥) → (g : RuleGroup) (b : Tree L) → Step g (list a) b → ⊥
+  list_plain a n x _ b step.list_not_allowed = x refl
+  list_plain a n x _ b (step.in_list s) = n _ _ s
 
-  except_plain : (d : Datatype) (a : Tree L) → HasNoStep a → (a ≡ not_allowed → ⊥) → (b : Tree L) → Step (data_except d a) b → ⊥
-  except_plain d a n x b step.no_except = x refl
-  except_plain d a n x b (step.in_except s) = n _ s
+  except_plain : (d : Datatype) (a : Tree L) → HasNoStep a → (a ≡ not_allowed → ⊥) → (g : RuleGroup) (b : Tree L) → Step g (data_except d a) b → ⊥
+  except_plain d a n x _ b step.no_except = x refl
+  except_plain d a n x _ b (step.in_except s) = n _ _ s
 
-  some_plain : (a : Tree L) → HasNoStep a → (a ≡ not_allowed → ⊥) → (a ≡ empty → ⊥) → (b : Tree L) → Step (one_or_more a) b → ⊥
-  some_plain a n x y b step.one_or_more_not_allowed = x refl
-  some_plain a n x y b step.one_or_more_empty = y refl
-  some_plain a n x y b (step.in_one_or_more s) = n _ s
+  some_plain : (a : Tree L) → HasNoStep a → (a ≡ not_allowed → ⊥) → (a ≡ empty → ⊥) → (g : RuleGroup) (b : Tree L) → Step g (one_or_more a) b → ⊥
+  some_plain a n x y _ b step.one_or_more_not_allowed = x refl
+  some_plain a n x y _ b step.one_or_more_empty = y refl
+  some_plain a n x y _ b (step.in_one_or_more s) = n _ _ s
 
-  choice_plain : (a b : Tree L) → HasNoStep a → HasNoStep b → (a ≡ not_allowed → ⊥) → (b ≡ not_allowed → ⊥) → (b ≡ empty → ⊥) → (c : Tree L)
-      → Step (joined choice a b no_trees) c → ⊥
-  choice_plain a b m n x y z c (step.first_not_allowed k) = k refl
-  choice_plain a b m n x y z c (step.second_not_allowed k) = k refl
-  choice_plain a b m n x y z c (step.other_not_allowed k h) = k refl
-  choice_plain a b m n x y z c step.no_first_side = x refl
-  choice_plain a b m n x y z c step.no_second_side = y refl
-  choice_plain a b m n x y z c step.two_empties = z refl
-  choice_plain a b m n x y z c (step.first_empty k) = k refl
-  choice_plain a b m n x y z c (step.second_empty k) = k refl
-  choice_plain a b m n x y z c (step.sides_change k) = z refl
-  choice_plain a b m n x y z c (step.in_first s) = m _ s
-  choice_plain a b m n x y z c (step.in_second s) = n _ s
-  choice_plain a b m n x y z c (step.in_others s) = elim s [ ]
+  choice_plain : (a b : Tree L) → HasNoStep a → HasNoStep b → (a ≡ not_allowed → ⊥) → (b ≡ not_allowed → ⊥) → (b ≡ empty → ⊥) → (g : RuleGroup) (c : Tree L)
+      → Step g (joined choice a b no_trees) c → ⊥
+  choice_plain a b m n x y z _ c (step.first_not_allowed k) = k refl
+  choice_plain a b m n x y z _ c (step.second_not_allowed k) = k refl
+  choice_plain a b m n x y z _ c (step.other_not_allowed k h) = k refl
+  choice_plain a b m n x y z _ c step.no_first_side = x refl
+  choice_plain a b m n x y z _ c step.no_second_side = y refl
+  choice_plain a b m n x y z _ c step.two_empties = z refl
+  choice_plain a b m n x y z _ c (step.first_empty k) = k refl
+  choice_plain a b m n x y z _ c (step.second_empty k) = k refl
+  choice_plain a b m n x y z _ c (step.sides_change k) = z refl
+  choice_plain a b m n x y z _ c (step.in_first s) = m _ _ s
+  choice_plain a b m n x y z _ c (step.in_second s) = n _ _ s
+  choice_plain a b m n x y z _ c (step.in_others s) = elim s [ ]
 
   both_plain : (k : Connector) → (k ≡ choice → ⊥) → (a b : Tree L) → HasNoStep a → HasNoStep b → (a ≡ not_allowed → ⊥) → (a ≡ empty → ⊥)
-      → (b ≡ not_allowed → ⊥) → (b ≡ empty → ⊥) → (c : Tree L) → Step (joined k a b no_trees) c → ⊥
-  both_plain k h a b m n x y z w c (step.first_not_allowed _) = x refl
-  both_plain k h a b m n x y z w c (step.second_not_allowed _) = z refl
-  both_plain k h a b m n x y z w c (step.other_not_allowed _ i) = elim i [ ]
-  both_plain k h a b m n x y z w c step.no_first_side = h refl
-  both_plain k h a b m n x y z w c step.no_second_side = h refl
-  both_plain k h a b m n x y z w c step.two_empties = y refl
-  both_plain k h a b m n x y z w c (step.first_empty _) = y refl
-  both_plain k h a b m n x y z w c (step.second_empty _) = w refl
-  both_plain k h a b m n x y z w c (step.sides_change _) = h refl
-  both_plain k h a b m n x y z w c (step.in_first s) = m _ s
-  both_plain k h a b m n x y z w c (step.in_second s) = n _ s
-  both_plain k h a b m n x y z w c (step.in_others s) = elim s [ ]
+      → (b ≡ not_allowed → ⊥) → (b ≡ empty → ⊥) → (g : RuleGroup) (c : Tree L) → Step g (joined k a b no_trees) c → ⊥
+  both_plain k h a b m n x y z w _ c (step.first_not_allowed _) = x refl
+  both_plain k h a b m n x y z w _ c (step.second_not_allowed _) = z refl
+  both_plain k h a b m n x y z w _ c (step.other_not_allowed _ i) = elim i [ ]
+  both_plain k h a b m n x y z w _ c step.no_first_side = h refl
+  both_plain k h a b m n x y z w _ c step.no_second_side = h refl
+  both_plain k h a b m n x y z w _ c step.two_empties = y refl
+  both_plain k h a b m n x y z w _ c (step.first_empty _) = y refl
+  both_plain k h a b m n x y z w _ c (step.second_empty _) = w refl
+  both_plain k h a b m n x y z w _ c (step.sides_change _) = h refl
+  both_plain k h a b m n x y z w _ c (step.in_first s) = m _ _ s
+  both_plain k h a b m n x y z w _ c (step.in_second s) = n _ _ s
+  both_plain k h a b m n x y z w _ c (step.in_others s) = elim s [ ]
 
   nothing_plain : HasNoStep {L = L} not_allowed
-  nothing_plain b s = elim s [ ]
+  nothing_plain g b s = elim s [ ]
 
   empty_plain : HasNoStep {L = L} empty
-  empty_plain b s = elim s [ ]
+  empty_plain g b s = elim s [ ]
+
+  text_plain : HasNoStep {L = L} text
+  text_plain g b s = elim s [ ]
+
+  leaf_plain : (l : L) → HasNoStep (leaf l)
+  leaf_plain l g b s = elim s [ ]
+
+  data_plain : (d : Datatype) → HasNoStep {L = L} (data_of d)
+  data_plain d g b s = elim s [ ]
+
+  value_plain : (d : Datatype) (v : List ℕ) → HasNoStep {L = L} (value d v)
+  value_plain d v g b s = elim s [ ]
 
   attribute_normal : (c : NameClass) {s : Simple L} {x : Sort} → Sorted s x → ((d : NameClass) → ClassStep c d → ⊥) → HasNoStep (as_tree s)
       → HasNoStep (as_tree (attribute_by x c s))
@@ -80,7 +94,7 @@ module _ {L : Type 0} where
   list_normal (is_proper {s} p) n = list_plain (as_tree s) n (proper_is_allowed s p)
 
   except_normal : (d : Datatype) {s : Simple L} {x : Sort} → Sorted s x → HasNoStep (as_tree s) → HasNoStep (as_tree (except_by x d s))
-  except_normal d is_nothing n = λ b s. elim s [ ]
+  except_normal d is_nothing n = data_plain d
   except_normal d is_blank n = except_plain d empty n (λ e. cc)
   except_normal d (is_proper {s} p) n = except_plain d (as_tree s) n (proper_is_allowed s p)
 
@@ -120,14 +134,14 @@ module _ {L : Type 0} where
     pub normal : (a : Tree L) → HasNoStep (as_tree (simple_of a))
     normal not_allowed = nothing_plain
     normal empty = empty_plain
-    normal text = λ b s. elim s [ ]
-    normal (leaf l) = λ b s. elim s [ ]
+    normal text = text_plain
+    normal (leaf l) = leaf_plain l
     normal (attribute c a) = attribute_normal (nested c) (sorted (simple_of a)) (class_normal c) (normal a)
     normal (list a) = list_normal (sorted (simple_of a)) (normal a)
-    normal (data_of d) = λ b s. elim s [ ]
+    normal (data_of d) = data_plain d
     normal (data_except d a) = except_normal d (sorted (simple_of a)) (normal a)
-    normal (value d v) = λ b s. elim s [ ]
-    normal (mixed a) = join_normal interleave (simple_of a) s_text (normal a) (λ b s. elim s [ ])
+    normal (value d v) = value_plain d v
+    normal (mixed a) = join_normal interleave (simple_of a) s_text (normal a) text_plain
     normal (optional a) = join_normal choice (simple_of a) s_empty (normal a) empty_plain
     normal (zero_or_more a) = join_normal choice (some_of (simple_of a)) s_empty (some_normal (sorted (simple_of a)) (normal a)) empty_plain
     normal (one_or_more a) = some_normal (sorted (simple_of a)) (normal a)

@@ -6,8 +6,8 @@ use Rattle.rng_graph.specs.InTwos.{nested}
 use Rattle.rng_simple.specs.SimpleOf.{sort_of, attribute_by, list_by, except_by, join, some_of, simple_of, join_all}
 use Rattle.rng_model.specs.Patterns.{Place, Point}
 use Rattle.rng_model.specs.Schema.{Schema}
-use Rattle.rng_model.specs.SimpleForm.{LeafIn, LeafAmong}
-use Rattle.rng_model.specs.SimpleForm as at
+use Rattle.rng_model.specs.Leaves.{LeafIn, LeafAmong}
+use Rattle.rng_model.specs.Leaves as at
 use Rattle.rng_model.specs.Unfolding.{Leaf, Unfolds, UnfoldAll}
 use Rattle.rng_model.specs.Unfolding as u
 use Rattle.rng_simple.specs.SimpleWith.{simple_with, join_all_with}

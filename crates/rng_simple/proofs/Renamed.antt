@@ -1,14 +1,12 @@
--- Simple trees with renamed leaves, and which leaves the rules keep.
-use Rattle.std.proofs.Common.{◌≡◌, ◌⊎◌, inl, inr, refl, ap, ap₂, subst}
-use Rattle.rng_model.specs.Tree.{Connector, choice, group, interleave, Tree, attribute, list, data_except, one_or_more, joined, no_trees, as_tree}
+-- Simple trees with renamed leaves, and where the leaves of two that were joined come from.
+use Rattle.std.proofs.Common.{◌≡◌, ◌⊎◌, inl, inr, refl, ap, ap₂}
+use Rattle.rng_model.specs.Tree.{Connector, choice, group, interleave, attribute, list, data_except, one_or_more, joined, no_trees, as_tree}
 use Rattle.rng_model.specs.Tree.{Simple, s_not_allowed, s_empty, s_text, s_leaf, s_attribute, s_list, s_data, s_data_except, s_value, s_one_or_more, s_joined}
-use Rattle.rng_model.specs.Unfold.{Leaf, renamed, body_of}
-use Rattle.rng_model.specs.SimpleForm.{LeafIn, LeafAmong, IsReached}
-use Rattle.rng_model.specs.SimpleForm as f
-use Rattle.rng_simple.specs.SimpleOf.{Sort, nothing, blank, proper, sort_of, choice_by, both_by, joined_by, join, simple_of}
-use Rattle.rng_simple.specs.Representation.{simple_renamed}
+use Rattle.rng_model.specs.Leaves.{renamed, LeafIn}
+use Rattle.rng_model.specs.Leaves as f
+use Rattle.rng_simple.specs.SimpleOf.{Sort, nothing, blank, proper, sort_of, choice_by, both_by, joined_by, join}
+use Rattle.rng_simple.specs.Renamed.{simple_renamed}
 use Rattle.rng_simple.proofs.Sorts.{Sorted, is_nothing, is_blank, is_proper, sorted}
-use Rattle.rng_simple.proofs.Unique.{has_simple_form}
 
 module _ {K L : Type 0} where
   -- renaming is the same before and after
@@ -125,52 +123,3 @@ module _ {L : Type 0} where
   join_leaves choice l s u = choice_leaves l (sorted s) (sorted u)
   join_leaves group l s u = both_leaves group l (sorted s) (sorted u)
   join_leaves interleave l s u = both_leaves interleave l (sorted s) (sorted u)
-
-  choice_keeps : (l : L) {s u : Simple L} {x y : Sort} → Sorted s x → Sorted u y → LeafIn l (as_tree s) ⊎ LeafIn l (as_tree u)
-      → LeafIn l (as_tree (choice_by x y s u))
-  choice_keeps l is_nothing e (inl i) = elim i [ ]
-  choice_keeps l is_nothing e (inr i) = i
-  choice_keeps l is_blank e (inl i) = elim i [ ]
-  choice_keeps l is_blank is_nothing (inr i) = elim i [ ]
-  choice_keeps l is_blank is_blank (inr i) = elim i [ ]
-  choice_keeps l is_blank (is_proper q) (inr i) = f.of_second i
-  choice_keeps l (is_proper p) is_nothing (inl i) = i
-  choice_keeps l (is_proper p) is_nothing (inr i) = elim i [ ]
-  choice_keeps l (is_proper p) is_blank (inl i) = f.of_second i
-  choice_keeps l (is_proper p) is_blank (inr i) = elim i [ ]
-  choice_keeps l (is_proper p) (is_proper q) (inl i) = f.of_first i
-  choice_keeps l (is_proper p) (is_proper q) (inr i) = f.of_second i
-
-  both_keeps : (k : Connector) (l : L) {s u : Simple L} {x y : Sort} → Sorted s x → Sorted u y → (sort_of (both_by k x y s u) ≡ nothing → ⊥)
-      → LeafIn l (as_tree s) ⊎ LeafIn l (as_tree u) → LeafIn l (as_tree (both_by k x y s u))
-  both_keeps k l is_nothing e n (inl i) = elim i [ ]
-  both_keeps k l is_nothing e n (inr i) = absurd (n refl)
-  both_keeps k l is_blank e n (inl i) = elim i [ ]
-  both_keeps k l is_blank e n (inr i) = i
-  both_keeps k l (is_proper p) is_nothing n (inl i) = absurd (n refl)
-  both_keeps k l (is_proper p) is_nothing n (inr i) = elim i [ ]
-  both_keeps k l (is_proper p) is_blank n (inl i) = i
-  both_keeps k l (is_proper p) is_blank n (inr i) = elim i [ ]
-  both_keeps k l (is_proper p) (is_proper q) n (inl i) = f.of_first i
-  both_keeps k l (is_proper p) (is_proper q) n (inr i) = f.of_second i
-
-  -- sides that were joined keep their leaves, where not all became notAllowed
-  abbrev pub KeepsLeaves : Connector → Simple L → Simple L → Type 0
-  KeepsLeaves k s u = (l : L) → LeafIn l (as_tree s) ⊎ LeafIn l (as_tree u) → LeafIn l (as_tree (join k s u))
-
-  pub choice_keeps_leaves : (s u : Simple L) → KeepsLeaves choice s u
-  choice_keeps_leaves s u l = choice_keeps l (sorted s) (sorted u)
-
-  pub group_keeps_leaves : (s u : Simple L) → (sort_of (join group s u) ≡ nothing → ⊥) → KeepsLeaves group s u
-  group_keeps_leaves s u n l = both_keeps group l (sorted s) (sorted u) n
-
--- more leaves reach more elements
-pub reached_more : (a b : Tree Leaf) → ((l : Leaf) → LeafIn l a → LeafIn l b) → {l : Leaf} → IsReached a l → IsReached b l
-reached_more a b n (f.from_tree i) = f.from_tree (n _ i)
-reached_more a b n (f.from_body r e i) = f.from_body (reached_more a b n r) e i
-
--- what an element's body reaches, the element reaches
-pub reached_through : (m : Leaf) (a : Tree Leaf) → IsReached a m → {b : Tree Leaf} {l : Leaf} → IsReached b l → b ≡ as_tree (simple_of (body_of m))
-    → IsReached a l
-reached_through m a n (f.from_tree {l = l} i) e = f.from_body n (has_simple_form (body_of m)) (subst (λ b. LeafIn l b) e i)
-reached_through m a n (f.from_body r g i) e = f.from_body (reached_through m a n r e) g i

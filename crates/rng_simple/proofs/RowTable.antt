@@ -12,7 +12,7 @@ use Rattle.rng_simple.specs.declared.rows.Row.TheVariants as row
 use Rattle.rng_simple.specs.declared.row_table.RowTable.{RowTable}
 use Rattle.rng_simple.specs.RowIndex.{IsIndex, with_row}
 use Rattle.rng_simple.specs.Rows.{Labels, row_tree, trees, tree_at, AreChildrenBelow, IsLabelled, AreRows, AreMoreLabels}
-use Rattle.rng_simple.specs.RowTable.{labels_of, row_count, tree_of, IsRowTable, IsRelabelled}
+use Rattle.rng_simple.specs.RowTable.{labels_of, row_count, tree_of, IsRowTable, IsRelabelled, AreCoded}
 use Rattle.rng_simple.proofs.RowIndex.{at_end, in_front}
 use Rattle.rng_simple.proofs.RowTrees.{reads_below, tree_at-over_children, tree_of_pushed, tree_stays_after_push, length-trees, stay_labelled, trees_stay}
 
@@ -147,9 +147,13 @@ module _ (l m : Labels) where
 
 -- the same rows under more labels
 pub relabelled : (t u : RowTable) → IsRowTable t → AreMoreLabels (labels_of t) (labels_of u) → u.rows.items ≡ t.rows.items → IsIndex u.rows.items u.numbers
-    → IsRelabelled t u
-relabelled t u is more same index = record {
-  table = record { index = index; rows = subst (AreRows (labels_of u)) (sym same) (rows_relabelled (labels_of t) (labels_of u) t.rows.items is.rows more) };
+    → AreCoded u → IsRelabelled t u
+relabelled t u is more same index coded = record {
+  table = record {
+    index = index;
+    coded = coded;
+    rows = subst (AreRows (labels_of u)) (sym same) (rows_relabelled (labels_of t) (labels_of u) t.rows.items is.rows more);
+  };
   count = ap length same;
   same = λ i. ap (λ rs. tree_at (labels_of u) rs i) same ∙ trees_stay (labels_of t) (labels_of u) more t.rows.items is.rows.labelled i;
 }
@@ -164,3 +168,14 @@ row_sort l of _ n e = refl
 pub tree_found : (t : RowTable) (id : ℕ) (r : Row) → IsRowTable t → id < row_count t → r ≡ get_or t.rows.items id r
     → tree_of t id ≡ row_tree (labels_of t) (tree_of t) r
 tree_found t id r is h e = tree_at-over_children (labels_of t) t.rows.items id r is.rows.falls (slice_get-get_or t.rows.items id r h ∙ ap Some (sym e))
+
+-- the same labels
+pub same_labels : (l m : Labels) → m.classes ≡ l.classes → m.datatypes ≡ l.datatypes → m.values ≡ l.values → AreMoreLabels l m
+same_labels l m e f g = record {
+  classes = [];
+  datatypes = [];
+  values = [];
+  more_classes = e ∙ sym (append-nil l.classes);
+  more_datatypes = f ∙ sym (append-nil l.datatypes);
+  more_values = g ∙ sym (append-nil l.values);
+}

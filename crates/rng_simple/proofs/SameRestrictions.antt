@@ -9,17 +9,16 @@ use Rattle.rng_model.specs.Restrictions as r
 use Rattle.rng_model.specs.Restrictions.{BreaksRestriction, ClassIn, IsPart, StandsIn, the_start, a_body}
 use Rattle.rng_model.specs.Schema.{Schema}
 use Rattle.rng_model.specs.SchemaForm.{Element, SimpleForm, IsElementOf, IsSimpleFormOfSchema, IsSameUpToNumbering, IsSimpleGrammarOf}
-use Rattle.rng_model.specs.SimpleForm.{LeafIn, AreLeavesBelow}
-use Rattle.rng_model.specs.SimpleForm as at
-use Rattle.rng_model.specs.Step.{IsSimpleClassOf}
+use Rattle.rng_model.specs.Leaves.{LeafIn, AreLeavesBelow, renamed}
+use Rattle.rng_model.specs.Leaves as at
+use Rattle.rng_model.specs.ClassSteps.{IsSimpleClassOf}
 use Rattle.rng_model.specs.Table.{Grammar}
 use Rattle.rng_model.specs.Tree.{Simple, s_leaf, as_tree}
-use Rattle.rng_model.specs.Unfold.{renamed}
 use Rattle.rng_model.specs.Unfolding.{Leaf, IsBodyOf}
 use Rattle.rng_model.proofs.SimpleTrees.{same_simple}
 use Rattle.rng_model.proofs.Unfolding.{one_tree, some_is}
 use Rattle.rng_graph.proofs.Graphs.{found}
-use Rattle.rng_simple.specs.Representation.{simple_renamed}
+use Rattle.rng_simple.specs.Renamed.{simple_renamed}
 use Rattle.rng_simple.proofs.NumberedSchema.{same_element, same_class, same_form, only_simple_grammar}
 use Rattle.rng_simple.proofs.Renamed.{as_tree_renamed}
 use Rattle.rng_simple.proofs.RenamedRestrictions.{attribute_forth, one_or_more_forth, list_forth, except_forth, start_forth, content_forth}

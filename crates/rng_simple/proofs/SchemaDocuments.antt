@@ -7,11 +7,10 @@ use Rattle.rng_model.specs.Tree.{Tree, Simple, s_empty, as_tree}
 use Rattle.rng_model.specs.Document.{Item}
 use Rattle.rng_model.specs.Matching.{Texts}
 use Rattle.rng_model.specs.Lex.{HasText}
-use Rattle.rng_model.specs.Written.{Nothing}
-use Rattle.rng_model.specs.Table.{Grammar, IsListed, is_listed, grammar_leaves, IsValidBy}
+use Rattle.rng_model.specs.Table.{Nothing, Grammar, IsListed, is_listed, grammar_leaves, IsValidBy}
 use Rattle.rng_model.specs.Texts.{texts_of}
 use Rattle.rng_model.specs.DatatypeTests.{text_tests}
-use Rattle.rng_model.specs.Unfold.{renamed}
+use Rattle.rng_model.specs.Leaves.{renamed}
 use Rattle.rng_model.specs.Patterns.{Point}
 use Rattle.rng_model.specs.Schema.{Schema, main_start, body}
 use Rattle.rng_model.specs.Unfolding.{Leaf, Unfolds, IsBodyOf}

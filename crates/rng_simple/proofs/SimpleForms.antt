@@ -1,14 +1,16 @@
--- Each tree has one simple form, by the steps in two groups too, and the function gives it.
-use Rattle.std.proofs.Common.{◌≡◌}
+-- Each tree has one simple form, and the function gives it.
+use Rattle.std.proofs.Common.{◌≡◌, ap, ◌∙◌, sym}
 use Rattle.rng_model.specs.Tree.{Tree, as_tree}
 use Rattle.rng_model.specs.Simplification.{IsSimpleFormOf}
-use Rattle.rng_model.proofs.Simplification.{simple_form_of, grouped_form}
 use Rattle.rng_simple.specs.SimpleOf.{simple_of}
-use Rattle.rng_simple.proofs.Unique as unique
+use Rattle.rng_simple.proofs.StepSimpleOf.{steps_keep}
+use Rattle.rng_simple.proofs.NoStep.{unchanged}
+use Rattle.rng_simple.proofs.Reached.{reached}
+use Rattle.rng_simple.proofs.Normal.{normal}
 
 module _ {L : Type 0} where
   pub has_simple_form : (a : Tree L) → IsSimpleFormOf a (as_tree (simple_of a))
-  has_simple_form a = grouped_form (unique.has_simple_form a)
+  has_simple_form a = record { reached = reached a; last = λ b s. normal a s.0 b s.1 }
 
   pub is_only_simple_form : (a b : Tree L) → IsSimpleFormOf a b → b ≡ as_tree (simple_of a)
-  is_only_simple_form a b f = unique.is_only_simple_form a b (simple_form_of f)
+  is_only_simple_form a b f = sym (unchanged b (λ g c s. f.last c (g, s))) ∙ ap as_tree (sym (steps_keep f.reached))

@@ -9,13 +9,12 @@ use Rattle.rng_simple.specs.SimpleOf.{join_all}
 use Rattle.rng_graph.specs.InTwos.{nested}
 use Rattle.rng_model.specs.Simplification.{IsSimpleFormOf}
 use Rattle.rng_model.specs.Schema.{Schema}
-use Rattle.rng_model.specs.SimpleForm.{LeafIn, LeafAmong}
-use Rattle.rng_model.specs.SimpleForm as at
+use Rattle.rng_model.specs.Leaves.{LeafIn, LeafAmong, renamed, all_renamed}
+use Rattle.rng_model.specs.Leaves as at
 use Rattle.rng_model.specs.Unfolding.{Leaf}
 use Rattle.rng_model.specs.Reached.{IsReachedByTrees, from_start, from_element, IsReachedBySimpleForms, from_simple_start, from_simple_body}
 use Rattle.rng_simple.specs.SimpleWith.{simple_with, join_all_with}
-use Rattle.rng_model.specs.Unfold.{renamed, all_renamed}
-use Rattle.rng_simple.specs.Representation.{simple_renamed}
+use Rattle.rng_simple.specs.Renamed.{simple_renamed}
 use Rattle.rng_simple.proofs.Sorts.{Sorted, is_nothing, is_blank, is_proper, sorted}
 use Rattle.rng_simple.proofs.Renamed.{join_leaves, join_renamed, renamed_sort}
 use Rattle.rng_simple.proofs.SimpleForms.{is_only_simple_form}

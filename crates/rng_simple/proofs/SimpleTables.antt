@@ -3,7 +3,7 @@ use Rattle.std.proofs.Common.{◌≡◌, refl, ap, sym, ◌∙◌, ℕ, List, le
 use Rattle.rng_model.specs.Tree.{Tree, leaf, Simple, s_leaf, s_not_allowed}
 use Rattle.rng_model.specs.Patterns.{Place, Point}
 use Rattle.rng_model.specs.Schema.{Schema, Definition}
-use Rattle.rng_model.specs.SimpleForm.{LeafIn}
+use Rattle.rng_model.specs.Leaves.{LeafIn}
 use Rattle.rng_model.specs.Unfolding.{Leaf, aim, Unfolds}
 use Rattle.rng_graph.specs.Met.{IsSettled, IsOrder}
 use Rattle.rng_graph.specs.DepthWith.{of_aim, IsFilled, IsRight}

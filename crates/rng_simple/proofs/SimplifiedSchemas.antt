@@ -1,26 +1,17 @@
 -- What the parts of the simplification of a schema say together.
-use Rattle.std.proofs.Common.{◌≡◌, ◌⊎◌, inl, inr, refl, sym, ap, subst, ◌∙◌, arith, ℕ, ◌<◌, ◌≤◌, List, length, map, slice_get, Some, All, Contains}
+use Rattle.std.proofs.Common.{inl, inr, sym, subst, arith, ℕ, ◌≤◌}
 use Rattle.std.proofs.lemmas.Bool.{cases_lt}
 use Rattle.rng_model.specs.Least.{IsLeast}
-use Rattle.rng_model.specs.Names.{NameClass}
 use Rattle.rng_model.specs.Schema.{Schema, IsWellPlaced}
 use Rattle.rng_model.specs.SchemaClauses.{BreaksSchemaClause, BreaksExpansion, BreaksDepth}
 use Rattle.rng_model.specs.SchemaClauses as clauses
-use Rattle.rng_model.specs.SchemaForm.{IsOnlySimpleGrammarOf, IsSimpleGrammarOf}
-use Rattle.rng_model.specs.Table.{Grammar}
-use Rattle.rng_model.specs.Unfolding.{Leaf}
 use Rattle.rng_model.specs.declared.fault.SchemaFault.{SchemaFault}
 use Rattle.rng_model.specs.declared.fault.SchemaFault.TheVariants as faults
 use Rattle.rng_components.specs.Judged.{IsComponentFault, last_clause}
-use Rattle.rng_graph.specs.ExpansionOrder.{IsExpansionFault, IsGraphOfSchema, IsWholeOrder}
-use Rattle.rng_graph.specs.GraphView.{classes_of, graph_of}
+use Rattle.rng_graph.specs.ExpansionOrder.{IsExpansionFault}
 use Rattle.rng_graph.specs.ReadySchema.{IsReady}
-use Rattle.rng_graph.specs.declared.graph.Graph as declared
 use Rattle.rng_graph.proofs.ReadySchemas.{ready}
-use Rattle.rng_graph.proofs.Parts.{map_at}
-use Rattle.rng_simple.specs.GrammarBy.{IsMadeOf}
 use Rattle.rng_simple.specs.SimplifiedSchema.{IsSchemaFault}
-use Rattle.rng_simple.proofs.GrammarOf.{made_is_grammar, made_is_only_grammar}
 
 -- no clause of components is broken
 abbrev pub KeepsComponents : Schema → Type 0

@@ -1,8 +1,8 @@
 -- A step changes no list of texts that a tree has.
 use Rattle.std.proofs.Common.{◌≡◌, refl, ◌∙◌, sym, subst, List, [], ℕ, ◌⊎◌, inl, inr}
 use Rattle.rng_model.specs.Tree.{Connector, choice, group, interleave, Tree, not_allowed, empty, text, mixed, joined, Trees, no_trees, tree_and}
-use Rattle.rng_model.specs.Step.{HasNotAllowed, Step, StepAmong}
-use Rattle.rng_model.specs.Step as step
+use Rattle.rng_model.specs.Simplification.{RuleGroup, HasNotAllowed, Step, StepAmong}
+use Rattle.rng_model.specs.Simplification as step
 use Rattle.rng_model.specs.Document.{Interleaves, Shares, in_any_order}
 use Rattle.rng_model.specs.Matching.{Texts}
 use Rattle.rng_model.specs.Lex.{Lex, LexOne, LexAll, Repeats, once, again}
@@ -166,7 +166,7 @@ module _ (L : Type 0) (texts : Texts) where
   empty_repeats (again d e h) = let f = empty_repeats e in sym h ∙ (rw (d, f) refl)
 
   mutual
-    pub lex_in : {a b : Tree L} → Step a b → Under a b
+    pub lex_in : {g : RuleGroup} {a b : Tree L} → Step g a b → Under a b
     lex_in (step.nest {k} {a} {b} {c} {cs}) ws h = nest_in k a b c cs ws h
     lex_in (step.mixed_is {a}) ws h = mixed_in a ws h
     lex_in step.optional_is ws h = pair_or_not h
@@ -191,21 +191,21 @@ module _ (L : Type 0) (texts : Texts) where
     lex_in (step.in_except s) ws h = (h.0, h.1, h.2, λ z. h.3 (lex_out s _ z))
     lex_in (step.in_mixed s) ws h = (h.0, h.1, lex_in s _ h.2, h.3)
     lex_in (step.in_optional s) ws h = either (λ e. e) (lex_in s ws) h
-    lex_in (step.in_zero_or_more {a} {b} s) ws h = either (λ e. e) (repeats (Has a) (Has b) (lex_in s)) h
-    lex_in (step.in_one_or_more {a} {b} s) ws h = repeats (Has a) (Has b) (lex_in s) h
-    lex_in (step.in_first {k} {a} {b} {c} {ts} s) ws h = in_first k a b c ts (lex_in s) ws h
-    lex_in (step.in_second {k} {a} {b} {c} {ts} s) ws h = in_second k a b c ts (lex_in s) ws h
-    lex_in (step.in_others {k} {a} {b} {ts} {us} s) ws h = in_others k a b ts us (one_in s) (all_in s) ws h
+    lex_in (step.in_zero_or_more {g} {a} {b} s) ws h = either (λ e. e) (repeats (Has a) (Has b) (lex_in s)) h
+    lex_in (step.in_one_or_more {g} {a} {b} s) ws h = repeats (Has a) (Has b) (lex_in s) h
+    lex_in (step.in_first {g} {k} {a} {b} {c} {ts} s) ws h = in_first k a b c ts (lex_in s) ws h
+    lex_in (step.in_second {g} {k} {a} {b} {c} {ts} s) ws h = in_second k a b c ts (lex_in s) ws h
+    lex_in (step.in_others {g} {k} {a} {b} {ts} {us} s) ws h = in_others k a b ts us (one_in s) (all_in s) ws h
 
-    one_in : {ts us : Trees L} → StepAmong ts us → (ws : List (List ℕ)) → LexOne texts ts ws → LexOne texts us ws
+    one_in : {g : RuleGroup} {ts us : Trees L} → StepAmong g ts us → (ws : List (List ℕ)) → LexOne texts ts ws → LexOne texts us ws
     one_in (step.this_member s) ws h = either (lex_in s ws) (λ e. e) h
     one_in (step.later_member s) ws h = either (λ e. e) (one_in s ws) h
 
-    all_in : {ts us : Trees L} → StepAmong ts us → (k : Connector) (ws : List (List ℕ)) → LexAll texts k ts ws → LexAll texts k us ws
+    all_in : {g : RuleGroup} {ts us : Trees L} → StepAmong g ts us → (k : Connector) (ws : List (List ℕ)) → LexAll texts k ts ws → LexAll texts k us ws
     all_in (step.this_member s) k ws h = (h.0, h.1, lex_in s h.0 h.2, h.3, h.4)
     all_in (step.later_member s) k ws h = (h.0, h.1, h.2, all_in s k h.1 h.3, h.4)
 
-    pub lex_out : {a b : Tree L} → Step a b → Under b a
+    pub lex_out : {g : RuleGroup} {a b : Tree L} → Step g a b → Under b a
     lex_out (step.nest {k} {a} {b} {c} {cs}) ws h = nest_out k a b c cs ws h
     lex_out (step.mixed_is {a}) ws h = mixed_out a ws h
     lex_out step.optional_is ws h = or_not h
@@ -230,16 +230,16 @@ module _ (L : Type 0) (texts : Texts) where
     lex_out (step.in_except s) ws h = (h.0, h.1, h.2, λ z. h.3 (lex_in s _ z))
     lex_out (step.in_mixed s) ws h = (h.0, h.1, lex_out s _ h.2, h.3)
     lex_out (step.in_optional s) ws h = either (λ e. e) (lex_out s ws) h
-    lex_out (step.in_zero_or_more {a} {b} s) ws h = either (λ e. e) (repeats (Has b) (Has a) (lex_out s)) h
-    lex_out (step.in_one_or_more {a} {b} s) ws h = repeats (Has b) (Has a) (lex_out s) h
-    lex_out (step.in_first {k} {a} {b} {c} {ts} s) ws h = in_first k b a c ts (lex_out s) ws h
-    lex_out (step.in_second {k} {a} {b} {c} {ts} s) ws h = in_second k b a c ts (lex_out s) ws h
-    lex_out (step.in_others {k} {a} {b} {ts} {us} s) ws h = in_others k a b us ts (one_out s) (all_out s) ws h
+    lex_out (step.in_zero_or_more {g} {a} {b} s) ws h = either (λ e. e) (repeats (Has b) (Has a) (lex_out s)) h
+    lex_out (step.in_one_or_more {g} {a} {b} s) ws h = repeats (Has b) (Has a) (lex_out s) h
+    lex_out (step.in_first {g} {k} {a} {b} {c} {ts} s) ws h = in_first k b a c ts (lex_out s) ws h
+    lex_out (step.in_second {g} {k} {a} {b} {c} {ts} s) ws h = in_second k b a c ts (lex_out s) ws h
+    lex_out (step.in_others {g} {k} {a} {b} {ts} {us} s) ws h = in_others k a b us ts (one_out s) (all_out s) ws h
 
-    one_out : {ts us : Trees L} → StepAmong ts us → (ws : List (List ℕ)) → LexOne texts us ws → LexOne texts ts ws
+    one_out : {g : RuleGroup} {ts us : Trees L} → StepAmong g ts us → (ws : List (List ℕ)) → LexOne texts us ws → LexOne texts ts ws
     one_out (step.this_member s) ws h = either (lex_out s ws) (λ e. e) h
     one_out (step.later_member s) ws h = either (λ e. e) (one_out s ws) h
 
-    all_out : {ts us : Trees L} → StepAmong ts us → (k : Connector) (ws : List (List ℕ)) → LexAll texts k us ws → LexAll texts k ts ws
+    all_out : {g : RuleGroup} {ts us : Trees L} → StepAmong g ts us → (k : Connector) (ws : List (List ℕ)) → LexAll texts k us ws → LexAll texts k ts ws
     all_out (step.this_member s) k ws h = (h.0, h.1, lex_out s h.0 h.2, h.3, h.4)
     all_out (step.later_member s) k ws h = (h.0, h.1, h.2, all_out s k h.1 h.3, h.4)

@@ -3,8 +3,9 @@ use Rattle.std.proofs.Common.{◌≡◌, refl, subst, List, ◌++◌, ℕ}
 use Rattle.rng_model.specs.Names.{Name, NameClass}
 use Rattle.rng_model.specs.Tree.{Datatype, Connector, choice, group, interleave, Tree, not_allowed, empty, text, attribute, list, data_of, data_except, mixed}
 use Rattle.rng_model.specs.Tree.{optional, zero_or_more, one_or_more, joined, Trees, no_trees, tree_and}
-use Rattle.rng_model.specs.Step.{ClassStep, HasNotAllowed, Step, StepAmong, Steps}
-use Rattle.rng_model.specs.Step as step
+use Rattle.rng_model.specs.ClassSteps.{ClassStep}
+use Rattle.rng_model.specs.Simplification.{RuleGroup, HasNotAllowed, Step, StepAmong, AnyStep, Steps}
+use Rattle.rng_model.specs.Simplification as step
 use Rattle.rng_model.specs.Document.{Attribute, Item, Interleaves, done, Shares, in_order, in_any_order}
 use Rattle.rng_model.specs.Matching.{Texts, Leaves, Matches, MatchesOne, MatchesAll, Weakly}
 use Rattle.rng_model.specs.Matching as m
@@ -269,11 +270,11 @@ module _ {X L : Type 0} (leaves : Leaves X L) (In : NameClass → Name → Type 
 
   module _ (class_in : (c d : NameClass) → ClassStep c d → (q : Name) → In c q → In d q)
       (class_out : (c d : NameClass) → ClassStep c d → (q : Name) → In d q → In c q)
-      (excepts_in : (x : X) (a b : Tree L) → Step a b → (w : List ℕ) → leaves.Excepts x a w → leaves.Excepts x b w)
-      (excepts_out : (x : X) (a b : Tree L) → Step a b → (w : List ℕ) → leaves.Excepts x b w → leaves.Excepts x a w)
+      (excepts_in : (x : X) (a b : Tree L) → AnyStep a b → (w : List ℕ) → leaves.Excepts x a w → leaves.Excepts x b w)
+      (excepts_out : (x : X) (a b : Tree L) → AnyStep a b → (w : List ℕ) → leaves.Excepts x b w → leaves.Excepts x a w)
       (excepts_none : (x : X) (w : List ℕ) → leaves.Excepts x not_allowed w → ⊥) where
     mutual
-      pub step_in : (x : X) {a b : Tree L} → Step a b → Under x a b
+      pub step_in : (x : X) {g : RuleGroup} {a b : Tree L} → Step g a b → Under x a b
       step_in x step.nest = nest_in
       step_in x step.mixed_is = mixed_in
       step_in x step.optional_is = optional_in
@@ -295,7 +296,7 @@ module _ {X L : Type 0} (leaves : Leaves X L) (In : NameClass → Name → Type 
       step_in x (step.in_class {c} {d} s) = in_attribute (class_in c d s) (λ xs ns e. e)
       step_in x (step.in_attribute s) = in_attribute (λ q i. i) (step_in x s)
       step_in x (step.in_list s) = in_list (step_in x s)
-      step_in x (step.in_except s) = in_except (excepts_out x _ _ s)
+      step_in x (step.in_except s) = in_except (excepts_out x _ _ (_, s))
       step_in x (step.in_mixed s) = in_mixed (step_in x s)
       step_in x (step.in_optional s) = in_optional (step_in x s)
       step_in x (step.in_zero_or_more s) = in_zero_or_more (step_in x s)
@@ -304,16 +305,16 @@ module _ {X L : Type 0} (leaves : Leaves X L) (In : NameClass → Name → Type 
       step_in x (step.in_second s) = in_second (step_in x s)
       step_in x (step.in_others {ts = ts} {us = us} s) = in_others ts us (one_in x s) (all_in x s)
 
-      one_in : (x : X) {ts us : Trees L} → StepAmong ts us → OneUnder x ts us
+      one_in : (x : X) {g : RuleGroup} {ts us : Trees L} → StepAmong g ts us → OneUnder x ts us
       one_in x (step.this_member s) = one_this (step_in x s)
       one_in x (step.later_member {ts = ts} {us = us} s) = one_later ts us (one_in x s)
 
-      all_in : (x : X) {ts us : Trees L} → StepAmong ts us → AllUnder x ts us
+      all_in : (x : X) {g : RuleGroup} {ts us : Trees L} → StepAmong g ts us → AllUnder x ts us
       all_in x (step.this_member s) = all_this (step_in x s)
       all_in x (step.later_member {ts = ts} {us = us} s) = all_later ts us (all_in x s)
 
     mutual
-      pub step_out : (x : X) {a b : Tree L} → Step a b → Under x b a
+      pub step_out : (x : X) {g : RuleGroup} {a b : Tree L} → Step g a b → Under x b a
       step_out x step.nest = nest_out
       step_out x step.mixed_is = mixed_out
       step_out x step.optional_is = optional_out
@@ -335,7 +336,7 @@ module _ {X L : Type 0} (leaves : Leaves X L) (In : NameClass → Name → Type 
       step_out x (step.in_class {c} {d} s) = in_attribute (class_out c d s) (λ xs ns e. e)
       step_out x (step.in_attribute s) = in_attribute (λ q i. i) (step_out x s)
       step_out x (step.in_list s) = in_list (step_out x s)
-      step_out x (step.in_except s) = in_except (excepts_in x _ _ s)
+      step_out x (step.in_except s) = in_except (excepts_in x _ _ (_, s))
       step_out x (step.in_mixed s) = in_mixed (step_out x s)
       step_out x (step.in_optional s) = in_optional (step_out x s)
       step_out x (step.in_zero_or_more s) = in_zero_or_more (step_out x s)
@@ -344,18 +345,18 @@ module _ {X L : Type 0} (leaves : Leaves X L) (In : NameClass → Name → Type 
       step_out x (step.in_second s) = in_second (step_out x s)
       step_out x (step.in_others {ts = ts} {us = us} s) = in_others us ts (one_out x s) (all_out x s)
 
-      one_out : (x : X) {ts us : Trees L} → StepAmong ts us → OneUnder x us ts
+      one_out : (x : X) {g : RuleGroup} {ts us : Trees L} → StepAmong g ts us → OneUnder x us ts
       one_out x (step.this_member s) = one_this (step_out x s)
       one_out x (step.later_member {ts = ts} {us = us} s) = one_later us ts (one_out x s)
 
-      all_out : (x : X) {ts us : Trees L} → StepAmong ts us → AllUnder x us ts
+      all_out : (x : X) {g : RuleGroup} {ts us : Trees L} → StepAmong g ts us → AllUnder x us ts
       all_out x (step.this_member s) = all_this (step_out x s)
       all_out x (step.later_member {ts = ts} {us = us} s) = all_later us ts (all_out x s)
 
-    pub steps_in : (x : X) {a b : Tree L} → Steps a b → Under x a b
-    steps_in x step.none = λ xs ns d. d
-    steps_in x (step.step_and s e) = λ xs ns d. steps_in x e xs ns (step_in x s xs ns d)
+    pub steps_in : (x : X) {a b : Tree L} → Steps AnyStep a b → Under x a b
+    steps_in x step.no_step = λ xs ns d. d
+    steps_in x (step.step_and s e) = λ xs ns d. steps_in x e xs ns (step_in x s.1 xs ns d)
 
-    pub steps_out : (x : X) {a b : Tree L} → Steps a b → Under x b a
-    steps_out x step.none = λ xs ns d. d
-    steps_out x (step.step_and s e) = λ xs ns d. step_out x s xs ns (steps_out x e xs ns d)
+    pub steps_out : (x : X) {a b : Tree L} → Steps AnyStep a b → Under x b a
+    steps_out x step.no_step = λ xs ns d. d
+    steps_out x (step.step_and s e) = λ xs ns d. step_out x s.1 xs ns (steps_out x e xs ns d)

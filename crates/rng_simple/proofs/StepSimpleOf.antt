@@ -3,8 +3,8 @@ use Rattle.std.proofs.Common.{◌≡◌, refl, ap, ◌∙◌}
 use Rattle.rng_model.specs.Tree.{Connector, choice, group, interleave}
 use Rattle.rng_model.specs.Tree.{Tree, Trees, no_trees, tree_and}
 use Rattle.rng_model.specs.Tree.{Simple, s_not_allowed, s_empty, s_text}
-use Rattle.rng_model.specs.Step.{ClassStep, ClassesStep, HasNotAllowed, Step, StepAmong, Steps, HasNoStep, IsSimpleFormOf}
-use Rattle.rng_model.specs.Step as step
+use Rattle.rng_model.specs.Simplification.{RuleGroup, HasNotAllowed, Step, StepAmong, AnyStep, Steps}
+use Rattle.rng_model.specs.Simplification as step
 use Rattle.rng_graph.proofs.SimpleClass.{class_keeps}
 use Rattle.rng_simple.specs.SimpleOf.{Sort, nothing, blank, proper, sort_of, attribute_by, list_by, except_by, joined_by, join, some_of, simple_of}
 use Rattle.rng_graph.specs.InTwos.{nested}
@@ -67,7 +67,7 @@ module _ {L : Type 0} where
   mutual
     unfolding simple_of join_all
 
-    pub step_keeps : {a b : Tree L} → Step a b → simple_of a ≡ simple_of b
+    pub step_keeps : {g : RuleGroup} {a b : Tree L} → Step g a b → simple_of a ≡ simple_of b
     step_keeps step.nest = refl
     step_keeps step.mixed_is = refl
     step_keeps step.optional_is = refl
@@ -87,21 +87,21 @@ module _ {L : Type 0} where
     step_keeps (step.sides_change {a} n) = sides (simple_of a)
     step_keeps step.one_or_more_empty = refl
     step_keeps (step.in_class {c} {d} {a} s) = ap (λ x. attribute_by (sort_of (simple_of a)) x (simple_of a)) (class_keeps s)
-    step_keeps (step.in_attribute {c} s) = ap (λ x. attribute_by (sort_of x) (nested c) x) (step_keeps s)
+    step_keeps (step.in_attribute {g} {c} s) = ap (λ x. attribute_by (sort_of x) (nested c) x) (step_keeps s)
     step_keeps (step.in_list s) = ap (λ (x : Simple L). list_by (sort_of x) x) (step_keeps s)
-    step_keeps (step.in_except {d} s) = ap (λ (x : Simple L). except_by (sort_of x) d x) (step_keeps s)
+    step_keeps (step.in_except {g} {d} s) = ap (λ (x : Simple L). except_by (sort_of x) d x) (step_keeps s)
     step_keeps (step.in_mixed s) = ap (λ (x : Simple L). join interleave x s_text) (step_keeps s)
     step_keeps (step.in_optional s) = ap (λ (x : Simple L). join choice x s_empty) (step_keeps s)
     step_keeps (step.in_zero_or_more s) = ap (λ (x : Simple L). join choice (some_of x) s_empty) (step_keeps s)
     step_keeps (step.in_one_or_more s) = ap (λ (x : Simple L). some_of x) (step_keeps s)
-    step_keeps (step.in_first {k} {a} {b} {c} {ts} s) = ap (λ (x : Simple L). join_all k (join k x (simple_of c)) ts) (step_keeps s)
-    step_keeps (step.in_second {k} {a} {b} {c} {ts} s) = ap (λ (x : Simple L). join_all k (join k (simple_of c) x) ts) (step_keeps s)
+    step_keeps (step.in_first {g} {k} {a} {b} {c} {ts} s) = ap (λ (x : Simple L). join_all k (join k x (simple_of c)) ts) (step_keeps s)
+    step_keeps (step.in_second {g} {k} {a} {b} {c} {ts} s) = ap (λ (x : Simple L). join_all k (join k (simple_of c) x) ts) (step_keeps s)
     step_keeps (step.in_others s) = among_keep s _ _
 
-    among_keep : {ts us : Trees L} → StepAmong ts us → (k : Connector) (s : Simple L) → join_all k s ts ≡ join_all k s us
-    among_keep (step.this_member {a} {b} {ts} d) k s = ap (λ (x : Simple L). join_all k (join k s x) ts) (step_keeps d)
+    among_keep : {g : RuleGroup} {ts us : Trees L} → StepAmong g ts us → (k : Connector) (s : Simple L) → join_all k s ts ≡ join_all k s us
+    among_keep (step.this_member {g} {a} {b} {ts} d) k s = ap (λ (x : Simple L). join_all k (join k s x) ts) (step_keeps d)
     among_keep (step.later_member d) k s = among_keep d k _
 
-  pub steps_keep : {a b : Tree L} → Steps a b → simple_of a ≡ simple_of b
-  steps_keep step.none = refl
-  steps_keep (step.step_and s d) = step_keeps s ∙ steps_keep d
+  pub steps_keep : {a b : Tree L} → Steps AnyStep a b → simple_of a ≡ simple_of b
+  steps_keep step.no_step = refl
+  steps_keep (step.step_and s d) = step_keeps s.1 ∙ steps_keep d

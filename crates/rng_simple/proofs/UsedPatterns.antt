@@ -1,5 +1,5 @@
 -- Each pattern of the tables that are made of rows stands in the start, or in the body of an element.
-use Rattle.std.proofs.Common.{◌≡◌, ◌↔◌, refl, ap, sym, ◌∙◌, subst, ℕ, zero, suc, ◌<◌, List, [], ◌∷◌, length, map, slice_get, slice_index_or, Some, Bool, true}
+use Rattle.std.proofs.Common.{◌≡◌, ◌↔◌, refl, ap, subst, ℕ, zero, suc, ◌<◌, List, [], ◌∷◌, length, map, slice_get, slice_index_or, Some, Bool, true}
 use Rattle.std.proofs.Common.{Contains, inl, inr, arith}
 use Rattle.std.proofs.lemmas.Option.{slice_get_within, slice_get-get_or}
 use Rattle.rng_model.specs.Lists.{Among}
@@ -13,7 +13,7 @@ use Rattle.rng_model.specs.View.{class_of}
 use Rattle.rng_model.specs.declared.name.NameClass.{NameClass}
 use Rattle.rng_model.specs.declared.simple.PatternId.{PatternId}
 use Rattle.rng_model.specs.declared.simple.Simple as declared
-use Rattle.rng_simple.specs.Copying.{tree_numbered, place_of, listed_at, numbered_row, AreCopied}
+use Rattle.rng_simple.specs.Copying.{tree_numbered, place_of, numbered_row, AreCopied}
 use Rattle.rng_simple.specs.GrammarElements.{AreElementCopies}
 use Rattle.rng_simple.specs.RowReach.{nexts, row_next, content_of}
 use Rattle.rng_simple.specs.Rows.{Labels, row_tree, AreRows, AreChildrenBelow}

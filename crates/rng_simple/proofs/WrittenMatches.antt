@@ -8,15 +8,14 @@ use Rattle.rng_model.specs.Document.{Attribute, Item}
 use Rattle.rng_model.specs.Matching.{Texts, Leaves, Matches, MatchesOne, MatchesAll, Weakly}
 use Rattle.rng_model.specs.Matching as m
 use Rattle.rng_model.specs.Lex.{HasText}
-use Rattle.rng_model.specs.Written.{Nothing}
+use Rattle.rng_model.specs.Table.{Nothing}
 use Rattle.rng_model.specs.Patterns.{Place, Point, an_element, a_ref, a_parent_ref, a_grammar}
 use Rattle.rng_model.specs.Schema.{Schema, Definition, body}
 use Rattle.rng_model.specs.Unfolding.{Leaf, content_of, Aim, to_element, to_definition, outside, aim, Unfolds, UnfoldAll, IsBodyOf}
 use Rattle.rng_model.specs.Unfolding as u
-use Rattle.rng_model.specs.Step.{Step, IsSimpleClassOf}
-use Rattle.rng_model.specs.Simplification.{IsSimpleFormOf}
+use Rattle.rng_model.specs.Simplification.{AnyStep, IsSimpleFormOf}
+use Rattle.rng_model.specs.ClassSteps.{IsSimpleClassOf}
 use Rattle.rng_model.specs.SchemaMatching.{IsFound, is_found, IsWrittenElement, is_written, schema_leaves}
-use Rattle.rng_model.proofs.Simplification.{simple_form_of}
 use Rattle.rng_model.proofs.Unfolding.{one_element, one_definition, not_both, moved, one_tree}
 use Rattle.rng_graph.proofs.SimpleClass.{has_simple_class}
 use Rattle.rng_simple.proofs.SimpleForms.{has_simple_form}
@@ -217,20 +216,20 @@ module _ (s : Schema) (texts : Texts) where
 
   -- ---- between a tree and its simple form
 
-  excepts_in : (x : Unit {0}) (a b : Tree Leaf) → Step a b → (w : List ℕ) → HasText texts a w → HasText texts b w
-  excepts_in x a b t w = lexes.lex_in Leaf texts t (w ∷ [])
+  excepts_in : (x : Unit {0}) (a b : Tree Leaf) → AnyStep a b → (w : List ℕ) → HasText texts a w → HasText texts b w
+  excepts_in x a b t w = lexes.lex_in Leaf texts t.1 (w ∷ [])
 
-  excepts_out : (x : Unit {0}) (a b : Tree Leaf) → Step a b → (w : List ℕ) → HasText texts b w → HasText texts a w
-  excepts_out x a b t w = lexes.lex_out Leaf texts t (w ∷ [])
+  excepts_out : (x : Unit {0}) (a b : Tree Leaf) → AnyStep a b → (w : List ℕ) → HasText texts b w → HasText texts a w
+  excepts_out x a b t w = lexes.lex_out Leaf texts t.1 (w ∷ [])
 
   no_text : (x : Unit {0}) (w : List ℕ) → HasText {L = Leaf} texts not_allowed w → ⊥
   no_text x w h = h
 
   pub simplified : {t b : Tree Leaf} → IsSimpleFormOf t b → (xs : List Attribute) (ns : List Item) → Simplified tt t xs ns → Simplified tt b xs ns
-  simplified f = steps_in form_leaves In texts class_in class_out excepts_in excepts_out no_text tt (simple_form_of f).reached
+  simplified f = steps_in form_leaves In texts class_in class_out excepts_in excepts_out no_text tt f.reached
 
   pub unsimplified : {t b : Tree Leaf} → IsSimpleFormOf t b → (xs : List Attribute) (ns : List Item) → Unfolded tt b xs ns → Unfolded tt t xs ns
-  unsimplified f = steps_out tree_leaves In texts class_in class_out excepts_in excepts_out no_text tt (simple_form_of f).reached
+  unsimplified f = steps_out tree_leaves In texts class_in class_out excepts_in excepts_out no_text tt f.reached
 
   -- ---- from the pattern to the tree, by the simple forms of bodies
 

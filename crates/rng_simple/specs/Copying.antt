@@ -2,11 +2,11 @@
 use Rattle.std.specs.Prelude.{◌≡◌, ℕ, ◌<◌, ◌≤◌, ⊤, List, [], ◌∷◌, ◌++◌, length, slice_get, slice_index_or, Some, Bool, true, All, Contains}
 use Rattle.rng_model.specs.Tree as tree
 use Rattle.rng_model.specs.Tree.{as_tree}
-use Rattle.rng_model.specs.SimpleForm.{AreLeavesBelow}
+use Rattle.rng_model.specs.Leaves.{AreLeavesBelow}
 use Rattle.rng_model.specs.Table.{tree_over, AreChildrenBelow, Falls, IsLeafListed, IsClassPaired}
 use Rattle.rng_model.specs.Table as tables
 use Rattle.rng_model.specs.declared.simple.Simple.{Simple}
-use Rattle.rng_simple.specs.Representation.{simple_renamed}
+use Rattle.rng_simple.specs.Renamed.{simple_renamed}
 use Rattle.rng_simple.specs.Rows.{Labels, row_tree, tree_at}
 use Rattle.rng_simple.specs.Worklist.{AreDistinctNumbers}
 use Rattle.rng_simple.specs.declared.rows.Row.{Row}

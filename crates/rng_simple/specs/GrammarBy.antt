@@ -3,10 +3,10 @@ use Rattle.std.specs.Prelude.{◌≡◌, ◌↔◌, ℕ, List, length, slice_get
 use Rattle.rng_model.specs.Names.{NameClass}
 use Rattle.rng_model.specs.Tree.{Tree, empty, Simple, s_leaf, as_tree}
 use Rattle.rng_model.specs.Table.{Grammar}
-use Rattle.rng_model.specs.SimpleForm.{LeafIn, AreLeavesBelow}
+use Rattle.rng_model.specs.Leaves.{LeafIn, AreLeavesBelow}
 use Rattle.rng_graph.specs.InTwos.{nested}
 use Rattle.rng_graph.specs.Graph.{Spot, Graph, of_spot, IsFilledBy}
-use Rattle.rng_simple.specs.Representation.{simple_renamed}
+use Rattle.rng_simple.specs.Renamed.{simple_renamed}
 use Rattle.rng_simple.specs.SimpleWith.{simple_with}
 
 -- the simple form of a body, given those of the definitions; an element is a leaf with its number

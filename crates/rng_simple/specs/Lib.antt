@@ -1,12 +1,11 @@
-pub mod GrammarBuilder
-pub mod Simplified
 pub mod SimpleOf
-pub mod Representation
+pub mod Renamed
 pub mod Worklist
 pub mod SimpleWith
 pub mod Numbering
 pub mod GrammarBy
 pub mod RowIndex
+pub mod LabelCodes
 pub mod Rows
 pub mod RowTable
 pub mod Joining

@@ -4,14 +4,14 @@ use Rattle.rng_model.specs.Names as names
 use Rattle.rng_model.specs.Names.{NameClass}
 use Rattle.rng_model.specs.Tree.{Tree, Simple, as_tree}
 use Rattle.rng_model.specs.Table.{Grammar}
-use Rattle.rng_model.specs.SimpleForm.{AreLeavesBelow}
+use Rattle.rng_model.specs.Leaves.{AreLeavesBelow}
 use Rattle.rng_model.specs.Patterns as patterns
 use Rattle.rng_model.specs.Schema.{Schema}
 use Rattle.rng_model.specs.Unfolding.{Leaf, IsBodyOf}
 use Rattle.rng_model.specs.Reached.{IsReachedBySimpleForms}
 use Rattle.rng_graph.specs.InTwos.{nested}
 use Rattle.rng_simple.specs.SimpleOf.{simple_of}
-use Rattle.rng_simple.specs.Representation.{simple_renamed}
+use Rattle.rng_simple.specs.Renamed.{simple_renamed}
 
 -- stands where a list has no element
 abbrev pub no_element : Leaf

@@ -1,10 +1,11 @@
 -- What the table of rows holds, and how it grows.
-use Rattle.std.specs.Prelude.{◌≡◌, ℕ, ◌<◌, ◌≤◌, List, length, map}
+use Rattle.std.specs.Prelude.{◌≡◌, ℕ, ◌<◌, ◌≤◌, List, [], length, map}
 use Rattle.rng_model.specs.Patterns.{without_parameters}
 use Rattle.rng_model.specs.Tree.{Datatype, Simple}
 use Rattle.rng_model.specs.Types.{datatype_of}
 use Rattle.rng_model.specs.View.{class_of}
 use Rattle.rng_graph.specs.InTwos.{nested}
+use Rattle.rng_simple.specs.LabelCodes.{Part, AreApart, class_code, codes_of, datatype_code, value_code}
 use Rattle.rng_simple.specs.RowIndex.{IsIndex}
 use Rattle.rng_simple.specs.Rows.{Labels, tree_at, AreRows}
 use Rattle.rng_simple.specs.SimpleOf as sorts
@@ -35,10 +36,22 @@ row_count t = length t.rows.items
 abbrev pub tree_of : RowTable → ℕ → Simple ℕ
 tree_of t = tree_at (labels_of t) t.rows.items
 
+-- the codes are those that are written, and none stands twice
+pub record AreCodes (written codes : List (List Part)) : Type 0 where
+  pub same : codes ≡ written
+  pub apart : AreApart codes
+
+-- the labels of each kind have their codes
+pub record AreCoded (t : RowTable) : Type 0 where
+  pub classes : AreCodes (map (λ c. class_code (class_of c.now) []) t.classes.items) (codes_of t.class_codes)
+  pub datatypes : AreCodes (map (λ d. datatype_code (datatype_of d.now)) t.datatypes.items) (codes_of t.datatype_codes)
+  pub values : AreCodes (map (λ v. value_code (value_of v)) t.values.items) (codes_of t.value_codes)
+
 -- the rows have their numbers in the index
 pub record IsRowTable (t : RowTable) : Type 0 where
   pub index : IsIndex t.rows.items t.numbers
   pub rows : AreRows (labels_of t) t.rows.items
+  pub coded : AreCoded t
 
 -- rows have been added
 pub record IsGrown (old new : RowTable) : Type 0 where

@@ -1,5 +1,5 @@
 -- What the simplification of a schema has to answer.
-use Rattle.std.specs.Prelude.{ℕ, ◌<◌, ◌^◌, List, length}
+use Rattle.std.specs.Prelude.{◌≡◌, ℕ, ◌<◌, ◌^◌, List, length}
 use Rattle.rng_model.specs.Least.{IsLeast}
 use Rattle.rng_model.specs.Names.{NameClass}
 use Rattle.rng_model.specs.Restrictions.{IsPart, StandsIn}
@@ -22,9 +22,15 @@ IsSchemaFault s faults.Memory = Unit {0}
 abbrev pub AreAllUsed : Table → Type 0
 AreAllUsed t = (i : ℕ) → i < length t.patterns → (part : Simple ℕ) × IsPart (grammar_of t) part × StandsIn (tree_at t.patterns (record { 0 = i })) part
 
+-- equal patterns have one number
+abbrev pub AreToldApart : Table → Type 0
+AreToldApart t = (i j : ℕ) → i < length t.patterns → j < length t.patterns
+    → tree_at t.patterns (record { 0 = i }) ≡ tree_at t.patterns (record { 0 = j }) → i ≡ j
+
 -- the tables are made of the graph, along this order of its definitions
 pub record IsMadeTable (classes : List NameClass) (g : Graph) (order : List ℕ) (t : Table) : Type 0 where
   pub made : IsMadeOf classes g order (grammar_of t)
   pub syntax : IsInSimpleSyntax (grammar_of t)
   pub used : AreAllUsed t
+  pub apart : AreToldApart t
   pub few : length t.patterns < 2 ^ 64

@@ -24,7 +24,9 @@ ghost use Rattle.rng_simple.specs.RowTable.{
 };
 ghost use Rattle.rng_simple.specs.SimpleOf.{sort_of};
 
+use crate::label_codes::{LabelPart, place_of_code, put_class, put_datatype, value_code};
 use crate::rows::{Row, number};
+use indexmap::IndexSet;
 use rng_model::{Datatype, NameClass};
 use std::alloc::{AllocError, Global};
 use std::collections::HashMap;
@@ -40,14 +42,19 @@ pub struct ValueLabel<'a> {
     pub text: &'a str,
 }
 
-/// Patterns in simple form, of which the first is `empty`. No row stands twice, and children stand before their parents.
+/// Patterns in simple form, of which the first is `empty`. No row stands twice, no label does, and children stand before their parents.
 #[derive(Drop)]
 pub struct RowTable<'a> {
+    pub alloc: Global,
     pub rows: Vec<Row>,
     pub numbers: HashMap<Row, usize>,
     pub classes: Vec<&'a NameClass>,
     pub datatypes: Vec<&'a Datatype>,
     pub values: Vec<ValueLabel<'a>>,
+    /// What tells the labels of each kind apart, in their order.
+    pub class_codes: IndexSet<Vec<LabelPart<'a>>>,
+    pub datatype_codes: IndexSet<Vec<LabelPart<'a>>>,
+    pub value_codes: IndexSet<Vec<LabelPart<'a>>>,
 }
 
 /// What the rules of simplification ask of a side.
@@ -67,11 +74,15 @@ impl<'a> RowTable<'a> {
         let mut numbers = HashMap::new(alloc);
         number(&mut rows, &mut numbers, Row::Empty)?;
         Ok(RowTable {
+            alloc,
             rows,
             numbers,
             classes: Vec::new(alloc),
             datatypes: Vec::new(alloc),
             values: Vec::new(alloc),
+            class_codes: IndexSet::new(alloc),
+            datatype_codes: IndexSet::new(alloc),
+            value_codes: IndexSet::new(alloc),
         })
     }
 
@@ -102,31 +113,41 @@ impl<'a> RowTable<'a> {
         }
     }
 
-    /// A number for a name class.
+    /// The number of a name class; equal ones have one, with the members of each choice nested in twos.
     pub fn class_label(&mut self, class: &'a NameClass) -> Result<usize, AllocError>
         requires table { IsRowTable self.old }
         ensures table { OnOk result (IsRelabelled self.old self.new) }
         ensures there { IfOk result (λ c. c < length (labels_of self.new).classes) }
         ensures is { IfOk result (λ c. class_at (labels_of self.new) c ≡ nested (class_of class.now)) }
     {
+        let mut code = Vec::new(self.alloc);
+        put_class(&mut code, class)?;
+        if let Some(label) = place_of_code(&mut self.class_codes, code)? {
+            return Ok(label);
+        }
         let label = self.classes.len();
         self.classes.push(class)?;
         Ok(label)
     }
 
-    /// A number for a datatype.
+    /// The number of a datatype; equal ones have one.
     pub fn datatype_label(&mut self, datatype: &'a Datatype) -> Result<usize, AllocError>
         requires table { IsRowTable self.old }
         ensures table { OnOk result (IsRelabelled self.old self.new) }
         ensures there { IfOk result (λ d. d < length (labels_of self.new).datatypes) }
         ensures is { IfOk result (λ d. datatype_at (labels_of self.new) d ≡ datatype_of datatype.now) }
     {
+        let mut code = Vec::new(self.alloc);
+        put_datatype(&mut code, datatype)?;
+        if let Some(label) = place_of_code(&mut self.datatype_codes, code)? {
+            return Ok(label);
+        }
         let label = self.datatypes.len();
         self.datatypes.push(datatype)?;
         Ok(label)
     }
 
-    /// A number for a value.
+    /// The number of a value; equal ones have one.
     pub fn value_label(
         &mut self,
         library: &'a str,
@@ -138,6 +159,10 @@ impl<'a> RowTable<'a> {
         ensures there { IfOk result (λ v. v < length (labels_of self.new).values) }
         ensures is { IfOk result (λ v. value_at (labels_of self.new) v ≡ (without_parameters library.now name.now, text.now)) }
     {
+        let code = value_code(self.alloc, library, name, text)?;
+        if let Some(label) = place_of_code(&mut self.value_codes, code)? {
+            return Ok(label);
+        }
         let label = self.values.len();
         self.values.push(ValueLabel {
             library,

@@ -10,7 +10,7 @@ ghost use Rattle.rng_graph.specs.Graph.{IsOrderBy, Mentions};
 ghost use Rattle.rng_graph.specs.GraphView.{classes_of, graph_of};
 ghost use Rattle.rng_graph.specs.InTwos.{nested as nested_tree};
 ghost use Rattle.rng_simple.specs.GrammarElements.{AreElementCopies};
-ghost use Rattle.rng_simple.specs.SimplifiedSchema.{AreAllUsed, IsMadeTable};
+ghost use Rattle.rng_simple.specs.SimplifiedSchema.{AreAllUsed, AreToldApart, IsMadeTable};
 
 use crate::copying::copied_rows;
 use crate::name_class::nested;
@@ -26,9 +26,9 @@ use std::alloc::{AllocError, Global};
 /// order has all definitions, each after those that its body mentions outside elements.
 ///
 /// The answer is in the simple syntax of section 5, and it is the only simple form of the schema, up to the numbers of its
-/// elements. Each definition and each element is simplified once, and elements that the start does not reach are not in it. The
-/// only fault is want of memory. Takes time and memory in proportion to the graph, and recurses as deep as a single body
-/// nests.
+/// elements. Each definition and each element is simplified once, equal patterns have one number, and elements that the start
+/// does not reach are not in it. The only fault is want of memory. Takes time and memory in proportion to the graph, but for
+/// hashing, and recurses as deep as a single body nests.
 pub fn simple_grammar(
     alloc: Global,
     graph: &Graph<'_>,
@@ -37,6 +37,7 @@ pub fn simple_grammar(
     requires { IsWholeOrder (graph_of graph.now) order.now }
     ensures syntax { IfOk result (λ h. IsInSimpleSyntax (grammar_of h)) }
     ensures used { IfOk result AreAllUsed }
+    ensures apart { IfOk result AreToldApart }
     ensures few { IfOk result (λ h. length h.patterns < 2 ^ 64) }
     ensures simple_form { IfOk result (λ h. (s : Schema) → IsGraphOfSchema s graph.now → IsSimpleGrammarOf s (grammar_of h)) }
     ensures only { IfOk result (λ h. (s : Schema) → IsGraphOfSchema s graph.now → IsOnlySimpleGrammarOf s (grammar_of h)) }

@@ -7,7 +7,7 @@ ghost use Rattle.rng_model.specs.SchemaForm.{IsOnlySimpleGrammarOf, IsSimpleGram
 ghost use Rattle.rng_model.specs.SchemaMatching.{AreSameDocuments};
 ghost use Rattle.rng_model.specs.Table.{IsInSimpleSyntax, grammar_of};
 ghost use Rattle.rng_simple.specs.KnownDatatypes.{AreGrammarDatatypesKnown};
-ghost use Rattle.rng_simple.specs.SimplifiedSchema.{AreAllUsed, IsSchemaFault};
+ghost use Rattle.rng_simple.specs.SimplifiedSchema.{AreAllUsed, AreToldApart, IsSchemaFault};
 
 use crate::schema_form::simple_grammar;
 use rng_components::check_components;
@@ -20,10 +20,9 @@ use std::alloc::Global;
 /// breaks.
 ///
 /// The answer is in the simple syntax of section 5, it is the only simple form of the schema, up to the numbers of its elements, its tables hold no
-/// pattern that does not stand in the start or in an element, and a document is valid by it exactly if it is valid by the schema as it is written. Each
-/// of its datatypes is one of the table, with parameters that it takes, and that of a value has none. `Clause` is answered exactly where one of the
-/// clauses 11 to 17 is broken, and
-/// names the least: a name class, a datatype, components of one name that do not combine, a grammar without a start, a ref without a definition, at
+/// pattern that does not stand in the start or in an element, equal patterns have one number in them, and a document is valid by it exactly if it is
+/// valid by the schema as it is written. Each of its datatypes is one of the table, with parameters that it takes, and that of a value has none.
+/// `Clause` is answered exactly where one of the clauses 11 to 17 is broken, and names the least: a name class, a datatype, components of one name that do not combine, a grammar without a start, a ref without a definition, at
 /// any place, reached or not; or an expansion that loops outside elements, or that is deeper than 1,000, of what is reached. `File` is not answered,
 /// `Memory` only for want of it.
 ///
@@ -32,6 +31,7 @@ pub fn simplify_schema(alloc: Global, schema: &Schema) -> Result<SimpleGrammar, 
     requires { IsWellPlaced (schema_of schema.now) }
     ensures syntax { IfOk result (λ g. IsInSimpleSyntax (grammar_of g)) }
     ensures used { IfOk result AreAllUsed }
+    ensures apart { IfOk result AreToldApart }
     ensures few { IfOk result (λ g. length g.patterns < 2 ^ 64) }
     ensures simple_form { IfOk result (λ g. IsSimpleGrammarOf (schema_of schema.now) (grammar_of g)) }
     ensures only { IfOk result (λ g. IsOnlySimpleGrammarOf (schema_of schema.now) (grammar_of g)) }

@@ -2,7 +2,7 @@ use Rattle.std.proofs.Common.{rules, ◌≡◌, ◌∷◌, ◌++◌, [], ap, sym
 use Rattle.std.proofs.lemmas.List.{map_push, length-map}
 use Rattle.rng_rules.specs.NamesMeetReach.{lists}
 use Rattle.rng_rules.specs.NamesMeetRows.{children}
-use Rattle.rng_rules.proofs.NamesMeetTables.{made_more, made_all}
+use Rattle.rng_model.proofs.MadeLists.{made_more, made_all}
 use Rattle.rng_rules.proofs.names_meet_rows.below.Goals as goal
 
 pub rows-preserved : goal.rows-preserved

@@ -9,6 +9,7 @@ use Rattle.rng_simple.specs.Worklist.{IsReachedBy}
 use Rattle.rng_simple.proofs.GrammarElements.{copies_as}
 use Rattle.rng_simple.proofs.MadeGrammar.{closed, is_table, is_simple, is_made}
 use Rattle.rng_simple.proofs.SimpleParts.{stay_below}
+use Rattle.rng_simple.proofs.ToldApart.{patterns_apart}
 use Rattle.rng_simple.proofs.UsedPatterns.{all_used}
 use Rattle.rng_simple.proofs.schema_form.made_grammar.Goals as goal
 
@@ -106,5 +107,6 @@ returns c =
           places listed ps c.in_ok-copied.ensures.copied classes es copies _ is_start;
       used = all_used (labels_of u) rs grown.table.rows contents below first first_below reached marks
           places listed ps c.in_ok-copied.ensures.copied classes es copies _ is_start;
+      apart = patterns_apart u grown.table reached places ps listed c.in_ok-copied.ensures.copied;
       few = c.in_ok-copied.ensures.few;
     })

@@ -1,7 +1,7 @@
 use Rattle.std.proofs.Common.{rules, ◌≡◌, ◌++◌, ◌∷◌, [], All, length, subst, sym}
 use Rattle.std.proofs.lemmas.List.Elements.{All-push}
 use Rattle.rng_model.specs.Table.{AreChildrenBelow, IsOfFirstKind}
-use Rattle.rng_simple.proofs.GrammarBuilder.{falls_after_push}
+use Rattle.rng_model.proofs.Table.{falls_after_push}
 use Rattle.rng_cases.proofs.grammar_builder.GrammarBuilder.add.Goals as goal
 
 pub invariant_of-self-else-is_err : goal.invariant_of-self-else-is_err

@@ -13,7 +13,11 @@ module _ (c : goal.In_ok-id) where
 pub returns-clause-grown : goal.returns-clause-grown
 returns-clause-grown c =
     let p = is_put c in record {
-      table = record { index = c.in_ok-id.ensures.index; rows = p.rows_after };
+      table = record {
+        index = c.in_ok-id.ensures.index;
+        rows = p.rows_after;
+        coded = let d = c.requires.table.coded in record { classes = d.classes; datatypes = d.datatypes; values = d.values };
+      };
       long = p.long;
       stays = p.stays;
     }

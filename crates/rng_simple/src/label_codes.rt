@@ -1,0 +1,134 @@
+// What tells labels apart: the parts that each is written by.
+ghost use Rattle.std.specs.Prelude.{◌≡◌, ◌∷◌, ◌++◌, [], IfOk, OnOk, map};
+ghost use Rattle.rng_model.specs.Names.{some_of};
+ghost use Rattle.rng_model.specs.Patterns.{without_parameters};
+ghost use Rattle.rng_model.specs.Types.{datatype_of};
+ghost use Rattle.rng_model.specs.View.{class_of};
+ghost use Rattle.rng_simple.specs.LabelCodes.{AreApart, IsPlaced, class_code, codes_of, datatype_code, part_of, value_code};
+
+use indexmap::IndexSet;
+use rng_model::{Datatype, NameClass};
+use std::alloc::{AllocError, Global};
+
+/// A part of what a label is written by.
+#[derive(Clone, Copy, PartialEq, Eq, Hash)]
+pub enum LabelPart<'a> {
+    /// A text of a datatype or of a value.
+    Text(&'a str),
+    /// Every name.
+    Any,
+    /// Every name but those of the class that stands before it.
+    AnyBut,
+    /// Every name of a namespace.
+    Ns(&'a str),
+    /// Every name of a namespace but those of the class that stands before it.
+    NsBut(&'a str),
+    /// A name: its namespace, and its local name.
+    Name(&'a str, &'a str),
+    /// The names of both classes that stand before it.
+    Either,
+}
+
+/// The place of a code among these; `None` where it was not there, and is now the last.
+pub fn place_of_code<'a>(
+    codes: &mut IndexSet<Vec<LabelPart<'a>>>,
+    code: Vec<LabelPart<'a>>,
+) -> Result<Option<usize>, AllocError>
+    ensures apart { OnOk result (AreApart (codes_of codes.new)) }
+    ensures placed { IfOk result (IsPlaced (codes_of codes.old) (codes_of codes.new) (map part_of code.entry.items)) }
+{
+    let (place, is_new) = codes.insert_full(code)?;
+    if is_new {
+        return Ok(None);
+    }
+    Ok(Some(place))
+}
+
+/// Puts a part at the end.
+#[tactic(auto, using(crate::proofs::LabelCodes::put_part))]
+fn put<'a>(code: &mut Vec<LabelPart<'a>>, part: LabelPart<'a>) -> Result<(), AllocError>
+    ensures { OnOk result (map part_of code.new.items ≡ map part_of code.old.items ++ part_of part.entry ∷ []) }
+{
+    code.push(part)?;
+    Ok(())
+}
+
+/// Puts the parts of a name class at the end.
+#[cycle(codes)]
+#[tactic(auto, using(crate::proofs::LabelCodes::put_after), unfolding(crate::specs::LabelCodes::class_code))]
+pub fn put_class<'a>(code: &mut Vec<LabelPart<'a>>, class: &'a NameClass) -> Result<(), AllocError>
+    ensures { OnOk result (map part_of code.new.items ≡ map part_of code.old.items ++ class_code (class_of class.now) []) }
+{
+    match class {
+        NameClass::Any => put(code, LabelPart::Any),
+        NameClass::AnyExcept(except) => {
+            put_class(code, except)?;
+            put(code, LabelPart::AnyBut)?;
+            Ok(())
+        }
+        NameClass::Ns(ns) => put(code, LabelPart::Ns(ns.as_str())),
+        NameClass::NsExcept(ns, except) => {
+            put_class(code, except)?;
+            put(code, LabelPart::NsBut(ns.as_str()))?;
+            Ok(())
+        }
+        NameClass::Name(name) => {
+            put(code, LabelPart::Name(name.ns.as_str(), name.local.as_str()))
+        }
+        NameClass::Choice(members) => put_members(code, members),
+    }
+}
+
+/// Puts the parts of a choice of these members at the end. One of no members is everything but everything.
+#[cycle(codes)]
+#[tactic(auto, using(crate::proofs::LabelCodes::put_none))]
+fn put_members<'a>(
+    code: &mut Vec<LabelPart<'a>>,
+    members: &'a [NameClass],
+) -> Result<(), AllocError>
+    ensures { OnOk result (map part_of code.new.items ≡ map part_of code.old.items ++ class_code (some_of (map class_of members.now)) []) }
+{
+    let [first, rest @ ..] = members else {
+        put(code, LabelPart::Any)?;
+        put(code, LabelPart::AnyBut)?;
+        return Ok(());
+    };
+    put_class(code, first)?;
+    for member in rest {
+        put_class(code, member)?;
+        put(code, LabelPart::Either)?;
+    }
+    Ok(())
+}
+
+/// Puts the parts of a datatype at the end.
+pub fn put_datatype<'a>(
+    code: &mut Vec<LabelPart<'a>>,
+    datatype: &'a Datatype,
+) -> Result<(), AllocError>
+    ensures { OnOk result (map part_of code.new.items ≡ map part_of code.old.items ++ datatype_code (datatype_of datatype.now)) }
+{
+    put(code, LabelPart::Text(datatype.library.as_str()))?;
+    put(code, LabelPart::Text(datatype.name.as_str()))?;
+    'parameters: for (name, value) in &datatype.parameters {
+        put(code, LabelPart::Text(name.as_str()))?;
+        put(code, LabelPart::Text(value.as_str()))?;
+    }
+    Ok(())
+}
+
+/// The parts of a text of a datatype without parameters.
+pub fn value_code<'a>(
+    alloc: Global,
+    library: &'a str,
+    name: &'a str,
+    text: &'a str,
+) -> Result<Vec<LabelPart<'a>>, AllocError>
+    ensures { IfOk result (λ code. map part_of code.items ≡ value_code (without_parameters library.now name.now, text.now)) }
+{
+    let mut code = Vec::new(alloc);
+    put(&mut code, LabelPart::Text(library))?;
+    put(&mut code, LabelPart::Text(name))?;
+    put(&mut code, LabelPart::Text(text))?;
+    Ok(code)
+}
