@@ -1,3 +1,4 @@
+pub mod PlainTexts
 pub mod TextCuts
 pub mod ReplacedEscapes
 pub mod WrittenNames

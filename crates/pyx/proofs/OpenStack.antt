@@ -1,5 +1,8 @@
 -- The open elements as a stack.
-use Rattle.std.proofs.Common.{◌≡◌, List, [], ◌∷◌, ◌++◌, map, reverse, ap, ◌∙◌}
+use Rattle.std.proofs.Common.{◌≡◌, List, [], ◌∷◌, ◌++◌, map, reverse, ap, ◌∙◌, ℕ, length, Option, refl, arith}
+use Rattle.rng_model.specs.PyxNamespaces.{WrittenAttribute}
+use Rattle.pyx.specs.DocumentReader.{Open, declared_in}
+use Rattle.pyx.specs.TagReader.{namespace_of, found_in, or_else}
 use Rattle.std.proofs.lemmas.List.{reverse-append}
 use Rattle.std.proofs.lemmas.List.{map-append}
 use Rattle.pyx.specs.declared.scope.OpenElement.{OpenElement}
@@ -7,3 +10,13 @@ use Rattle.pyx.specs.View.{open_of, stack_of}
 
 pub stack_push : (xs : List OpenElement) (x : OpenElement) → stack_of (xs ++ x ∷ []) ≡ open_of x ∷ stack_of xs
 stack_push xs x = ap reverse (map-append open_of xs (x ∷ [])) ∙ reverse-append (map open_of xs) (open_of x ∷ [])
+
+-- an element that declares nothing, in front
+pub passed_over : (stack outer : List Open) (element : Open) (prefix : Option (List ℕ)) → stack ≡ element ∷ outer → length element.declared ≡ 0
+    → namespace_of (declared_in outer) prefix ≡ namespace_of (declared_in stack) prefix
+unfolding namespace_of found_in
+passed_over stack outer element prefix e h = rw e (go element.declared h) where
+  go : (ds : List WrittenAttribute) → length ds ≡ 0
+      → namespace_of (declared_in outer) prefix ≡ or_else (found_in prefix ds) (namespace_of (declared_in outer) prefix)
+  go [] k = refl
+  go (d ∷ ds) k = absurd (omega (arith, k))

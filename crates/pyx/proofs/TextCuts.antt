@@ -4,13 +4,16 @@ use Rattle.std.proofs.Common.{Bool, true, false, add-one}
 use Rattle.std.specs.Prelude.{◌≢◌, MatchOption}
 use Rattle.std.specs.List.{position_or_len, before_first, after_first}
 use Rattle.std.proofs.lemmas.Bool.{eqb-true}
-use Rattle.std.proofs.lemmas.Str.Pattern.{strip_prefix_char, split_once_first, IsSplitOnceResult}
+use Rattle.std.proofs.lemmas.Str.Pattern.{strip_prefix_char}
 use Rattle.std.specs.Option.{option_map}
 use Rattle.std.specs.Str.Pattern.{FindsCharPrefix}
 use Rattle.pyx.specs.Cuts.{behind, at_byte, at_front, escape_of, either_way}
 use Rattle.pyx.specs.LineReader.{bytes_of, characters_of}
 use Rattle.std.specs.Str.{IsUtf8, is_utf8}
 use Rattle.std.proofs.lemmas.Str.{is_utf8-from_IsUtf8, IsUtf8-from_is_utf8}
+use Rattle.std.proofs.Common.{take, get_or, ◌∙◌, subst}
+use Rattle.std.proofs.lemmas.List.Sums.{position_or_len_is}
+use Rattle.memchr.specs.Find.{Nowhere, NoneBefore, Passes, is_byte}
 use denote.Ref.{Bor}
 
 eqb-same : (k : ℕ) → eqb k k ≡ true
@@ -74,9 +77,35 @@ at_byte_cases : (k : ℕ) (bs : List ℕ) (r : Option (Bor (List ℕ) × Bor (Li
 at_byte_cases k bs None h = sym (at_byte_none k bs h)
 at_byte_cases k bs (Some x) h = rw (at_byte_some k bs h.0, h.1, h.2) refl
 
-pub at_byte_is : (k : ℕ) (bs : List ℕ) (r : Option (Bor (List ℕ) × Bor (List ℕ))) → IsSplitOnceResult k bs r → k < 128
-    → option_map (λ x. (x.0.now, x.1.now)) r ≡ at_byte k bs
-at_byte_is k bs r h small = at_byte_cases k bs r (split_once_first k bs r h small)
+fails : (b : Bool) → (b ≡ true → ⊥) → b ≡ false
+fails true n = absurd (n refl)
+fails false n = refl
+
+found_mark : (k : ℕ) (bs : List ℕ) (i : ℕ) → NoneBefore (Passes (is_byte k) bs) 0 (length bs) i → Passes (is_byte k) bs i
+    → at_byte k bs ≡ Some (take i bs, drop (i + 1) bs)
+found_mark k bs i none here =
+    let e : position_or_len (λ x. eqb x k) bs ≡ i = position_or_len_is (is_byte k) bs i 0 (omega (arith, none.high))
+    (λ j l. fails _ (none.before j (omega arith) l)) (λ l. here) in
+    at_byte_some k bs (omega (arith, e, none.high)) ∙ rw e refl
+
+no_mark : (k : ℕ) (bs : List ℕ) → Nowhere (Passes (is_byte k) bs) 0 (length bs) → at_byte k bs ≡ None
+no_mark k bs none = at_byte_none k bs (position_or_len_is (is_byte k) bs (length bs) 0 (omega arith)
+    (λ j l. fails _ (none j (omega arith) l)) (λ l. absurd (omega (arith, l))))
+
+-- as the code has it: in the bytes of the text
+pub cut_here : (k : ℕ) (bs text front after : List ℕ) (i : ℕ) → bs ≡ text → NoneBefore (Passes (is_byte k) bs) 0 (length bs) i → Passes (is_byte k) bs i
+    → front ≡ take i text → after ≡ drop (i + 1) text → Some (front, after) ≡ at_byte k text
+cut_here k bs text front after i e none here f g =
+    rw (f, g) (sym (subst (λ b. at_byte k b ≡ Some (take i b, drop (i + 1) b)) e (found_mark k bs i none here)))
+
+pub cut_nowhere : (k : ℕ) (bs text : List ℕ) → bs ≡ text → Nowhere (Passes (is_byte k) bs) 0 (length bs) → None ≡ at_byte k text
+cut_nowhere k bs text e none = sym (subst (λ b. at_byte k b ≡ None) e (no_mark k bs none))
+
+mark_is : (k x : ℕ) → eqb x k ≡ true → k < 128 → x < 128
+mark_is k x e h = subst (λ y. y < 128) (sym (eqb-true x k e)) h
+
+pub mark_low : (k : ℕ) (bs text : List ℕ) (i : ℕ) → bs ≡ text → Passes (is_byte k) bs i → k < 128 → get_or text i 0 < 128
+mark_low k bs text i e here h = subst (λ b. get_or b i 0 < 128) e (mark_is k (get_or bs i 0) here h)
 
 -- an escape, by what stands in front
 abbrev Escape : Type 0

@@ -1,6 +1,11 @@
 -- Names are written alike where their bytes are the same.
 use Rattle.std.proofs.Common.{◌≡◌, ℕ, Bool, true, false, cond, ◌&&◌, List, [], ◌∷◌, ◌++◌, Option, Some, None, refl, sym, ap, ◌∙◌, ◌+◌, length, eqb, rules}
 use Rattle.std.proofs.Common.{arith}
+use Rattle.std.proofs.Common.{drop, append_assoc, ◌-◌}
+use Rattle.std.specs.List.{ends_with}
+use Rattle.std.proofs.Math.Seq.{drop-append_seam}
+use Rattle.std.specs.Cmp.Lexicographic.{pointwise}
+use Rattle.rng_model.specs.PyxNamespaces.{xmlns}
 use Rattle.std.specs.Str.{bytes_eq}
 use Rattle.std.proofs.lemmas.Bool.{eqb-true}
 use Rattle.std.proofs.lemmas.List.{length-append}
@@ -8,7 +13,7 @@ use Rattle.rng_model.specs.PyxHeld.{prefix_length, name_length}
 use Rattle.rng_model.specs.PyxLines.{WrittenName}
 use Rattle.pyx.specs.Cuts.{at_byte, at_front}
 use Rattle.pyx.specs.LineReader.{written_of, cut_name}
-use Rattle.pyx.specs.TagReader.{same_prefix, same_written}
+use Rattle.pyx.specs.TagReader.{same_prefix, same_written, declares, declared_by, declared_prefix}
 
 -- a name as it stands in a line
 abbrev pub bytes_of_prefix : Option (List ℕ) → List ℕ → List ℕ
@@ -19,11 +24,11 @@ abbrev pub written_bytes : WrittenName → List ℕ
 written_bytes name = bytes_of_prefix name.prefix name.local
 
 -- what stands before the first of a byte, the byte, and what stands after it, are all
-abbrev joins : ℕ → Option (List ℕ × List ℕ) → List ℕ → Type 0
+abbrev pub joins : ℕ → Option (List ℕ × List ℕ) → List ℕ → Type 0
 joins k None bytes = Unit {0}
 joins k (Some p) bytes = p.0 ++ k ∷ p.1 ≡ bytes
 
-at_joins : (k : ℕ) (bytes : List ℕ) → joins k (at_byte k bytes) bytes
+pub at_joins : (k : ℕ) (bytes : List ℕ) → joins k (at_byte k bytes) bytes
 unfolding at_byte
 at_joins k [] = tt
 at_joins k (c ∷ cs) = go (eqb c k) (at_byte k cs) refl (at_joins k cs) where
@@ -86,3 +91,35 @@ prefix_size (Some p) local = omega (arith, length-append p (58 ∷ local))
 
 pub written_size : (bytes : List ℕ) → length bytes ≡ name_length (written_of bytes)
 written_size bytes = ap length (sym (written_back bytes)) ∙ prefix_size (written_of bytes).prefix (written_of bytes).local
+
+-- ---- declarations end with their prefix
+
+drop_front : (xs p : List ℕ) → drop (length (xs ++ p) - length p) (xs ++ p) ≡ p
+drop_front xs p =
+    let n : length (xs ++ p) - length p ≡ length xs = omega (arith, length-append xs p) in
+    rw n (drop-append_seam xs p)
+
+alike : (p : List ℕ) → pointwise eqb p p ≡ true
+alike [] = refl
+alike (c ∷ cs) = search (rules, alike cs)
+
+ends : (xs p : List ℕ) → ends_with eqb (xs ++ p) p ≡ true
+ends xs p = rw (drop_front xs p) (alike p)
+
+declared_ends : (q : Option (List ℕ)) (local p : List ℕ) → declares (declared_prefix q local) (Some p) ≡ true → ends_with eqb (bytes_of_prefix q local) p ≡ true
+declared_ends None local p e = go (bytes_eq local xmlns) e where
+  go : (b : Bool) → declares (cond b (Some None) None) (Some p) ≡ true → ends_with eqb local p ≡ true
+  go true f = absurd cc
+  go false f = absurd cc
+declared_ends (Some q) local p e = go (bytes_eq q xmlns) e where
+  go : (b : Bool) → declares (cond b (Some (Some local)) None) (Some p) ≡ true → ends_with eqb (q ++ 58 ∷ local) p ≡ true
+  go false f = absurd cc
+  go true f =
+      let same : local ≡ p = bytes_same local p f in
+      rw (same, ← append_assoc q (58 ∷ []) p) (ends (q ++ 58 ∷ []) p)
+
+pub undeclared : (n p : List ℕ) → ends_with eqb n p ≡ false → declares (declared_by (written_of n)) (Some p) ≡ false
+undeclared n p e = go (declares (declared_by (written_of n)) (Some p)) refl where
+  go : (b : Bool) → declares (declared_by (written_of n)) (Some p) ≡ b → b ≡ false
+  go false f = refl
+  go true f = sym (declared_ends (written_of n).prefix (written_of n).local p f) ∙ ap (λ x. ends_with eqb x p) (written_back n) ∙ e

@@ -8,3 +8,4 @@ pub mod Documents
 pub mod Standing
 pub mod LineFaults
 pub mod Held
+pub mod PlainBytes

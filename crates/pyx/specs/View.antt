@@ -1,5 +1,8 @@
 -- What the values of the code are, and what a call that may run out of memory answers.
-use Rattle.std.specs.Prelude.{◌≡◌, ℕ, List, [], ◌∷◌, ◌++◌, map, reverse, option_map, Result, Ok, Err, Option, Some, None, string_bytes}
+use Rattle.std.specs.Prelude.{◌≡◌, ℕ, List, [], ◌∷◌, ◌++◌, map, reverse, option_map, Result, Ok, Err, Option, Some, None, IfSome, true, string_bytes}
+use Rattle.std.specs.List.{list_all}
+use Rattle.std.specs.Str.{chars}
+use Rattle.rng_model.specs.Characters.{is_xml_char}
 use Rattle.rng_model.specs.Lines as lines
 use Rattle.rng_model.specs.PyxFaults.{Fault}
 use Rattle.rng_model.specs.PyxLines as pyx
@@ -40,6 +43,10 @@ value_of (unescaped.Replaced text) = string_bytes text
 
 abbrev pub line_of : Line → lines.Line
 line_of l = record { bytes = l.bytes.now; ended = l.ended }
+
+-- what the code knows of a line's bytes as a text is so
+abbrev pub IsKnown : Line → Type 0
+IsKnown l = IfSome l.text (λ t. (t.now ≡ l.bytes.now) × (list_all is_xml_char (chars t.now) ≡ true))
 
 abbrev pub said_view : Said → pyx.Said
 said_view (said.Start name) = pyx.start (written_of name.now)

@@ -3,6 +3,8 @@ ghost use Rattle.std.specs.Prelude.{◌≡◌, ◌<◌};
 ghost use Rattle.std.specs.Option.{option_map};
 ghost use Rattle.pyx.specs.Cuts.{behind, at_byte};
 
+use memchr::memchr;
+
 /// What stands after this character in front.
 pub fn behind(kind: char, text: &str) -> Option<&str>
     requires { kind < 128 }
@@ -12,9 +14,12 @@ pub fn behind(kind: char, text: &str) -> Option<&str>
 }
 
 /// What stands before the first of this character, and after it.
-pub fn cut_at(mark: char, text: &str) -> Option<(&str, &str)>
+pub fn cut_at(mark: u8, text: &str) -> Option<(&str, &str)>
     requires { mark < 128 }
     ensures { option_map (λ x. (x.0.now, x.1.now)) result ≡ at_byte mark text.now }
 {
-    text.split_once(mark)
+    match memchr(mark, text.as_bytes()) {
+        Some(at) => Some((&text[..at], &text[at + 1..])),
+        None => None,
+    }
 }

@@ -7,11 +7,12 @@ ghost use Rattle.pyx.specs.View.{clause_of, value_of, value_read};
 
 use crate::cuts::{behind, cut_at};
 use crate::fault::LineFault;
+use crate::spares::Spares;
 use rng_model::OutOfMemory;
 use std::alloc::Global;
 
 /// What a text of a line stands for.
-#[derive(Debug, Drop)]
+#[derive(Drop)]
 pub enum Unescaped<'a> {
     /// It stands for itself.
     Same(&'a str),
@@ -31,11 +32,11 @@ impl<'a> Unescaped<'a> {
     }
 
     /// The text as one's own.
-    pub fn into_string(self, alloc: Global) -> Result<String, OutOfMemory>
+    pub fn into_string(self, alloc: Global, spares: &mut Spares) -> Result<String, OutOfMemory>
         ensures { IfOk result (λ s. string_bytes s ≡ value_of self.entry) }
     {
         match self {
-            Unescaped::Same(text) => Ok(String::from_str(alloc, text)?),
+            Unescaped::Same(text) => spares.copy(alloc, text),
             Unescaped::Replaced(text) => Ok(text),
         }
     }
@@ -64,7 +65,7 @@ fn replace(alloc: Global, text: &str) -> Result<String, LineFault>
 {
     let mut value = String::new(alloc);
     let mut rest = text;
-    'escapes: while let Some((front, after)) = cut_at('\\', rest) {
+    'escapes: while let Some((front, after)) = cut_at(b'\\', rest) {
         let Some((character, after)) = escape(after) else {
             return Err(LineFault::Clause(5));
         };
@@ -81,7 +82,7 @@ fn replace(alloc: Global, text: &str) -> Result<String, LineFault>
 pub fn unescape(alloc: Global, text: &str) -> Result<Unescaped<'_>, LineFault>
     ensures { Gives clause_of value_of result (value_read (unescaped text.now)) }
 {
-    match cut_at('\\', text) {
+    match cut_at(b'\\', text) {
         Some(_) => Ok(Unescaped::Replaced(replace(alloc, text)?)),
         None => Ok(Unescaped::Same(text)),
     }

@@ -26,7 +26,7 @@ where
 }
 
 /// What is wrong with one line, or with one tag.
-#[derive(Clone, Copy, Debug, PartialEq, Eq)]
+#[derive(Clone, Copy)]
 pub enum LineFault {
     /// There was no memory for what the call had to keep.
     Memory,

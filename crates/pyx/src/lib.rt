@@ -6,8 +6,10 @@ mod escapes;
 mod fault;
 mod line;
 mod pieces;
+mod plain;
 mod reader;
 mod scope;
+mod spares;
 mod state;
 mod written;
 

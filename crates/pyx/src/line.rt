@@ -3,15 +3,16 @@ ghost use Rattle.std.specs.Prelude.{◌≡◌, IfOk, IfErr};
 ghost use Rattle.std.specs.List.{list_all};
 ghost use Rattle.std.specs.Str.{chars};
 ghost use Rattle.rng_model.specs.Answers.{Gives};
-ghost use Rattle.rng_model.specs.Characters.{is_xml_char};
+ghost use Rattle.rng_model.specs.Characters.{is_ncname, is_xml_char};
 ghost use Rattle.pyx.specs.LineReader.{is_name, attribute_of, kind_of, characters_of, bytes_of, said_of};
 ghost use Rattle.rng_model.specs.PyxLines.{IsGoodLine};
 ghost use Rattle.pyx.specs.LineFaults.{IsLeastClause};
-ghost use Rattle.pyx.specs.View.{clause_of, line_of, said_view};
+ghost use Rattle.pyx.specs.View.{IsKnown, clause_of, line_of, said_view};
 
 use crate::cuts::{behind, cut_at};
 use crate::escapes::{Unescaped, unescape};
 use crate::fault::LineFault;
+use crate::plain::{all_plain, is_plain_name};
 use rng_model::{is_ncname, is_xml_char};
 use std::alloc::Global;
 
@@ -22,12 +23,14 @@ pub const LINE_LIMIT: usize = 65_536;
 #[derive(Clone, Copy)]
 pub struct Line<'a> {
     pub bytes: &'a [u8],
+    /// The same bytes as a text, where it is known that they are one, of characters that XML has.
+    pub text: Option<&'a str>,
     /// A line feed ends it.
     pub ended: bool,
 }
 
 /// What one line says: names are as they were written.
-#[derive(Debug, Drop)]
+#[derive(Drop)]
 pub enum Said<'a> {
     Start(&'a str),
     Attribute(&'a str, Unescaped<'a>),
@@ -36,13 +39,24 @@ pub enum Said<'a> {
     Instruction,
 }
 
+/// An NCName.
+#[tactic(auto, using(crate::proofs::PlainTexts::plain_part))]
+fn is_part(text: &str) -> bool
+    ensures { result ≡ is_ncname (chars text.now) }
+{
+    is_plain_name(text.as_bytes()) || is_ncname(text)
+}
+
 /// An NCName, or two with a colon between.
-#[tactic(auto, unfolding(crate::specs::LineReader::is_name))]
+#[tactic(auto, unfolding(crate::specs::LineReader::is_name), using(crate::proofs::PlainTexts::plain_name))]
 fn is_name(text: &str) -> bool
     ensures { result ≡ is_name text.now }
 {
-    match cut_at(':', text) {
-        Some((prefix, local)) => is_ncname(prefix) && is_ncname(local),
+    if is_plain_name(text.as_bytes()) {
+        return true;
+    }
+    match cut_at(b':', text) {
+        Some((prefix, local)) => is_part(prefix) && is_part(local),
         None => is_ncname(text),
     }
 }
@@ -51,7 +65,7 @@ fn is_name(text: &str) -> bool
 fn attribute(alloc: Global, text: &str) -> Result<Said<'_>, LineFault>
     ensures { Gives clause_of said_view result (attribute_of text.now) }
 {
-    let Some((name, value)) = cut_at(' ', text) else {
+    let Some((name, value)) = cut_at(b' ', text) else {
         return Err(LineFault::Clause(6));
     };
     let value = unescape(alloc, value)?;
@@ -92,7 +106,7 @@ fn kind(alloc: Global, line: &str) -> Result<Said<'_>, LineFault>
 fn all_xml_chars(text: &str) -> bool
     ensures { result ≡ list_all is_xml_char (chars text.now) }
 {
-    text.chars().all(|c| is_xml_char(c))
+    all_plain(text.as_bytes()) || text.chars().all(|c| is_xml_char(c))
 }
 
 #[tactic(auto, unfolding(crate::specs::LineReader::characters_of))]
@@ -114,8 +128,9 @@ fn read_bytes(alloc: Global, bytes: &[u8]) -> Result<Said<'_>, LineFault>
     }
 }
 
-#[tactic(auto, unfolding(crate::specs::LineReader::said_of))]
+#[tactic(auto, unfolding(crate::specs::LineReader::said_of), using(crate::proofs::PlainTexts::good_text))]
 fn read_line(alloc: Global, line: Line<'_>) -> Result<Said<'_>, LineFault>
+    requires { IsKnown line }
     ensures { Gives clause_of said_view result (said_of (line_of line.entry)) }
 {
     if line.bytes.len() > LINE_LIMIT {
@@ -124,11 +139,15 @@ fn read_line(alloc: Global, line: Line<'_>) -> Result<Said<'_>, LineFault>
     if !line.ended {
         return Err(LineFault::Clause(1));
     }
-    read_bytes(alloc, line.bytes)
+    match line.text {
+        Some(text) => kind(alloc, text),
+        None => read_bytes(alloc, line.bytes),
+    }
 }
 
 /// What this line says, or the least clause that it breaks by itself. Takes memory for a value or a text with escapes.
 pub fn said_of(alloc: Global, line: Line<'_>) -> Result<Said<'_>, LineFault>
+    requires { IsKnown line }
     ensures said { Gives clause_of said_view result (said_of (line_of line.entry)) }
     ensures good { IfOk result (λ said. IsGoodLine (line_of line.entry) (said_view said)) }
     ensures fault { IfErr result (IsLeastClause (line_of line.entry)) }

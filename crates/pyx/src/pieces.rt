@@ -1,16 +1,22 @@
 // A document in pieces.
-ghost use Rattle.std.specs.Prelude.{◌≡◌, ◌+◌, ◌<◌, ◌≤◌, ◌^◌, length, take, [], ◌∷◌, IfSome, MatchOption};
+ghost use Rattle.std.specs.Prelude.{◌≡◌, ◌+◌, ◌<◌, ◌≤◌, ◌^◌, ◌++◌, true, length, take, [], ◌∷◌, IfSome, MatchOption};
 ghost use Rattle.std.specs.Option.{option_map};
-ghost use Rattle.std.specs.List.{prefix_len};
+ghost use Rattle.std.specs.List.{list_all, prefix_len};
+ghost use Rattle.std.specs.Str.{chars};
+ghost use Rattle.rng_model.specs.Characters.{is_xml_char};
+ghost use Rattle.pyx.specs.PlainBytes.{is_plain};
 ghost use Rattle.pyx.specs.Cuts.{at_byte};
 ghost use Rattle.pyx.specs.Held.{held};
 ghost use Rattle.pyx.specs.Pieces as pieces;
 ghost use Rattle.pyx.specs.Pieces.{is_within, weight};
 ghost use Rattle.pyx.specs.View.{Concludes, Hands, Takes, progress_of};
 
+use crate::cuts::cut_at;
 use crate::fault::PyxFault;
 use crate::line::{LINE_LIMIT, Line};
+use crate::plain::plain_text;
 use crate::state::State;
+use memchr::{memchr, memrchr};
 use rng_model::Events;
 use std::alloc::Global;
 
@@ -22,17 +28,14 @@ pub struct Pieces {
     begun: Vec<u8>,
 }
 
-fn is_within(byte: u8) -> bool
-    ensures { result ≡ is_within byte }
-{
-    byte != b'\n'
-}
-
 /// How many bytes stand before the first line feed.
 fn line_len(bytes: &[u8]) -> usize
     ensures { result ≡ prefix_len is_within bytes.now }
 {
-    bytes.iter().take_while(|b| is_within(**b)).count()
+    match memchr(b'\n', bytes) {
+        Some(len) => len,
+        None => bytes.len(),
+    }
 }
 
 fn first_and_rest(bytes: &[u8]) -> Option<(u8, &[u8])>
@@ -54,6 +57,23 @@ fn first_line(bytes: &[u8]) -> Option<(&[u8], &[u8])>
         Some((_, after)) => Some((front, after)),
         None => None,
     }
+}
+
+/// The bytes up to and with the first line feed, those behind it up to and with the last, and the rest.
+fn parts(piece: &[u8]) -> (&[u8], &[u8], &[u8])
+    ensures { piece.now ≡ result.0.now ++ (result.1.now ++ result.2.now) }
+{
+    let end = match memchr(b'\n', piece) {
+        Some(at) => at + 1,
+        None => piece.len(),
+    };
+    let (head, rest) = piece.split_at(end);
+    let end = match memrchr(b'\n', rest) {
+        Some(at) => at + 1,
+        None => 0,
+    };
+    let (body, tail) = rest.split_at(end);
+    (head, body, tail)
 }
 
 /// The bytes in front, at most so many.
@@ -96,14 +116,21 @@ impl Pieces {
         self.begun.extend_from_slice(more)?;
         let line = Line {
             bytes: self.begun.as_slice(),
+            text: None,
             ended: false,
         };
         self.state.line(line, events)
     }
 
-    /// The line ends behind these bytes.
+    /// The line ends behind these bytes, which may be known as a text.
     #[tactic(auto, unfolding(crate::specs::Pieces::line_taken))]
-    fn line<E: Events>(&mut self, front: &[u8], events: &mut E) -> Result<(), PyxFault>
+    fn line<E: Events>(
+        &mut self,
+        front: &[u8],
+        text: Option<&str>,
+        events: &mut E,
+    ) -> Result<(), PyxFault>
+        requires text { IfSome text (λ t. (t.now ≡ front.now) × (list_all is_xml_char (chars t.now) ≡ true)) }
         requires begun { length self.old.begun.items ≤ 65536 }
         requires weight { weight (progress_of self.old) + 65537 < 2 ^ 64 }
         ensures { Takes result (progress_of self.new) (Hands E.stands events.old events.new) (pieces.line_taken front.now (progress_of self.old)) }
@@ -114,6 +141,7 @@ impl Pieces {
         if self.begun.is_empty() {
             let line = Line {
                 bytes: front,
+                text,
                 ended: true,
             };
             return self.state.line(line, events);
@@ -121,11 +149,22 @@ impl Pieces {
         self.begun.extend_from_slice(front)?;
         let line = Line {
             bytes: self.begun.as_slice(),
+            text: None,
             ended: true,
         };
         self.state.line(line, events)?;
         self.begun.clear();
         Ok(())
+    }
+
+    /// The line ends behind this text of plain bytes.
+    fn text_line<E: Events>(&mut self, text: &str, events: &mut E) -> Result<(), PyxFault>
+        requires plain { list_all is_plain text.now ≡ true }
+        requires begun { length self.old.begun.items ≤ 65536 }
+        requires weight { weight (progress_of self.old) + 65537 < 2 ^ 64 }
+        ensures { Takes result (progress_of self.new) (Hands E.stands events.old events.new) (pieces.line_taken text.now (progress_of self.old)) }
+    {
+        self.line(text.as_bytes(), Some(text), events)
     }
 
     /// The line does not end in these bytes.
@@ -142,18 +181,57 @@ impl Pieces {
         Ok(())
     }
 
+    /// Takes bytes, line by line.
+    fn read_bytes<E: Events>(&mut self, bytes: &[u8], events: &mut E) -> Result<(), PyxFault>
+        requires begun { length self.old.begun.items ≤ 65536 }
+        requires weight { weight (progress_of self.old) + length bytes.now < 2 ^ 63 }
+        ensures { Takes result (progress_of self.new) (Hands E.stands events.old events.new) (pieces.read bytes.now (progress_of self.old)) }
+    {
+        let mut rest = bytes;
+        'lines: while let Some((front, after)) = first_line(rest) {
+            self.line(front, None, events)?;
+            rest = after;
+        }
+        self.keep(rest, events)
+    }
+
+    /// Takes a text of plain bytes, line by line.
+    fn read_text<E: Events>(&mut self, text: &str, events: &mut E) -> Result<(), PyxFault>
+        requires plain { list_all is_plain text.now ≡ true }
+        requires begun { length self.old.begun.items ≤ 65536 }
+        requires weight { weight (progress_of self.old) + length text.now < 2 ^ 63 }
+        ensures { Takes result (progress_of self.new) (Hands E.stands events.old events.new) (pieces.read text.now (progress_of self.old)) }
+    {
+        let mut rest = text;
+        'lines: while let Some((front, after)) = cut_at(b'\n', rest) {
+            self.text_line(front, events)?;
+            rest = after;
+        }
+        self.keep(rest.as_bytes(), events)
+    }
+
+    /// Takes bytes.
+    fn read_lines<E: Events>(&mut self, bytes: &[u8], events: &mut E) -> Result<(), PyxFault>
+        requires begun { length self.old.begun.items ≤ 65536 }
+        requires weight { weight (progress_of self.old) + length bytes.now < 2 ^ 63 }
+        ensures { Takes result (progress_of self.new) (Hands E.stands events.old events.new) (pieces.read bytes.now (progress_of self.old)) }
+    {
+        match plain_text(bytes) {
+            Some(text) => self.read_text(text, events),
+            None => self.read_bytes(bytes, events),
+        }
+    }
+
     /// Takes a piece.
     pub fn read<E: Events>(&mut self, piece: &[u8], events: &mut E) -> Result<(), PyxFault>
         requires begun { length self.old.begun.items ≤ 65536 }
         requires weight { weight (progress_of self.old) + length piece.now < 2 ^ 63 }
         ensures { Takes result (progress_of self.new) (Hands E.stands events.old events.new) (pieces.read piece.now (progress_of self.old)) }
     {
-        let mut rest = piece;
-        'lines: while let Some((front, after)) = first_line(rest) {
-            self.line(front, events)?;
-            rest = after;
-        }
-        self.keep(rest, events)
+        let (head, body, tail) = parts(piece);
+        self.read_bytes(head, events)?;
+        self.read_lines(body, events)?;
+        self.read_bytes(tail, events)
     }
 
     /// Nothing comes behind: what has begun is a line, unless it is empty.
@@ -169,6 +247,7 @@ impl Pieces {
         }
         let line = Line {
             bytes: begun.as_slice(),
+            text: None,
             ended: false,
         };
         state.line(line, events)?;

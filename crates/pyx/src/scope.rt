@@ -1,5 +1,5 @@
 // What names stand for inside the tags that are open.
-ghost use Rattle.std.specs.Prelude.{◌≡◌, ◌<◌, [], ◌∷◌, MatchOption, IfSome, Ok, map, length};
+ghost use Rattle.std.specs.Prelude.{◌≡◌, ◌<◌, ◌≤◌, ℕ, List, Option, [], ◌∷◌, MatchOption, IfSome, Ok, map, length};
 ghost use Rattle.std.specs.Option.{option_map};
 ghost use Rattle.rng_model.specs.Answers.{Gives};
 ghost use Rattle.rng_model.specs.View.{name_of, attribute_of};
@@ -11,6 +11,7 @@ ghost use Rattle.pyx.specs.Held.{opened_held};
 
 use crate::cuts::cut_at;
 use crate::fault::LineFault;
+use crate::spares::Spares;
 use crate::written::{
     WrittenAttribute, XML_URI, any_forbidden, declarations_len, found_in, is_written_twice,
     name_len,
@@ -69,12 +70,28 @@ pub fn opened_len(opened: &[OpenElement]) -> u64
     }
 }
 
+/// These elements without the innermost ones that declare nothing.
+fn declaring(opened: &[OpenElement]) -> &[OpenElement]
+    ensures same { (prefix : Option (List ℕ)) → namespace_of (declared_in (stack_of result.now)) prefix
+        ≡ namespace_of (declared_in (stack_of opened.now)) prefix }
+    ensures within { length result.now ≤ length opened.now }
+{
+    let mut rest = opened;
+    'elements: while let Some((element, outer)) = innermost(rest) {
+        if !element.declarations.as_slice().is_empty() {
+            return rest;
+        }
+        rest = outer;
+    }
+    rest
+}
+
 /// The namespace of a prefix, or the default one, inside these elements.
 #[tactic(auto, unfolding(crate::specs::TagReader::namespace_of))]
 fn outer_namespace<'a>(opened: &'a [OpenElement], prefix: Option<&str>) -> Option<&'a str>
     ensures { option_map (λ x. x.now) result ≡ namespace_of (declared_in (stack_of opened.now)) (option_map (λ x. x.now) prefix.entry) }
 {
-    match innermost(opened) {
+    match innermost(declaring(opened)) {
         Some((element, outer)) => match found_in(prefix, element.declarations.as_slice()) {
             Some(uri) => Some(uri),
             None => outer_namespace(outer, prefix),
@@ -87,12 +104,17 @@ fn outer_namespace<'a>(opened: &'a [OpenElement], prefix: Option<&str>) -> Optio
 }
 
 /// An expanded name.
-fn expanded_name(alloc: Global, uri: &str, local: &str) -> Result<Name, LineFault>
+fn expanded_name(
+    alloc: Global,
+    spares: &mut Spares,
+    uri: &str,
+    local: &str,
+) -> Result<Name, LineFault>
     ensures { Gives clause_of name_of result (Ok (record { ns = uri.now; local = local.now })) }
 {
     Ok(Name {
-        ns: String::from_str(alloc, uri)?,
-        local: String::from_str(alloc, local)?,
+        ns: spares.copy(alloc, uri)?,
+        local: spares.copy(alloc, local)?,
     })
 }
 
@@ -110,30 +132,40 @@ impl<'a> Scope<'a> {
 
     /// The expanded name of an element. A prefix that is not declared breaks P11.
     #[tactic(auto, unfolding(crate::specs::TagReader::element_name, crate::specs::LineReader::written_of))]
-    pub fn element_name(self, alloc: Global, name: &str) -> Result<Name, LineFault>
+    pub fn element_name(
+        self,
+        alloc: Global,
+        spares: &mut Spares,
+        name: &str,
+    ) -> Result<Name, LineFault>
         ensures { Gives clause_of name_of result (resolved (element_name (scope_of self.entry) (written_of name.now))) }
     {
-        let (prefix, local) = match cut_at(':', name) {
+        let (prefix, local) = match cut_at(b':', name) {
             Some((prefix, local)) => (Some(prefix), local),
             None => (None, name),
         };
         match self.namespace(prefix) {
-            Some(uri) => expanded_name(alloc, uri, local),
+            Some(uri) => expanded_name(alloc, spares, uri, local),
             None => Err(LineFault::Clause(11)),
         }
     }
 
     /// That of an attribute.
     #[tactic(auto, unfolding(crate::specs::TagReader::attribute_name, crate::specs::LineReader::written_of))]
-    fn attribute_name(self, alloc: Global, name: &str) -> Result<Name, LineFault>
+    fn attribute_name(
+        self,
+        alloc: Global,
+        spares: &mut Spares,
+        name: &str,
+    ) -> Result<Name, LineFault>
         ensures { Gives clause_of name_of result (resolved (attribute_name (scope_of self.entry) (written_of name.now))) }
     {
-        match cut_at(':', name) {
+        match cut_at(b':', name) {
             Some((prefix, local)) => match self.namespace(Some(prefix)) {
-                Some(uri) => expanded_name(alloc, uri, local),
+                Some(uri) => expanded_name(alloc, spares, uri, local),
                 None => Err(LineFault::Clause(11)),
             },
-            None => expanded_name(alloc, "", name),
+            None => expanded_name(alloc, spares, "", name),
         }
     }
 
@@ -141,13 +173,15 @@ impl<'a> Scope<'a> {
     pub fn attributes(
         self,
         alloc: Global,
+        spares: &mut Spares,
         others: Vec<WrittenAttribute>,
     ) -> Result<Vec<Attr>, LineFault>
         ensures { Gives clause_of (λ attrs. map attribute_of attrs.items) result (resolved (expanded (scope_of self.entry) (map written_attribute others.items))) }
     {
         let mut attrs = Vec::new(alloc);
         'others: for attribute in others {
-            let name = self.attribute_name(alloc, attribute.name.as_str())?;
+            let name = self.attribute_name(alloc, spares, attribute.name.as_str())?;
+            spares.keep(attribute.name);
             attrs.push(Attr {
                 name,
                 value: attribute.value,
@@ -201,6 +235,7 @@ pub struct Element {
 pub fn expand_element(
     alloc: Global,
     scope: Scope<'_>,
+    spares: &mut Spares,
     name: &str,
     others: Vec<WrittenAttribute>,
 ) -> Result<Element, LineFault>
@@ -209,8 +244,8 @@ pub fn expand_element(
     if any_forbidden(scope.declarations) {
         return Err(LineFault::Clause(11));
     }
-    let name = scope.element_name(alloc, name)?;
-    let attrs = scope.attributes(alloc, others)?;
+    let name = scope.element_name(alloc, spares, name)?;
+    let attrs = scope.attributes(alloc, spares, others)?;
     if is_written_twice(scope.declarations) || is_named_twice(attrs.as_slice()) {
         return Err(LineFault::Clause(12));
     }

@@ -5,12 +5,13 @@ ghost use Rattle.pyx.specs.DocumentReader.{declared_in};
 ghost use Rattle.pyx.specs.Held.{state_held};
 ghost use Rattle.pyx.specs.LineReader.{written_of};
 ghost use Rattle.pyx.specs.TagReader.{tag_read};
-ghost use Rattle.pyx.specs.View.{Adds, EndsBy, Hands, IsFault, Takes, tag_of, line_of, said_view, state_of, stack_of, value_of, open_of};
+ghost use Rattle.pyx.specs.View.{Adds, EndsBy, Hands, IsFault, IsKnown, Takes, tag_of, line_of, said_view, state_of, stack_of, value_of, open_of};
 
 use crate::escapes::Unescaped;
 use crate::fault::{LineFault, PyxFault};
 use crate::line::{Line, Said, said_of};
 use crate::scope::{OpenElement, Scope, expand_element, innermost, opened_len};
+use crate::spares::Spares;
 use crate::written::{WrittenAttribute, declared_by, is_same};
 use rng_model::{Event, EventKind, Events};
 use std::alloc::Global;
@@ -48,6 +49,7 @@ pub struct State {
     /// A root has begun.
     root: bool,
     lines: u64,
+    spares: Spares,
 }
 
 /// How many bytes the lines of the tag have.
@@ -61,10 +63,13 @@ fn tag_len(tag: &Option<Tag>) -> u64
 }
 
 /// Takes the innermost element away.
-fn close_innermost(opened: &mut Vec<OpenElement>)
+fn close_innermost(opened: &mut Vec<OpenElement>, spares: &mut Spares)
     ensures { stack_of opened.new.items ≡ reader.around (stack_of opened.old.items) }
 {
-    let _ = opened.pop();
+    let closed = opened.pop();
+    if let Some(element) = closed {
+        spares.keep(element.name);
+    }
 }
 
 impl State {
@@ -79,6 +84,7 @@ impl State {
             joined: String::new(alloc),
             root: false,
             lines: 0,
+            spares: Spares::new(alloc),
         }
     }
 
@@ -120,7 +126,7 @@ impl State {
             declarations: declarations.as_slice(),
             opened: self.opened.as_slice(),
         };
-        match expand_element(self.alloc, scope, name.as_str(), others) {
+        match expand_element(self.alloc, scope, &mut self.spares, name.as_str(), others) {
             Ok(element) => {
                 let kind = EventKind::Start {
                     name: &element.name,
@@ -130,6 +136,7 @@ impl State {
                     line: self.lines + 1,
                     kind,
                 })?;
+                self.spares.keep_element(element);
                 self.opened.push(OpenElement { name, declarations })?;
                 Ok(())
             }
@@ -179,7 +186,7 @@ impl State {
         }
         self.end_text(events)?;
         self.tag = Some(Tag {
-            name: String::from_str(self.alloc, name)?,
+            name: self.spares.copy(self.alloc, name)?,
             declarations: Vec::new(self.alloc),
             others: Vec::new(self.alloc),
             bytes,
@@ -201,8 +208,8 @@ impl State {
             return Err(self.fault(10));
         }
         let attribute = WrittenAttribute {
-            name: String::from_str(self.alloc, name)?,
-            value: value.into_string(self.alloc)?,
+            name: self.spares.copy(self.alloc, name)?,
+            value: value.into_string(self.alloc, &mut self.spares)?,
         };
         if declared_by(name).is_some() {
             tag.declarations.push(attribute)?;
@@ -247,7 +254,7 @@ impl State {
             line: self.lines,
             kind,
         })?;
-        close_innermost(&mut self.opened);
+        close_innermost(&mut self.opened, &mut self.spares);
         Ok(())
     }
 
@@ -276,6 +283,7 @@ impl State {
     pub fn line<E: Events>(&mut self, line: Line<'_>, events: &mut E) -> Result<(), PyxFault>
         requires lines { self.old.lines + 1 < 2 ^ 64 }
         requires bytes { reader.tag_bytes (state_of self.old).tag + length line.bytes.now < 2 ^ 64 }
+        requires text { IsKnown line }
         ensures { Takes result (state_of self.new) (Hands E.stands events.old events.new) (reader.line_read (line_of line.entry) (state_of self.old)) }
     {
         self.end_tag(line.bytes, events)?;
@@ -298,10 +306,11 @@ impl State {
             opened,
             root,
             lines,
+            mut spares,
             ..
         } = self;
         match tag {
-            Some(tag) => Err(unfinished(alloc, opened.as_slice(), tag, lines)),
+            Some(tag) => Err(unfinished(alloc, opened.as_slice(), &mut spares, tag, lines)),
             None if root && opened.is_empty() => Ok(()),
             None => Err(PyxFault::At {
                 clause: 13,
@@ -312,7 +321,13 @@ impl State {
 }
 
 /// A tag that nothing follows, which ends at this line: what it breaks itself, or that its element is not ended.
-fn unfinished(alloc: Global, opened: &[OpenElement], tag: Tag, line: u64) -> PyxFault
+fn unfinished(
+    alloc: Global,
+    opened: &[OpenElement],
+    spares: &mut Spares,
+    tag: Tag,
+    line: u64,
+) -> PyxFault
     ensures { IsFault result (reader.unfinished line (tag_read (declared_in (stack_of opened.now)) (tag_of tag).name (tag_of tag).declared (tag_of tag).others)) }
 {
     let Tag {
@@ -325,7 +340,7 @@ fn unfinished(alloc: Global, opened: &[OpenElement], tag: Tag, line: u64) -> Pyx
         declarations: declarations.as_slice(),
         opened,
     };
-    match expand_element(alloc, scope, name.as_str(), others) {
+    match expand_element(alloc, scope, spares, name.as_str(), others) {
         Err(LineFault::Clause(clause)) => PyxFault::At { clause, line },
         Err(LineFault::Memory) => PyxFault::Memory,
         Ok(_) => PyxFault::At { clause: 13, line },

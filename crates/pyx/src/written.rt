@@ -38,7 +38,7 @@ pub fn is_same(name: &str, other: &str) -> bool
 pub fn declared_by(name: &str) -> Option<Option<&str>>
     ensures { option_map (λ p. option_map (λ x. x.now) p) result ≡ declared_by (written_of name.now) }
 {
-    match cut_at(':', name) {
+    match cut_at(b':', name) {
         Some((prefix, local)) => {
             if prefix == "xmlns" {
                 Some(Some(local))
@@ -88,7 +88,13 @@ pub fn any_forbidden(declarations: &[WrittenAttribute]) -> bool
 fn declares(declaration: &WrittenAttribute, prefix: Option<&str>) -> bool
     ensures { result ≡ declares (declared_by (written_attribute declaration.now).name) (option_map (λ x. x.now) prefix.entry) }
 {
-    match (declared_by(declaration.name.as_str()), prefix) {
+    let name = declaration.name.as_str();
+    if let Some(prefix) = prefix {
+        if !name.as_bytes().ends_with(prefix.as_bytes()) {
+            return false;
+        }
+    }
+    match (declared_by(name), prefix) {
         (Some(Some(declared)), Some(prefix)) => declared == prefix,
         (Some(None), None) => true,
         _ => false,

@@ -1,7 +1,10 @@
 // What takes the events of a document and builds its tree.
-ghost use Rattle.std.specs.Prelude.{◌≡◌, map, option_map, OnOk};
+ghost use Rattle.std.specs.Prelude.{◌≡◌, ℕ, List, map, option_map, OnOk};
+ghost use Rattle.pyx.specs.Documents.{IsTheDocument};
+ghost use Rattle.rng_model.specs.PyxTrees as trees;
 ghost use Rattle.rng_model.specs.View.{attribute_of, item_of, name_of};
 ghost use Rattle.pyx_tree.specs.Building as building;
+ghost use Rattle.pyx_tree.specs.Reading.{IsRootOf};
 ghost use Rattle.pyx_tree.specs.View.{built_of};
 
 use crate::copying::{copied_attributes, copied_name};
@@ -17,7 +20,7 @@ pub struct OpenElement {
     siblings: Vec<Item>,
 }
 
-/// Builds trees of events.
+/// Builds the tree of a document of its events.
 #[derive(Drop)]
 pub struct TreeBuilder {
     alloc: Global,
@@ -86,8 +89,18 @@ impl TreeBuilder {
         Ok(())
     }
 
-    /// The first tree that is whole.
+    /// The root of the document whose events were told: where the events are those of a document, there is one, and it is well
+    /// formed. Takes no memory.
+    ///
+    /// RELAX NG Specification, section 2.
     pub fn into_root(self) -> Option<Item>
+        ensures { (bytes : List ℕ) (events : List trees.Event) → built_of self ≡ building.built events → IsTheDocument bytes events → IsRootOf bytes result }
+    {
+        self.first_whole()
+    }
+
+    /// The first tree that is whole.
+    fn first_whole(self) -> Option<Item>
         ensures { option_map item_of result ≡ building.first_root (built_of self) }
     {
         self.children.into_iter().next()

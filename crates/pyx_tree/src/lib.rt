@@ -1,8 +1,7 @@
-//! PYX documents to trees.
+//! PYX documents to trees: what takes the events of a document and builds its tree.
 #![tactic(auto)]
 
 mod builder;
 mod copying;
-mod reading;
 
-pub use reading::read_document;
+pub use builder::TreeBuilder;

@@ -1,5 +1,5 @@
 -- What is answered of the one schema that files are.
-use Rattle.std.proofs.Common.{◌≡◌, List, ℕ, Option, Some, None, Result, Ok, Err, IfOk, refl, sym, subst, ap, ◌∙◌}
+use Rattle.std.proofs.Common.{◌≡◌, List, ℕ, Option, Some, Result, Ok, Err, IfOk, sym, subst, ap, ◌∙◌}
 use Rattle.std.proofs.Math.Path.{fun_ext}
 use Rattle.rng_model.specs.Schema.{Schema}
 use Rattle.rng_load.specs.Loading.{TakenFiles, FilesVerdict, are_taken, IsTheFilesVerdict, tree_in}

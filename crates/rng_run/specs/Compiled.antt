@@ -1,5 +1,5 @@
 -- What a schema is compiled to for a command: what is told of it alone, or the grammar by which documents are judged.
-use Rattle.std.specs.Prelude.{◌≡◌, ℕ, All}
+use Rattle.std.specs.Prelude.{All}
 use Rattle.rng_model.specs.Schema.{Schema}
 use Rattle.rng_model.specs.SchemaClauses.{IsLeastClause}
 use Rattle.rng_model.specs.SchemaMatching.{AreSameDocuments}

@@ -1,15 +1,15 @@
 -- What a run answers, and what it leaves behind.
-use Rattle.std.specs.Prelude.{◌≡◌, ℕ, List, [], ◌∷◌, take, Option, Some, None, string_bytes}
-use Rattle.std.specs.Io.KnownBytes.{Appends, Consumes, IsAtEnd, Keeps}
+use Rattle.std.specs.Prelude.{◌≡◌, ℕ, List, [], ◌∷◌, take, Option, string_bytes}
+use Rattle.std.specs.Io.KnownBytes.{Appends, Keeps}
 use Rattle.rng_model.specs.Schema.{Schema}
 use Rattle.rng_model.specs.SchemaClauses.{BreaksNoClause, IsLeastClause}
 use Rattle.rng_model.specs.SchemaMatching.{IsValidBySchema}
 use Rattle.rng_run.specs.Answer.{Answer, refused, refused_file, schema_ok, judged, line_of, status_of}
-use Rattle.rng_load.specs.Loading.{TakenFiles, FilesVerdict, file_breaks, together_break, are_taken, IsTheFilesVerdict}
+use Rattle.rng_load.specs.Loading.{FilesVerdict, file_breaks, together_break, are_taken, IsTheFilesVerdict}
 use Rattle.rng_load.specs.LoadedSchema.{AreSchema}
 use Rattle.rng_load.specs.SchemaFile.{NamedFile}
 use Rattle.rng_run.specs.Served.{IsServed, IsUnserved}
-use Rattle.rng_run.specs.Verdict.{IsOnlyVerdict, IsVerdict}
+use Rattle.rng_run.specs.Verdict.{IsJudgedBy}
 use Rattle.rng_run.specs.declared.answer.Status.{Status}
 use Rattle.rng_run.specs.declared.answer.Verdict.{Verdict}
 use Rattle.rng_run.specs.declared.running.Command.{Command}
@@ -36,14 +36,9 @@ pub record JudgesDocuments (command : Command) (s : Schema) : Type 0 where
   pub breaks_none : BreaksNoClause s
   pub served : IsServed s
 
--- The verdict is that of the definition, and no other is, for the bytes that the reader had left, all of which were read, by this schema as it is
--- written.
-pub record IsJudged (s : Schema) (verdict : Verdict) (input_old input_new : Option (List ℕ)) : Type 0 where
-  pub document : List ℕ
-  pub read : Consumes input_old input_new document
-  pub end : IsAtEnd input_new
-  pub verdict_is : IsVerdict (IsValidBySchema s) document verdict
-  pub only : IsOnlyVerdict (IsValidBySchema s) document verdict
+-- the verdict on what the reader had left, by this schema as it is written
+abbrev pub IsJudged : Schema → Verdict → Option (List ℕ) → Option (List ℕ) → Type 0
+IsJudged s = IsJudgedBy (IsValidBySchema s)
 
 -- the answer by the schema: what is told of it alone, or the verdict on the document
 pub data IsAnswerBy (command : Command) (s : Schema) (input_old input_new : Option (List ℕ)) : Answer → Type 0 where

@@ -1,5 +1,5 @@
 -- The schemas whose documents are judged so far: those in whose simple form no pattern stands of a kind that the matcher does not take yet.
-use Rattle.std.specs.Prelude.{◌≡◌, ℕ}
+use Rattle.std.specs.Prelude.{ℕ}
 use Rattle.rng_model.specs.Restrictions.{Kind, kind_of, list_kind, data_kind, value_kind, one_or_more_kind, interleave_kind, IsPart, StandsIn}
 use Rattle.rng_model.specs.Schema.{Schema}
 use Rattle.rng_model.specs.SchemaForm.{IsSimpleGrammarOf}

@@ -1,17 +1,29 @@
 // Judging a document by a grammar.
-ghost use Rattle.std.specs.Prelude.{All, ◌≡◌, ◌==◌, count_by, IfOk};
+ghost use Rattle.std.specs.Prelude.{All, ◌≡◌, ◌^◌, ◌-◌, ◌<◌, IfOk, OnOk, IsErrOf};
+ghost use Rattle.rng_model.specs.Device.{device_inner, device_failures};
 ghost use Rattle.rng_model.specs.Table.{grammar_of, IsOfFirstKind, IsValidBy};
 ghost use Rattle.rng_model.specs.Texts.{TextTests, texts_of};
-ghost use Rattle.rng_run.specs.Verdict.{IsOnlyVerdict, IsVerdict};
+ghost use Rattle.rng_run.specs.Verdict.{IsJudgedBy, malformed_by};
 
 use crate::answer::Verdict;
+use crate::streams::{DocumentFault, take_document};
 use pyx::PyxFault;
-use pyx_tree::read_document;
+use pyx_tree::TreeBuilder;
 use rng_deriv::is_valid;
-use rng_model::{OutOfMemory, SimpleGrammar};
+use rng_model::{Device, OutOfMemory, SimpleGrammar};
 use std::alloc::Global;
+use std::io::Read;
 
-/// What the bytes of a document are by a grammar.
+/// Why a document was not judged.
+#[derive(Clone, Copy)]
+pub(crate) enum JudgeFault {
+    /// A read failed.
+    Read,
+    /// There was no memory.
+    Memory,
+}
+
+/// What the document that a reader has left is by a grammar.
 ///
 /// `Malformed` names the broken clause of least line, and there of least number. Of one line: 1 where no line feed ends
 /// it, 2 where it is not UTF-8, 3 for a character that XML does not have, 4 for a line of no kind, 5 for an escape that
@@ -19,46 +31,44 @@ use std::alloc::Global;
 /// tag, 8 for an end tag that does not fit, 9 for a text outside the root or a start tag after it, 10 for a limit that
 /// is passed. Of a tag, at its last line: 11 for a declaration that is not allowed or a prefix that is not declared, 12
 /// for two attributes of one name. 13 is an input that ends without a root or with an element open. `Invalid` has the
-/// number of lines. The only fault is want of memory.
+/// number of lines. Reading stops at the piece with the line of the fault, and goes on to the end where there is none.
 ///
 /// XML 1.0, sections 2.2 and 3.1; Namespaces in XML 1.0, sections 3 to 6; RELAX NG Specification, section 6.
-pub(crate) fn document_verdict(
+pub(crate) fn document_verdict<R: Read>(
     alloc: Global,
     grammar: &SimpleGrammar,
-    document: &[u8],
-) -> Result<Verdict, OutOfMemory>
+    input: &mut Device<R>,
+) -> Result<Verdict, JudgeFault>
     requires kinds { All IsOfFirstKind grammar.now.patterns }
-    ensures verdict { IfOk result (λ v. (tests : TextTests) → IsVerdict (IsValidBy (grammar_of grammar.now) (texts_of tests)) document.now v) }
-    // Each verdict that holds is the one that is answered.
-    ensures only { IfOk result (λ v. (tests : TextTests) → IsOnlyVerdict (IsValidBy (grammar_of grammar.now) (texts_of tests)) document.now v) }
+    requires input { device_failures input.old < 2 ^ 64 - 1 }
+    ensures judged { IfOk result (λ v. (tests : TextTests) → IsJudgedBy (IsValidBy (grammar_of grammar.now) (texts_of tests)) v
+        (R.remaining (device_inner input.old)) (R.remaining (device_inner input.new))) }
+    ensures calm { OnOk result (device_failures input.new ≡ device_failures input.old) }
+    ensures read { IsErrOf result JudgeFault.Read → device_failures input.old < device_failures input.new }
+    ensures memory { IsErrOf result JudgeFault.Memory → device_failures input.new ≡ device_failures input.old }
 {
-    verdict_by(alloc, grammar, document)
-}
-
-fn verdict_by(
-    alloc: Global,
-    grammar: &SimpleGrammar,
-    document: &[u8],
-) -> Result<Verdict, OutOfMemory>
-    requires kinds { All IsOfFirstKind grammar.now.patterns }
-    ensures { IfOk result (λ v. (tests : TextTests) → IsVerdict (IsValidBy (grammar_of grammar.now) (texts_of tests)) document.now v) }
-{
-    match read_document(alloc, document) {
-        Ok(root) => {
-            if is_valid(alloc, grammar, &root)? {
-                Ok(Verdict::Valid)
-            } else {
-                Ok(Verdict::Invalid(line_count(document)))
-            }
-        }
-        Err(PyxFault::At { clause, line }) => Ok(Verdict::Malformed { clause, line }),
-        Err(PyxFault::Memory) => Err(OutOfMemory),
+    let mut builder = TreeBuilder::new(alloc);
+    let lines = match take_document(alloc, input, &mut builder) {
+        Ok(lines) => lines,
+        Err(DocumentFault::Read) => return Err(JudgeFault::Read),
+        Err(DocumentFault::Pyx(fault)) => return malformed(fault),
+    };
+    let Some(root) = builder.into_root() else {
+        unreachable!();
+    };
+    match is_valid(alloc, grammar, &root) {
+        Ok(true) => Ok(Verdict::Valid),
+        Ok(false) => Ok(Verdict::Invalid(lines)),
+        Err(OutOfMemory) => Err(JudgeFault::Memory),
     }
 }
 
-/// How many line feeds there are.
-fn line_count(document: &[u8]) -> u64
-    ensures { result ≡ count_by (λ c. c == 10) document.now }
+/// The verdict of a fault.
+fn malformed(fault: PyxFault) -> Result<Verdict, JudgeFault>
+    ensures { result ≡ malformed_by fault }
 {
-    document.iter().filter(|byte| **byte == b'\n').count() as u64
+    match fault {
+        PyxFault::At { clause, line } => Ok(Verdict::Malformed { clause, line }),
+        PyxFault::Memory => Err(JudgeFault::Memory),
+    }
 }

@@ -11,8 +11,8 @@ ghost use Rattle.rng_run.specs.Run.{IsAnswer, IsAnswerBy, JudgesDocuments, Judge
 
 use crate::answer::{Answer, Status};
 use crate::compiling::{Compiled, compile};
-use crate::judging::document_verdict;
-use crate::streams::{StreamFault, read_whole, write_whole};
+use crate::judging::{JudgeFault, document_verdict};
+use crate::streams::write_whole;
 use rng_load::{Schema, load};
 use rng_model::{Device, OutOfMemory, SchemaFault};
 use std::alloc::Global;
@@ -49,8 +49,9 @@ pub enum RunFault {
 /// `input` has left and the schema as it is written. A line feed ends it. A refused schema leaves the input unread; the
 /// bytes of files that are not reached from the main one are not looked at. `RunFault::Read` and `RunFault::Write` come
 /// only where that device counted a failed call, `RunFault::Memory` only where neither did; after `Read` and `Memory`
-/// nothing was written, after `Write` a beginning of the line was. The files and the document are kept whole; time is
-/// what `load` takes, and then what `simplify_schema`, `restrict` and `is_valid` take.
+/// nothing was written, after `Write` a beginning of the line was. A document is read to its end, or in pieces of 32,768 bytes
+/// to the one with the first fault. The files and the document's tree are kept whole; time is what `load` takes, and then
+/// what `simplify_schema`, `restrict` and `is_valid` take.
 pub fn run<R: Read, W: Write>(
     alloc: Global,
     command: Command,
@@ -148,13 +149,9 @@ fn answer_by<R: Read>(
         Ok(Compiled::Good) => return Ok(Answer::SchemaOk),
         Err(OutOfMemory) => return Err(RunFault::Memory),
     };
-    let document = match read_whole(alloc, input) {
-        Ok(document) => document,
-        Err(StreamFault::Read) => return Err(RunFault::Read),
-        Err(StreamFault::Memory) => return Err(RunFault::Memory),
-    };
-    match document_verdict(alloc, &grammar, document.as_slice()) {
+    match document_verdict(alloc, &grammar, input) {
         Ok(verdict) => Ok(Answer::Judged(verdict)),
-        Err(OutOfMemory) => Err(RunFault::Memory),
+        Err(JudgeFault::Read) => Err(RunFault::Read),
+        Err(JudgeFault::Memory) => Err(RunFault::Memory),
     }
 }

@@ -1,44 +1,70 @@
-// Reading a device to its end, and writing to one until all is written.
-ghost use Rattle.std.specs.Prelude.{◌≡◌, ◌+◌, ◌-◌, ◌^◌, ◌<◌, is_ok, IfOk, OnOk, OnErr, IsErrOf, if◌then◌else◌};
-ghost use Rattle.std.specs.Io.KnownBytes.{Appends, Consumes, IsAtEnd};
+// Taking a document from a device, and writing to one until all is written.
+ghost use Rattle.std.specs.Prelude.{◌≡◌, ◌==◌, ◌+◌, ◌-◌, ◌^◌, ◌<◌, is_ok, count_by, IfOk, IfErr, OnOk, OnErr, IsErrOf, if◌then◌else◌};
+ghost use Rattle.std.specs.Io.KnownBytes.{Appends};
+ghost use Rattle.pyx.specs.View.{Hands};
 ghost use Rattle.rng_model.specs.Device.{device_inner, device_failures};
+ghost use Rattle.rng_run.specs.Documents.{IsFaultOfInput, IsTaken};
 ghost use Rattle.rng_run.specs.Run.{AppendsBeginning};
 
-use rng_model::{Device, DeviceFault};
+use pyx::{PyxFault, Reader};
+use rng_model::{Device, DeviceFault, Events};
 use std::alloc::Global;
 use std::io::{Read, Write};
 
-/// Why a device was not read to its end.
+/// How many bytes are read at once, at most.
+const PIECE: usize = 32768;
+
+/// Why a document was not taken to its end.
 #[derive(Clone, Copy)]
-pub enum StreamFault {
+pub enum DocumentFault {
     /// A read failed.
     Read,
-    /// There was no memory for what was read.
-    Memory,
+    /// A line breaks a clause, or there was no memory.
+    Pyx(PyxFault),
 }
 
-/// All that a reader has left.
-pub fn read_whole<R: Read>(alloc: Global, input: &mut Device<R>) -> Result<Vec<u8>, StreamFault>
+/// Hands the events of the document that a reader has left to what takes them, piece by piece, and answers how many line
+/// feeds it has.
+///
+/// It reads to the end, or to the piece with the first line that breaks a clause.
+pub fn take_document<R: Read, E: Events>(
+    alloc: Global,
+    input: &mut Device<R>,
+    events: &mut E,
+) -> Result<u64, DocumentFault>
     requires { device_failures input.old < 2 ^ 64 - 1 }
-    ensures bytes { IfOk result (λ bytes. Consumes (R.remaining (device_inner input.old)) (R.remaining (device_inner input.new)) bytes.items) }
-    ensures end { OnOk result (IsAtEnd (R.remaining (device_inner input.new))) }
+    ensures taken { IfOk result (IsTaken (Hands E.stands events.old events.new) (R.remaining (device_inner input.old)) (R.remaining (device_inner input.new))) }
+    ensures fault { IfErr result (IsFaultOfInput (R.remaining (device_inner input.old)) (R.remaining (device_inner input.new))) }
     ensures calm { OnOk result (device_failures input.new ≡ device_failures input.old) }
-    ensures read { IsErrOf result StreamFault.Read → device_failures input.old < device_failures input.new }
-    ensures memory { IsErrOf result StreamFault.Memory → device_failures input.new ≡ device_failures input.old }
+    ensures read { IsErrOf result DocumentFault.Read → device_failures input.old < device_failures input.new }
+    ensures pyx { (f : PyxFault) → IsErrOf result (DocumentFault.Pyx f) → device_failures input.new ≡ device_failures input.old }
 {
-    let mut bytes = Vec::new(alloc);
-    let mut chunk = [0u8; 4096];
-    'chunks: loop {
-        let Ok(n) = input.read(&mut chunk) else {
-            return Err(StreamFault::Read);
+    let mut reader = Reader::new(alloc);
+    let mut piece = [0u8; PIECE];
+    let mut feeds = 0;
+    'pieces: loop {
+        let Ok(n) = input.read(&mut piece) else {
+            return Err(DocumentFault::Read);
         };
         if n == 0 {
-            return Ok(bytes);
+            break;
         }
-        if bytes.extend_from_slice(&chunk[..n]).is_err() {
-            return Err(StreamFault::Memory);
+        if let Err(fault) = reader.feed(&piece[..n], events) {
+            return Err(DocumentFault::Pyx(fault));
         }
+        feeds += feeds_in(&piece[..n]);
     }
+    match reader.finish(events) {
+        Ok(()) => Ok(feeds),
+        Err(fault) => Err(DocumentFault::Pyx(fault)),
+    }
+}
+
+/// How many line feeds there are.
+fn feeds_in(bytes: &[u8]) -> u64
+    ensures { result ≡ count_by (λ c. c == 10) bytes.now }
+{
+    bytes.iter().filter(|byte| **byte == b'\n').count() as u64
 }
 
 /// Writes all of a slice, in as many calls as the writer takes.

@@ -1,4 +1,4 @@
-use Rattle.std.proofs.Common.{◌≡◌, ◌<◌, refl, sym, subst, length, slice_get, Some, arith}
+use Rattle.std.proofs.Common.{◌≡◌, refl, sym, subst, slice_get, Some, arith}
 use Rattle.std.proofs.lemmas.Option.{slice_get_within}
 use Rattle.rng_model.specs.Restrictions.{kind_of}
 use Rattle.rng_model.specs.Table.{tree_at}

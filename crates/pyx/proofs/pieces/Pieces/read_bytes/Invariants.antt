@@ -2,11 +2,11 @@ use Rattle.std.proofs.Common.{◌+◌, ◌<◌, ◌≤◌, ◌^◌, length}
 use Rattle.pyx.specs.View.{progress_of, Hands}
 use Rattle.pyx.specs.Pieces.{read, weight}
 use Rattle.pyx.proofs.Turns.{Goes}
-use Rattle.pyx.proofs.pieces.Pieces.read.Given as goal
+use Rattle.pyx.proofs.pieces.Pieces.read_bytes.Given as goal
 
 abbrev pub invariant-lines : goal.invariant-lines
 invariant-lines g l = record {
-  goes : Goes (Hands g.E.Events.stands l.fn.events l.events) (read l.fn.piece (progress_of l.fn.self)) l.rest (progress_of l.self);
+  goes : Goes (Hands g.E.Events.stands l.fn.events l.events) (read l.fn.bytes (progress_of l.fn.self)) l.rest (progress_of l.self);
   begun : length l.self.begun.items ≤ 65536;
   room : weight (progress_of l.self) + length l.rest < 2 ^ 63;
 }

@@ -1,0 +1,72 @@
+// Bytes that tell without a look at characters that a text or a name is a good one.
+ghost use Rattle.std.specs.Prelude.{◌≡◌, IfSome, true};
+ghost use Rattle.std.specs.List.{list_all};
+ghost use Rattle.pyx.specs.PlainBytes.{flaw, is_plain, is_plain_name, may_begin, may_follow};
+
+/// A byte that stands only in characters that XML has: U+FFFE and U+FFFF begin with the byte 0xEF.
+fn is_plain(byte: u8) -> bool
+    ensures { result ≡ is_plain byte }
+{
+    (byte >= 0x20 || byte == b'\t' || byte == b'\n' || byte == b'\r') && byte != 0xEF
+}
+
+/// 1 for a byte that is not plain.
+fn flaw(byte: u8) -> u8
+    ensures { result ≡ flaw (is_plain byte) }
+{
+    if is_plain(byte) { 0 } else { 1 }
+}
+
+/// All bytes are plain. It looks at each of them, whatever the others are, so that many are looked at at once.
+pub fn all_plain(bytes: &[u8]) -> bool
+    ensures { result ≡ list_all is_plain bytes.now }
+{
+    let mut flaws = 0;
+    'bytes: for byte in bytes.iter() {
+        flaws |= flaw(*byte);
+    }
+    flaws == 0
+}
+
+/// The bytes as a text, where all are plain.
+pub fn plain_text(bytes: &[u8]) -> Option<&str>
+    ensures { IfSome result (λ t. (t.now ≡ bytes.now) × (list_all is_plain t.now ≡ true)) }
+{
+    if !all_plain(bytes) {
+        return None;
+    }
+    match simdutf8::compat::from_utf8(bytes) {
+        Ok(text) => Some(text),
+        Err(_) => None,
+    }
+}
+
+/// A letter of ASCII, or `_`.
+fn may_begin(byte: u8) -> bool
+    ensures { result ≡ may_begin byte }
+{
+    matches!(byte, b'A'..=b'Z' | b'_' | b'a'..=b'z')
+}
+
+fn may_follow(byte: u8) -> bool
+    ensures { result ≡ may_follow byte }
+{
+    matches!(byte, b'-'..=b'.' | b'0'..=b'9' | b'A'..=b'Z' | b'_' | b'a'..=b'z')
+}
+
+/// They may all stand in a name after its first.
+fn all_follow(bytes: &[u8]) -> bool
+    ensures { result ≡ list_all may_follow bytes.now }
+{
+    bytes.iter().all(|byte| may_follow(*byte))
+}
+
+/// A name without a colon, of characters of ASCII.
+pub fn is_plain_name(bytes: &[u8]) -> bool
+    ensures { result ≡ is_plain_name bytes.now }
+{
+    match bytes {
+        [first, rest @ ..] => may_begin(*first) && all_follow(rest),
+        [] => false,
+    }
+}

@@ -1,0 +1,62 @@
+// Buffers that are used again.
+ghost use Rattle.std.specs.Prelude.{◌≡◌, IfOk, string_bytes};
+
+use crate::scope::Element;
+use rng_model::OutOfMemory;
+use std::alloc::Global;
+
+/// How many buffers are kept, and how many bytes each may hold.
+const COUNT_LIMIT: usize = 256;
+
+const SIZE_LIMIT: usize = 1_024;
+
+/// Buffers of names and values that are no longer in use. What they hold means nothing.
+#[derive(Drop)]
+pub struct Spares {
+    texts: Vec<String>,
+}
+
+impl Spares {
+    /// No buffers. Takes no memory.
+    pub fn new(alloc: Global) -> Self {
+        Spares {
+            texts: Vec::new(alloc),
+        }
+    }
+
+    /// The text as one's own, in a spare buffer where there is one.
+    pub fn copy(&mut self, alloc: Global, text: &str) -> Result<String, OutOfMemory>
+        ensures { IfOk result (λ s. string_bytes s ≡ text.now) }
+    {
+        if text.is_empty() {
+            return Ok(String::new(alloc));
+        }
+        match self.texts.pop() {
+            Some(mut copy) => {
+                copy.clear();
+                copy.push_str(text)?;
+                Ok(copy)
+            }
+            None => Ok(String::from_str(alloc, text)?),
+        }
+    }
+
+    /// Keeps a buffer for later, unless it is large or there are enough.
+    pub fn keep(&mut self, text: String) {
+        if self.texts.len() < COUNT_LIMIT && !text.is_empty() && text.capacity() <= SIZE_LIMIT {
+            let _ = self.texts.push(text);
+        }
+    }
+
+    /// Keeps the buffers of an element.
+    pub fn keep_element(&mut self, element: Element) {
+        let Element { name, attrs } = element;
+        self.keep(name.ns);
+        self.keep(name.local);
+        for attr in attrs {
+            self.keep(attr.name.ns);
+            self.keep(attr.name.local);
+            self.keep(attr.value);
+        }
+    }
+}

@@ -1,0 +1,165 @@
+#!/usr/bin/env python3
+"""Times the reader of documents alone, beside a program that only cuts their lines. It is no part of the gate.
+
+    tools/read_time/run.py [--only WORD] [--times N] [--built PROGRAM]
+
+It makes the documents, builds `program.txt` over the crates `pyx` and `rng_model` in a copy of them (or takes PROGRAM, which was built so before), and
+`floor.c` by the C compiler, and feeds each document to both at the standard input, N times (3 where it is not said), of which the quickest counts. Each line tells the milliseconds of a processor,
+the megabytes a second, the greatest memory, how often the floor's time that is, and what is the floor's. A document is all of one block, written as
+often as its size wants.
+"""
+import argparse
+import os
+import pathlib
+import shutil
+import subprocess
+import sys
+import tempfile
+
+HERE = pathlib.Path(__file__).resolve().parent
+CRATES = HERE.parents[1] / "crates"
+MEGABYTE = 1_000_000
+
+
+def numbers(seed):
+    """Numbers that look drawn, the same each time: `draw(n)` is below n."""
+    state = seed
+
+    def draw(below):
+        nonlocal state
+        state = (state * 6364136223846793005 + 1442695040888963407) % (1 << 64)
+        return (state >> 33) % below
+
+    return draw
+
+
+def element(name, text):
+    return f"({name}\n-{text}\n){name}\n"
+
+
+def records():
+    draw = numbers(7)
+    for i in range(500):
+        yield f"(record\nAid {i * 7919}\nAkind {('new', 'open', 'held', 'closed')[draw(4)]}\n"
+        if draw(3) == 0:
+            yield f"Aurgent {('true', '0')[draw(2)]}\n"
+        yield element("name", f"Part number {draw(100000)}")
+        yield element("quantity", draw(2001) - 1000)
+        yield element("tags", " ".join(f"t{draw(50)}" for _ in range(draw(5))))
+        yield element("place", f"{draw(900)} {draw(900)} {('m', 'ft')[draw(2)]}")
+        yield element("status", "abc"[draw(3)]) if draw(2) else element("reason", "so it was said " * draw(4))
+        for _ in range(draw(3)):
+            yield element("note", f"A note of some words, as notes are; n\u00b0 {draw(1000)}.")
+        yield ")record\n"
+
+
+def deep():
+    yield from (f"(node\nAd {i}\n" for i in range(510))
+    yield element("leaf", "x")
+    yield ")node\n" * 510
+
+
+def long_texts():
+    line = "All work and no play, as they say. " * 1785
+    yield "(p\n" + f"-{line}\n" * 16 + ")p\n"
+
+
+def other_texts():
+    line = "\u03b1\u03b2\u03b3 \u65e5\u672c\u8a9e \u0440\u0443\u0441 \U0001f600 \u00e9t\u00e9. " * 1500
+    yield "(p\n" + f"-{line}\n" * 15 + ")p\n"
+
+
+def escapes():
+    yield element("p", "a line\\n\\tand a path C:\\\\x " * 40)
+
+
+def many_attributes():
+    yield "(row\n" + "".join(f"Aname{i:03} value {i}\n" for i in range(256)) + ")row\n"
+
+
+def namespaces():
+    for i in range(100):
+        yield f"(p{i}:a\n" + "".join(f"Axmlns:p{j} urn:x:{j}\n" for j in range(i, i + 8)) + f"Ap{i}:x 1\n(p{i}:b\nAp{i + 1}:y 2\n)p{i}:b\n)p{i}:a\n"
+
+
+def many_prefixes():
+    yield "(a\n" + "".join(f"Axmlns:p{i} urn:x:{i}\n" for i in range(250))
+    yield from (element(f"p{i}:b", "x") for i in range(250))
+    yield ")a\n"
+
+
+SHAPES = [
+    ("records", 10, records),
+    ("records", 100, records),
+    ("511 elements in one another", 10, deep),
+    ("texts of a megabyte", 100, long_texts),
+    ("the same of other letters than Latin ones", 100, other_texts),
+    ("texts of many escapes", 10, escapes),
+    ("256 attributes an element", 10, many_attributes),
+    ("8 declarations every other element", 10, namespaces),
+    ("250 declarations, each prefix in use", 10, many_prefixes),
+]
+
+
+def write_document(path, size, shape):
+    """Writes a document of about so many megabytes; the shape's block stands in its root, behind the root's whole tag."""
+    block = "".join(shape()).encode()
+    count = max(1, size * MEGABYTE // len(block))
+    with open(path, "wb") as file:
+        file.write(b"(root\n-\n")
+        for _ in range(count):
+            file.write(block)
+        file.write(b")root\n")
+
+
+def build_reader(folder):
+    """The reader's program."""
+    for name in ("rng_model", "pyx"):
+        shutil.copytree(CRATES / name, folder / "crates" / name)
+    program = folder / "crates/read_time"
+    (program / "src").mkdir(parents=True)
+    shutil.copy(HERE / "program.txt", program / "src" / "main.rt")
+    (folder / "crates.txt").write_text("rng_model:\npyx: rng_model simdutf8 memchr\nread_time: pyx rng_model\n")
+    subprocess.run(["rt", "run"], cwd=program, stdin=subprocess.DEVNULL, stdout=subprocess.DEVNULL)
+    built = program / "out/read_time"
+    if not built.exists():
+        sys.exit("the program was not built: `rt run` says why in a copy of it")
+    return built
+
+
+def spent_by(program, document, answer):
+    """The milliseconds of a processor and the mebibytes that the program took. It is started by this call alone, and prints into `answer`."""
+    actions = [(os.POSIX_SPAWN_OPEN, 0, document, os.O_RDONLY, 0), (os.POSIX_SPAWN_OPEN, 1, answer, os.O_WRONLY | os.O_CREAT | os.O_TRUNC, 0o600)]
+    child = os.posix_spawn(program, [program], os.environ, file_actions=actions)
+    _, status, used = os.wait4(child, 0)
+    return 1000 * (used.ru_utime + used.ru_stime), used.ru_maxrss / 1024
+
+
+def least(program, document, answer, times):
+    spent = [spent_by(program, document, answer) for _ in range(times)]
+    return min(s for s, _ in spent), max(m for _, m in spent)
+
+
+def main():
+    asked = argparse.ArgumentParser()
+    asked.add_argument("--only", default="")
+    asked.add_argument("--times", type=int, default=3)
+    asked.add_argument("--built")
+    asked = asked.parse_args()
+    with tempfile.TemporaryDirectory() as name:
+        folder = pathlib.Path(name)
+        reader = pathlib.Path(asked.built).resolve() if asked.built else build_reader(folder)
+        floor, document, answer = folder / "floor", folder / "document", folder / "answer"
+        subprocess.run(["cc", "-O2", "-o", floor, HERE / "floor.c"], check=True)
+        for what, size, shape in SHAPES:
+            if asked.only not in what:
+                continue
+            write_document(document, size, shape)
+            size = document.stat().st_size / MEGABYTE
+            spent, memory = least(reader, document, answer, asked.times)
+            told = answer.read_text().splitlines()
+            bare, _ = least(floor, document, answer, asked.times)
+            print(f"{what}, {size:.0f} MB: {spent:.0f} ms, {1000 * size / spent:.0f} MB/s, {memory:.1f} MiB, {spent / bare:.1f} times {bare:.0f} ms ({told[0]})")
+
+
+main()
