@@ -32,7 +32,7 @@ kinds_in (placed_and (element_at n q attrs kids m) xs) =
     ∙ ap (λ l. (events_of_items (items_of kids) ++ an_end ∷ []) ++ l) (kinds_in xs)
     ∙ append_assoc (events_of_items (items_of kids)) (an_end ∷ []) (events_of_items (items_of xs)))
 
-append_nothing : {A : Type 0} (xs : List A) → xs ++ [] ≡ xs
+pub append_nothing : {A : Type 0} (xs : List A) → xs ++ [] ≡ xs
 append_nothing [] = refl
 append_nothing (x ∷ xs) = ap (λ l. x ∷ l) (append_nothing xs)
 

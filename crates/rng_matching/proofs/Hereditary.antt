@@ -146,6 +146,9 @@ IsRestricted-hereditary = record {
 
 -- ---- once all attributes are taken
 
+repeat_of-keeps : (Q : Simple ℕ → Type 0) (p : Simple ℕ) → Q s_not_allowed → Q s_empty → Q (s_one_or_more p) → Q (repeat_of p)
+repeat_of-keeps Q p n e h = either_one Q (is_not_allowed p) s_not_allowed _ n (either_one Q (is_empty p) s_empty (s_one_or_more p) e h)
+
 none_hereditary : IsHereditary HasNoAttribute
 none_hereditary = record {
   of_not_allowed = tt;
@@ -166,7 +169,7 @@ closed_has_none (s_list p) o = o
 closed_has_none (s_data d) o = tt
 closed_has_none (s_data_except d p) o = o
 closed_has_none (s_value d v) o = tt
-closed_has_none (s_one_or_more p) o = let h = closed_has_none p o in either_one HasNoAttribute (is_not_allowed (closed p)) s_not_allowed _ tt h
+closed_has_none (s_one_or_more p) o = repeat_of-keeps HasNoAttribute (closed p) tt tt (closed_has_none p o)
 closed_has_none (s_joined choice p q) o =
     choice_of-keeps HasNoAttribute none_hereditary (closed p) (closed q) (closed_has_none p o.0) (closed_has_none q o.1)
 closed_has_none (s_joined group p q) o = group_of-keeps HasNoAttribute none_hereditary (closed p) (closed q) (closed_has_none p o.0) (closed_has_none q o.1)
@@ -198,7 +201,7 @@ closed_is_ungrouped (s_list p) o = o
 closed_is_ungrouped (s_data d) o = tt
 closed_is_ungrouped (s_data_except d p) o = o
 closed_is_ungrouped (s_value d v) o = tt
-closed_is_ungrouped (s_one_or_more p) o = let h = closed_is_ungrouped p o in either_one HasNoneGrouped (is_not_allowed (closed p)) s_not_allowed _ tt h
+closed_is_ungrouped (s_one_or_more p) o = repeat_of-keeps HasNoneGrouped (closed p) tt tt (closed_is_ungrouped p o)
 closed_is_ungrouped (s_joined choice p q) o =
     let h = closed_is_ungrouped p o.0 in
     let k = closed_is_ungrouped q o.1 in
@@ -206,9 +209,6 @@ closed_is_ungrouped (s_joined choice p q) o =
     (either_one HasNoneGrouped (is_not_allowed (closed q)) (closed p) (s_joined choice (closed p) (closed q)) h (h, k))
 closed_is_ungrouped (s_joined group p q) o = none_is_ungrouped (closed (s_joined group p q)) (closed_has_none (s_joined group p q) o)
 closed_is_ungrouped (s_joined interleave p q) o = none_is_ungrouped (closed (s_joined interleave p q)) (closed_has_none (s_joined interleave p q) o)
-
-repeat_of-keeps : (Q : Simple ℕ → Type 0) (p : Simple ℕ) → Q s_not_allowed → Q (s_one_or_more p) → Q (repeat_of p)
-repeat_of-keeps Q p n h = either_one Q (is_not_allowed p) s_not_allowed (s_one_or_more p) n h
 
 pub closed-restricted : (p : Simple ℕ) → IsRestricted p → IsRestricted (closed p)
 closed-restricted s_not_allowed o = o
@@ -222,7 +222,7 @@ closed-restricted (s_data_except d p) o = o
 closed-restricted (s_value d v) o = o
 closed-restricted (s_one_or_more p) o =
     let h = closed-restricted p (record { repeats = o.repeats.1; texts = o.texts }) in
-    repeat_of-keeps IsRestricted (closed p) (record { repeats = tt; texts = tt })
+    repeat_of-keeps IsRestricted (closed p) (record { repeats = tt; texts = tt }) (record { repeats = tt; texts = tt })
     (record { repeats = (closed_is_ungrouped p o.repeats.0, h.repeats); texts = h.texts })
 closed-restricted (s_joined choice p q) o =
     choice_of-keeps IsRestricted IsRestricted-hereditary (closed p) (closed q) (closed-restricted p (record { repeats = o.repeats.0; texts = o.texts.0 }))

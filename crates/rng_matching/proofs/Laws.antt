@@ -67,7 +67,7 @@ never_is_invalid g keeps tests es more h bytes d is parts v =
     never_accepts (reading g tests) (kinds es) (kinds more) h
     (subst (λ l. is_valid (reading g tests) l ≡ true) (ap kinds parts ∙ kinds_append es more) e)
 
-not_named : (g : Grammar) (q : Name) → ((k : ℕ) (c : NameClass) → ClassIn g k c → In c q → ⊥) → (k : ℕ) (o : Option (NameClass × Simple ℕ)) →
+pub not_named : (g : Grammar) (q : Name) → ((k : ℕ) (c : NameClass) → ClassIn g k c → In c q → ⊥) → (k : ℕ) (o : Option (NameClass × Simple ℕ)) →
     slice_get g.elements k ≡ o → named_in o q ≡ false
 not_named g q none k None e = refl
 not_named g q none k (Some (c, p)) e = not_held (holds c q) (λ h. none k c (p, e) ((holds-Decides c q).0 h)) where

@@ -8,7 +8,7 @@ use Rattle.rng_model.specs.WellFormed as w
 use Rattle.rng_matching.specs.Reading.{Reading}
 use Rattle.rng_matching.specs.Taking.{Takes, WeaklyTakes}
 use Rattle.rng_matching.specs.Taking as t
-use Rattle.rng_matching.specs.Restricted.{IsRestricted, IsRestrictedBody}
+use Rattle.rng_matching.specs.Restricted.{IsRestricted, IsRestrictedBody, IsTyped}
 use Rattle.rng_matching.specs.Blanks.{Every, cons, IsNotBlank, no_blanks, has_element, without_blanks, string_of}
 use Rattle.rng_matching.specs.Derivatives.{Way, is_nullable, closed, after_text, has_text, after_attributes, after_start, item_ways}
 use Rattle.rng_matching.specs.Ways.{Opens, EachWay, IsItemLeaf}
@@ -18,7 +18,7 @@ use Rattle.rng_matching.proofs.Tools.{both, in_both, either_left, either_right, 
 use Rattle.rng_matching.proofs.Nullable.{null_in, null_out}
 use Rattle.rng_matching.proofs.Hereditary.{IsRestricted-hereditary, closed-restricted, item_ways-keep, rests_of-keeps}
 use Rattle.rng_matching.proofs.Texts.{text_in, text_out, alone_in, alone_out}
-use Rattle.rng_matching.proofs.Attributes.{attributes_in, attributes_out, attributes_keep, weakly_in, weakly_out, closed_in, closed_out}
+use Rattle.rng_matching.proofs.Attributes.{attributes_in, attributes_out, attributes_keep, closed_in, closed_out}
 use Rattle.rng_matching.proofs.Starts.{start_in, start_out, start_keeps}
 use Rattle.rng_matching.proofs.DropBlanks.{drop_blanks}
 use Rattle.rng_matching.proofs.PutBlanks.{put_blanks}
@@ -34,29 +34,36 @@ module _ (g : Reading) where
   plainly p xs ns h (t.blank_text d b) = absurd (cc)
   plainly p xs ns h (t.nothing_there d) = absurd (cc)
 
-  closed_weakly_in : (p : Simple ℕ) (ns : List Item) → WeaklyTakes g p [] ns → WeaklyTakes g (closed p) [] ns
-  closed_weakly_in p ns (t.as_is d) = t.as_is (closed_in g p ns d)
-  closed_weakly_in p ns (t.blank_text d b) = t.blank_text (closed_in g p [] d) b
-  closed_weakly_in p ns (t.nothing_there d) = t.nothing_there (closed_in g p _ d)
+  -- the weak rules go with what is taken
+  pub weakly_as : (p q : Simple ℕ) (xs ys : List Attribute) (ns : List Item) → ((ns : List Item) → Takes g p xs ns → Takes g q ys ns) → WeaklyTakes g p xs ns
+      → WeaklyTakes g q ys ns
+  weakly_as p q xs ys ns f (t.as_is d) = t.as_is (f ns d)
+  weakly_as p q xs ys ns f (t.blank_text d b) = t.blank_text (f [] d) b
+  weakly_as p q xs ys ns f (t.nothing_there d) = t.nothing_there (f _ d)
 
-  closed_weakly_out : (p : Simple ℕ) (ns : List Item) → WeaklyTakes g (closed p) [] ns → WeaklyTakes g p [] ns
-  closed_weakly_out p ns (t.as_is d) = t.as_is (closed_out g p ns d)
-  closed_weakly_out p ns (t.blank_text d b) = t.blank_text (closed_out g p [] d) b
-  closed_weakly_out p ns (t.nothing_there d) = t.nothing_there (closed_out g p _ d)
+  -- q takes alone what the body p takes with the attributes: it contains the children that p weakly takes with them
+  pub contains_in : (p q : Simple ℕ) → IsTyped p → (xs : List Attribute) → ((ns : List Item) → Takes g p xs ns → Takes g q [] ns) →
+      (kids : List Item) (b : Bool)
+      → has_element kids ≡ b → WeaklyTakes g p xs kids → Contains g b q kids
+  contains_in p q typed xs f kids true h d = f (without_blanks kids) (drop_blanks g p typed xs kids h (plainly p xs kids h d))
+  contains_in p q typed xs f kids false h d = weakly_as p q xs [] kids f d
 
-  body_in : (p : Simple ℕ) → IsRestrictedBody p → (xs : List Attribute) (kids : List Item) (b : Bool) → has_element kids ≡ b → WeaklyTakes g p xs kids
-      → Contains g b (closed (after_attributes g p xs)) kids
-  body_in p o xs kids true h d =
-      closed_in g (after_attributes g p xs) (without_blanks kids)
-      (attributes_in g p o.restricted xs (without_blanks kids) (drop_blanks g p o.typed xs kids h (plainly p xs kids h d)))
-  body_in p o xs kids false h d = closed_weakly_in (after_attributes g p xs) kids (weakly_in g p o.restricted xs kids d)
+  pub contains_out : (p q : Simple ℕ) (xs : List Attribute) → ((ns : List Item) → Takes g q [] ns → Takes g p xs ns) → (kids : List Item) → Separate kids →
+      (b : Bool) → has_element kids ≡ b → Contains g b q kids → WeaklyTakes g p xs kids
+  contains_out p q xs f kids s true h d = t.as_is (put_blanks g p xs kids s h (f (without_blanks kids) d))
+  contains_out p q xs f kids s false h d = weakly_as q p [] xs kids f d
 
-  body_out : (p : Simple ℕ) → IsRestrictedBody p → (xs : List Attribute) (kids : List Item) → Distinct xs → Separate kids → (b : Bool) → has_element kids ≡ b
-      → Contains g b (closed (after_attributes g p xs)) kids → WeaklyTakes g p xs kids
-  body_out p o xs kids u s true h d =
-      t.as_is (put_blanks g p xs kids s h
-      (attributes_out g p o.restricted xs (without_blanks kids) u (closed_out g (after_attributes g p xs) (without_blanks kids) d)))
-  body_out p o xs kids u s false h d = weakly_out g p o.restricted xs kids u (closed_weakly_out (after_attributes g p xs) kids d)
+  body_in : (p : Simple ℕ) → IsRestrictedBody p → (xs : List Attribute) (kids : List Item) → WeaklyTakes g p xs kids
+      → Contains g (has_element kids) (closed (after_attributes g p xs)) kids
+  body_in p o xs kids d =
+      contains_in p (closed (after_attributes g p xs)) o.typed xs (λ ns d. closed_in g (after_attributes g p xs) ns (attributes_in g p o.restricted xs ns d))
+      kids (has_element kids) refl d
+
+  body_out : (p : Simple ℕ) → IsRestrictedBody p → (xs : List Attribute) (kids : List Item) → Distinct xs → Separate kids
+      → Contains g (has_element kids) (closed (after_attributes g p xs)) kids → WeaklyTakes g p xs kids
+  body_out p o xs kids u s d =
+      contains_out p (closed (after_attributes g p xs)) xs
+      (λ ns d. attributes_out g p o.restricted xs ns u (closed_out g (after_attributes g p xs) ns d)) kids s (has_element kids) refl d
 
   -- ---- a start tag
 
@@ -65,7 +72,7 @@ module _ (g : Reading) where
   enter_in [] o r xs kids ns ls h k = absurd h
   enter_in (w ∷ ws) o r xs kids ns ls (inl h) k =
       begins_left g _ (enter g xs ws r) kids (ns ∷ ls)
-      (begins_after g (closed (after_attributes g w.leaf xs)) (after_of w.rest r) kids (ns ∷ ls) (body_in w.leaf o.0.0 xs kids (has_element kids) refl h.0)
+      (begins_after g (closed (after_attributes g w.leaf xs)) (after_of w.rest r) kids (ns ∷ ls) (body_in w.leaf o.0.0 xs kids h.0)
       (holds_after g w.rest r ns ls h.1 k))
   enter_in (w ∷ ws) o r xs kids ns ls (inr h) k = begins_right g _ (enter g xs ws r) kids (ns ∷ ls) (enter_in ws o.1 r xs kids ns ls h k)
 
@@ -76,7 +83,7 @@ module _ (g : Reading) where
       elim (begins_either g (after_of (closed (after_attributes g w.leaf xs)) (after_of w.rest r)) (enter g xs ws r) kids (ns ∷ ls) h) [
         | inl a ↦ let b = begins_after_out g (closed (after_attributes g w.leaf xs)) (after_of w.rest r) kids (ns ∷ ls) a in
             let c = holds_after_out g w.rest r ns ls b.1 in
-            (inl (body_out w.leaf o.0.0 xs kids u s (has_element kids) refl b.0, c.0), c.1)
+            (inl (body_out w.leaf o.0.0 xs kids u s b.0, c.0), c.1)
         | inr b ↦ let k = enter_out ws o.1 r xs kids ns ls u s b in (inr k.0, k.1)
       ]
 
@@ -190,24 +197,33 @@ module _ (g : Reading) where
 
   -- ---- the end of an element that holds no element
 
-  content_in : (p : Simple ℕ) → IsRestricted p → (kids : List Item) → Separate kids → has_element kids ≡ false → WeaklyTakes g p [] kids
-      → has_text g p (string_of kids) ≡ true
-  content_in p o kids w.nothing h (t.as_is d) = either_right _ _ (both _ _ (null_in g p d) refl)
-  content_in p o kids w.nothing h (t.nothing_there d) = alone_in g p o.texts [] (t.as_is d)
-  content_in p o kids (w.string {s = s}) h d = alone_in g p o.texts s d
-  content_in p o kids (w.element u) h d = absurd (cc)
-  content_in p o kids (w.string_element u) h d = absurd (cc)
+  -- no string weakly counts as the empty one
+  pub lone_in : (p : Simple ℕ) (kids : List Item) → Separate kids → has_element kids ≡ false → WeaklyTakes g p [] kids
+      → WeaklyTakes g p [] (a_text (string_of kids) ∷ [])
+  lone_in p kids w.nothing h (t.as_is d) = t.blank_text d refl
+  lone_in p kids w.nothing h (t.nothing_there d) = t.as_is d
+  lone_in p kids w.string h d = d
+  lone_in p kids (w.element u) h d = absurd (cc)
+  lone_in p kids (w.string_element u) h d = absurd (cc)
 
   no_string : (p : Simple ℕ) → WeaklyTakes g p [] (a_text [] ∷ []) → WeaklyTakes g p [] []
   no_string p (t.as_is d) = t.nothing_there d
   no_string p (t.blank_text d b) = t.as_is d
 
+  pub lone_out : (p : Simple ℕ) (kids : List Item) → Separate kids → has_element kids ≡ false → WeaklyTakes g p [] (a_text (string_of kids) ∷ [])
+      → WeaklyTakes g p [] kids
+  lone_out p kids w.nothing h d = no_string p d
+  lone_out p kids w.string h d = d
+  lone_out p kids (w.element u) h d = absurd (cc)
+  lone_out p kids (w.string_element u) h d = absurd (cc)
+
+  content_in : (p : Simple ℕ) → IsRestricted p → (kids : List Item) → Separate kids → has_element kids ≡ false → WeaklyTakes g p [] kids
+      → has_text g p (string_of kids) ≡ true
+  content_in p o kids u h d = alone_in g p o.texts (string_of kids) (lone_in p kids u h d)
+
   content_out : (p : Simple ℕ) → IsRestricted p → (kids : List Item) → Separate kids → has_element kids ≡ false → has_text g p (string_of kids) ≡ true
       → WeaklyTakes g p [] kids
-  content_out p o kids w.nothing h e = no_string p (alone_out g p o.texts [] e)
-  content_out p o kids (w.string {s = s}) h e = alone_out g p o.texts s e
-  content_out p o kids (w.element u) h e = absurd (cc)
-  content_out p o kids (w.string_element u) h e = absurd (cc)
+  content_out p o kids u h e = lone_out p kids u h (alone_out g p o.texts (string_of kids) e)
 
   pub end_text_in : (r : State) → IsRestrictedState r → (kids : List Item) → Separate kids → has_element kids ≡ false → (ls : List (List Item))
       → Begins g r kids ls → Holds g (end_text g r (string_of kids)) ls

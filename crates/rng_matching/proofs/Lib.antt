@@ -23,3 +23,7 @@ mod Examples
 pub mod FreeForms
 pub mod Meanings
 pub mod StateMeanings
+pub mod LevelStates
+pub mod OpenElements
+pub mod LevelEvents
+pub mod LevelSteps

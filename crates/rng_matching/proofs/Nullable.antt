@@ -1,5 +1,5 @@
 -- A pattern is nullable exactly if it takes no attributes with no items.
-use Rattle.std.proofs.Common.{◌≡◌, ℕ, List, [], refl, subst, Bool, true, false, cond, inl, inr}
+use Rattle.std.proofs.Common.{◌≡◌, ◌↔◌, IsTrue, ℕ, List, [], refl, sym, ◌∙◌, subst, Bool, true, false, cond, inl, inr}
 use Rattle.rng_model.specs.Tree.{Simple, choice, group, interleave, s_not_allowed, s_empty, s_text, s_leaf, s_attribute, s_list, s_data, s_data_except}
 use Rattle.rng_model.specs.Tree.{s_value, s_one_or_more, s_joined}
 use Rattle.rng_model.specs.Document.{Attribute, Item, no_texts}
@@ -48,6 +48,9 @@ module _ (g : Reading) where
   null_out (s_joined group p q) e = let a = in_both (is_nullable p) (is_nullable q) e in t.grouped (null_out p a.0) (null_out q a.1) document.done refl
   null_out (s_joined interleave p q) e =
       let a = in_both (is_nullable p) (is_nullable q) e in t.interleaved (null_out p a.0) (null_out q a.1) document.done document.done
+
+  pub nullable_exact : (p : Simple ℕ) (known : Bool) → known ≡ is_nullable p → IsTrue known ↔ Takes g p [] []
+  nullable_exact p known e = (λ h. null_out p (sym e ∙ h), λ d. e ∙ null_in p d)
 
   -- a pattern under a test
   pub under_in : (b : Bool) (p : Simple ℕ) (xs : List Attribute) (ns : List Item) → b ≡ true → Takes g p xs ns → Takes g (cond b p s_not_allowed) xs ns

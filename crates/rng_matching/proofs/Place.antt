@@ -149,7 +149,7 @@ module _ (g : Reading) where
   root_started p o q xs true = tt
   root_started p o q xs false =
       root_entered xs (after_start g p q)
-      (bodies_keep g q (λ l. Unit {0}) (λ r. r ≡ s_empty) (λ k. tt) (λ l. Unit {0}) (item_ways p) (nothing_behind p o))
+      (bodies_keep g q (λ l. Unit {0}) (λ r. r ≡ s_empty) (λ k e. tt) (λ l. Unit {0}) (item_ways p) (nothing_behind p o))
 
   root_rooted : (p : Simple ℕ) → MayStart p → (q : Name) (xs : List Attribute) (kids : Items)
       → IsRooted (after_item g (an_element q xs kids) (after_of p finished)) 0

@@ -187,6 +187,11 @@ module _ (g : Reading) where
   repeat_none xs ns (t.once d) = d
   repeat_none xs ns (t.again d e a i c) = elim d [ ]
 
+  repeat_empty : Implies (s_one_or_more s_empty) s_empty
+  repeat_empty xs ns (t.once d) = d
+  repeat_empty xs ns (t.again {ys = ys} t.empty_is e a i c) =
+      subst (λ l. Takes g s_empty l ns) (right_is_all i) (subst (λ l. Takes g s_empty ys l) c (repeat_empty _ _ e))
+
   nowhere : (q : Simple ℕ) → Implies s_not_allowed q
   nowhere q xs ns d = elim d [ ]
 
@@ -259,8 +264,13 @@ module _ (g : Reading) where
       (beside_empty p))
       (λ _. same _))))
 
+  pub empty_repeated : (p : Simple ℕ) → is_empty p ≡ true → Same g p (s_one_or_more p)
+  empty_repeated p e = subst (λ p. Same g p (s_one_or_more p)) (sym (empty_is p e)) (record { to = λ xs ns d. t.once d; back = repeat_empty })
+
   pub repeat_of-same : (p : Simple ℕ) → Same g (repeat_of p) (s_one_or_more p)
   repeat_of-same p =
       by_test (is_not_allowed p) s_not_allowed _ _
       (λ e. subst (λ p. Same g s_not_allowed (s_one_or_more p)) (sym (none_is p e)) (record { to = nowhere _; back = repeat_none }))
-      (λ _. same _)
+      (λ _. by_test (is_empty p) s_empty _ _
+      (λ e. subst (λ q. Same g q (s_one_or_more p)) (empty_is p e) (empty_repeated p e))
+      (λ _. same _))

@@ -18,16 +18,17 @@ use Rattle.rng_matching.proofs.Hereditary.{IsRestricted-hereditary, item_ways-ke
 module _ (g : Reading) (q : Name) where
   -- ---- what bodies and rests keep
 
-  named_keeps : (B Q : Simple ℕ → Type 0) (b : Bool) (w : Way) (ws : List Way) → B w.leaf × Q w.rest → EachWay B Q ws → EachWay B Q (cond b (w ∷ ws) ws)
-  named_keeps B Q true w ws h k = (h, k)
-  named_keeps B Q false w ws h k = k
+  named_keeps : (B Q : Simple ℕ → Type 0) (b : Bool) (w : Way) (ws : List Way) → (b ≡ true → B w.leaf) → Q w.rest → EachWay B Q ws
+      → EachWay B Q (cond b (w ∷ ws) ws)
+  named_keeps B Q true w ws f h k = ((f refl, h), k)
+  named_keeps B Q false w ws f h k = k
 
-  module _ (B Q : Simple ℕ → Type 0) (bodies : (k : ℕ) → B (body_of g k)) where
+  module _ (B Q : Simple ℕ → Type 0) (bodies : (k : ℕ) → has_name g k q ≡ true → B (body_of g k)) where
     started_keeps : (l r : Simple ℕ) → Q r → (ws : List Way) → EachWay B Q ws → EachWay B Q (started g l r q ws)
     started_keeps s_not_allowed r o ws h = h
     started_keeps s_empty r o ws h = h
     started_keeps s_text r o ws h = h
-    started_keeps (s_leaf k) r o ws h = named_keeps B Q (has_name g k q) (record { leaf = body_of g k; rest = r }) ws (bodies k, o) h
+    started_keeps (s_leaf k) r o ws h = named_keeps B Q (has_name g k q) (record { leaf = body_of g k; rest = r }) ws (bodies k) o h
     started_keeps (s_attribute c p) r o ws h = h
     started_keeps (s_list p) r o ws h = h
     started_keeps (s_data d) r o ws h = h
@@ -42,7 +43,7 @@ module _ (g : Reading) (q : Name) where
 
   pub start_keeps : ((k : ℕ) → IsRestrictedBody (body_of g k)) → (p : Simple ℕ) → IsRestricted p → EachWay IsRestrictedBody IsRestricted (after_start g p q)
   start_keeps bodies p o =
-      bodies_keep IsRestrictedBody IsRestricted bodies (λ l. IsItemLeaf l × IsRestricted l) (item_ways p)
+      bodies_keep IsRestrictedBody IsRestricted (λ k e. bodies k) (λ l. IsItemLeaf l × IsRestricted l) (item_ways p)
       (item_ways-keep IsRestricted IsRestricted-hereditary p o)
 
   -- ---- a leaf with an element

@@ -6,8 +6,7 @@ use Rattle.rng_model.specs.Names.{Name}
 use Rattle.rng_model.specs.Tree.{Simple}
 use Rattle.rng_model.specs.Document.{Attribute, Item, an_element, list_of}
 use Rattle.rng_matching.specs.Reading.{Reading}
-use Rattle.rng_matching.specs.Taking.{WeaklyTakes, Same}
-use Rattle.rng_matching.specs.Taking as t
+use Rattle.rng_matching.specs.Taking.{Same}
 use Rattle.rng_matching.specs.Restricted.{IsRestricted, IsRestrictedBody}
 use Rattle.rng_matching.specs.Blanks.{cons, no_blanks, without_blanks, has_element}
 use Rattle.rng_matching.specs.Derivatives.{Way, after_start}
@@ -26,7 +25,7 @@ use Rattle.rng_matching.proofs.States.{begins_after, begins_after_out}
 use Rattle.rng_matching.proofs.States.{holds_after_none, holds_after, holds_after_out, holds_left, holds_right, holds_out, begins_left, begins_right}
 use Rattle.rng_matching.proofs.States.{begins_either}
 use Rattle.rng_matching.proofs.Levels.{enter_in, enter_out, start_tag_in, start_tag_out, begins_in, begins_out, string_in, string_out, end_in, end_out}
-use Rattle.rng_matching.proofs.Levels.{end_text_in}
+use Rattle.rng_matching.proofs.Levels.{end_text_in, weakly_as}
 use Rattle.rng_matching.proofs.Levels.{end_text_out, accepts_in, accepts_out, string_restricted, start_tag_restricted, end_restricted, end_text_restricted}
 
 -- two meanings that say the same
@@ -172,14 +171,9 @@ module _ (g : Reading) where
 
   -- ---- parts that take or mean the same
 
-  weakly_same : (p q : Simple ℕ) → Same g p q → (ns : List Item) → WeaklyTakes g p [] ns → WeaklyTakes g q [] ns
-  weakly_same p q s ns (t.as_is d) = t.as_is (s.to [] ns d)
-  weakly_same p q s ns (t.blank_text d b) = t.blank_text (s.to [] [] d) b
-  weakly_same p q s ns (t.nothing_there d) = t.nothing_there (s.to [] _ d)
-
   same_contained : (b : Bool) (p q : Simple ℕ) → Same g p q → (kids : List Item) → Contains g b p kids → Contains g b q kids
   same_contained true p q s kids d = s.to [] (without_blanks kids) d
-  same_contained false p q s kids d = weakly_same p q s kids d
+  same_contained false p q s kids d = weakly_as g p q [] [] kids (s.to []) d
 
   same_inside_to : (p q : Simple ℕ) (r s : State) → Same g p q → ((ls : List (List Item)) → Holds g r ls → Holds g s ls) → (ls : List (List Item))
       → Holds g (after p r) ls → Holds g (after q s) ls

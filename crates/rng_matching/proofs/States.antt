@@ -10,7 +10,7 @@ use Rattle.rng_matching.specs.Blanks.{has_element, without_blanks}
 use Rattle.rng_matching.specs.Derivatives.{is_not_allowed}
 use Rattle.rng_matching.specs.States.{State, never, finished, after, either, is_never, after_of, either_of, if_so, Holds, Contains, Begins, IsRestrictedState}
 
-none_taken : (g : Reading) (p : Simple ℕ) (ns : List Item) → is_not_allowed p ≡ true → Takes g p [] ns → ⊥
+pub none_taken : (g : Reading) (p : Simple ℕ) (ns : List Item) → is_not_allowed p ≡ true → Takes g p [] ns → ⊥
 none_taken g s_not_allowed ns e d = elim d [ ]
 none_taken g _ ns e d = cc
 
@@ -109,7 +109,7 @@ module _ (g : Reading) where
   pub begins_either : (r s : State) (kids : List Item) (ls : List (List Item)) → Begins g (either_of r s) kids ls → Begins g r kids ls ⊎ Begins g s kids ls
   begins_either r s kids ls h = either_out (λ r. Begins g r kids ls) (λ h. h) r s (λ k. k) h
 
-  none_contained : (b : Bool) (p : Simple ℕ) (kids : List Item) → is_not_allowed p ≡ true → Contains g b p kids → ⊥
+  pub none_contained : (b : Bool) (p : Simple ℕ) (kids : List Item) → is_not_allowed p ≡ true → Contains g b p kids → ⊥
   none_contained true p kids e d = none_taken g p (without_blanks kids) e d
   none_contained false p kids e (t.as_is d) = none_taken g p kids e d
   none_contained false p kids e (t.blank_text d b) = none_taken g p [] e d

@@ -3,7 +3,7 @@
 -- take the first item, each with what is left behind it; another does the same for attributes.
 use Rattle.std.specs.Prelude.{ℕ, List, [], ◌∷◌, ◌++◌, Bool, true, false, ◌||◌, ◌&&◌, cond, not}
 use Rattle.rng_model.specs.Names.{Name}
-use Rattle.rng_model.specs.Tree.{Simple, choice, group, interleave, s_not_allowed, s_empty, s_text, s_leaf, s_attribute, s_list, s_data, s_data_except}
+use Rattle.rng_model.specs.Tree.{Simple, Connector, choice, group, interleave, s_not_allowed, s_empty, s_text, s_leaf, s_attribute, s_list, s_data, s_data_except}
 use Rattle.rng_model.specs.Tree.{s_value, s_one_or_more, s_joined}
 use Rattle.rng_model.specs.Document.{Attribute}
 use Rattle.rng_model.specs.Texts.{is_blank}
@@ -30,25 +30,46 @@ is_nullable (s_joined interleave p q) = is_nullable p && is_nullable q
 
 abbrev pub is_not_allowed : Simple ℕ → Bool
 is_not_allowed s_not_allowed = true
-is_not_allowed _ = false
+is_not_allowed s_empty = false
+is_not_allowed s_text = false
+is_not_allowed (s_leaf k) = false
+is_not_allowed (s_attribute c p) = false
+is_not_allowed (s_list p) = false
+is_not_allowed (s_data d) = false
+is_not_allowed (s_data_except d p) = false
+is_not_allowed (s_value d v) = false
+is_not_allowed (s_one_or_more p) = false
+is_not_allowed (s_joined k p q) = false
 
 abbrev pub is_empty : Simple ℕ → Bool
+is_empty s_not_allowed = false
 is_empty s_empty = true
-is_empty _ = false
+is_empty s_text = false
+is_empty (s_leaf k) = false
+is_empty (s_attribute c p) = false
+is_empty (s_list p) = false
+is_empty (s_data d) = false
+is_empty (s_data_except d p) = false
+is_empty (s_value d v) = false
+is_empty (s_one_or_more p) = false
+is_empty (s_joined k p q) = false
 
 abbrev pub choice_of : Simple ℕ → Simple ℕ → Simple ℕ
 choice_of p q = cond (is_not_allowed p) q (cond (is_not_allowed q) p (s_joined choice p q))
 
+-- a group or an interleave
+abbrev pub joined_of : Connector → Simple ℕ → Simple ℕ → Simple ℕ
+joined_of k p q =
+    cond (is_not_allowed p) s_not_allowed (cond (is_not_allowed q) s_not_allowed (cond (is_empty p) q (cond (is_empty q) p (s_joined k p q))))
+
 abbrev pub group_of : Simple ℕ → Simple ℕ → Simple ℕ
-group_of p q =
-    cond (is_not_allowed p) s_not_allowed (cond (is_not_allowed q) s_not_allowed (cond (is_empty p) q (cond (is_empty q) p (s_joined group p q))))
+group_of = joined_of group
 
 abbrev pub interleave_of : Simple ℕ → Simple ℕ → Simple ℕ
-interleave_of p q =
-    cond (is_not_allowed p) s_not_allowed (cond (is_not_allowed q) s_not_allowed (cond (is_empty p) q (cond (is_empty q) p (s_joined interleave p q))))
+interleave_of = joined_of interleave
 
 abbrev pub repeat_of : Simple ℕ → Simple ℕ
-repeat_of p = cond (is_not_allowed p) s_not_allowed (s_one_or_more p)
+repeat_of p = cond (is_not_allowed p) s_not_allowed (cond (is_empty p) s_empty (s_one_or_more p))
 
 -- the copies that may follow the first one of a oneOrMore
 abbrev pub more_of : Simple ℕ → Simple ℕ

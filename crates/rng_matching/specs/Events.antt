@@ -1,6 +1,6 @@
 -- A matcher that takes the events of a document one by one. A string is held until the event behind it shows whether it is
 -- an only child: only then a blank one is data (RELAX NG Specification, section 6.2.7).
-use Rattle.std.specs.Prelude.{ℕ, List, [], ◌∷◌, ◌++◌, Bool, true, false, cond, map}
+use Rattle.std.specs.Prelude.{ℕ, zero, suc, List, [], ◌∷◌, ◌++◌, Bool, true, false, cond, map, Option, Some, None}
 use Rattle.rng_model.specs.Tree.{Simple}
 use Rattle.rng_model.specs.Document.{a_text, an_element, Items, no_items, item_and}
 use Rattle.rng_model.specs.Texts.{is_blank}
@@ -17,6 +17,14 @@ abbrev pub events_of_items : Items → List EventKind
 events_of_items no_items = []
 events_of_items (item_and (a_text s) ns) = a_string s ∷ events_of_items ns
 events_of_items (item_and (an_element q xs kids) ns) = a_start q xs ∷ (events_of_items kids ++ an_end ∷ events_of_items ns)
+
+-- How many elements are open after these events, where so many were open before; none where an element ends that is not open.
+abbrev pub open_after : ℕ → List EventKind → Option ℕ
+open_after n [] = Some n
+open_after n (a_start q xs ∷ es) = open_after (suc n) es
+open_after n (a_string s ∷ es) = open_after n es
+open_after zero (an_end ∷ es) = None
+open_after (suc n) (an_end ∷ es) = open_after n es
 
 pub record Matcher : Type 0 where
   pub state : State

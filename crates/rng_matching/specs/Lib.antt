@@ -8,3 +8,5 @@ pub mod States
 pub mod Events
 pub mod Laws
 pub mod Meanings
+pub mod LevelStates
+pub mod LevelEvents

@@ -1,4 +1,4 @@
--- The alternatives of a choice are those of its members, and a pattern matches what one of its alternatives matches.
+-- The alternatives of a choice are those of its members, and a pattern takes what one of its alternatives takes.
 use Rattle.std.proofs.Common.{◌≡◌, ◌⊎◌, ◌↔◌, ℕ, zero, suc, ◌+◌, ◌<◌, List, [], ◌∷◌, ◌++◌, length, take, get_or, map, refl, sym, subst, ⊎_elim, inl}
 use Rattle.std.proofs.Common.{inr, arith, All, Contains, Result, Ok, Err, IfOk}
 use Rattle.std.proofs.lemmas.List.{append-nil, take_more}
@@ -6,12 +6,11 @@ use Rattle.std.proofs.lemmas.List.Elements.{Contains-get_or, Contains-append_lef
 use Rattle.rng_model.specs.Tree.{Simple, choice, group, interleave, s_not_allowed, s_empty, s_text, s_leaf, s_attribute, s_list, s_data, s_data_except}
 use Rattle.rng_model.specs.Tree.{s_value, s_one_or_more, s_joined}
 use Rattle.rng_model.specs.Document.{Attribute, Item}
-use Rattle.rng_model.specs.Matching as m
-use Rattle.rng_model.specs.Table.{Grammar}
-use Rattle.rng_model.specs.Texts.{TextTests}
+use Rattle.rng_matching.specs.Reading.{Reading}
+use Rattle.rng_matching.specs.Taking.{Takes}
+use Rattle.rng_matching.specs.Taking as t
 use Rattle.rng_patterns.specs.Reduced.{HasAlternative}
-use Rattle.rng_patterns.specs.Same.{Matches}
-use Rattle.rng_patterns.specs.Choices.{IsAlternativeOf, SomeMatches}
+use Rattle.rng_patterns.specs.Choices.{IsAlternativeOf, SomeTakes}
 use Rattle.rng_patterns.specs.Trees.{choice_over}
 use Rattle.rng_patterns.specs.declared.pattern.PatternNumber.{PatternNumber}
 
@@ -101,53 +100,51 @@ pub all_within : (P : PatternNumber → Type 0) (ms ns : List PatternNumber) →
 all_within P ms ns within all k d inside =
     let x = get_or ns k d in let there = within x (Contains-get_or ns k d inside) in subst P there.2 (all there.0 x there.1)
 
--- ---- what they match
+-- ---- what they take
 
-module _ (g : Grammar) (tests : TextTests) where
+module _ (g : Reading) where
   record Found (p : Simple ℕ) (xs : List Attribute) (ns : List Item) : Type 0 where
     pub tree : Simple ℕ
     pub among : HasAlternative p tree
-    pub matches : Matches g tests tree xs ns
+    pub takes : Takes g tree xs ns
 
-  found_in : (p : Simple ℕ) (xs : List Attribute) (ns : List Item) → Matches g tests p xs ns → Found p xs ns
+  found_in : (p : Simple ℕ) (xs : List Attribute) (ns : List Item) → Takes g p xs ns → Found p xs ns
   found_in s_not_allowed xs ns d = elim d [ ]
-  found_in s_empty xs ns d = record { tree = s_empty; among = refl; matches = d }
-  found_in s_text xs ns d = record { tree = s_text; among = refl; matches = d }
-  found_in (s_leaf k) xs ns d = record { tree = s_leaf k; among = refl; matches = d }
-  found_in (s_attribute c p) xs ns d = record { tree = s_attribute c p; among = refl; matches = d }
-  found_in (s_list p) xs ns d = record { tree = s_list p; among = refl; matches = d }
-  found_in (s_data e) xs ns d = record { tree = s_data e; among = refl; matches = d }
-  found_in (s_data_except e p) xs ns d = record { tree = s_data_except e p; among = refl; matches = d }
-  found_in (s_value e v) xs ns d = record { tree = s_value e v; among = refl; matches = d }
-  found_in (s_one_or_more p) xs ns d = record { tree = s_one_or_more p; among = refl; matches = d }
-  found_in (s_joined choice p q) xs ns (m.first d) = let f = found_in p xs ns d in record { tree = f.tree; among = inl f.among; matches = f.matches }
-  found_in (s_joined choice p q) xs ns (m.second d) = let f = found_in q xs ns d in record { tree = f.tree; among = inr f.among; matches = f.matches }
-  found_in (s_joined choice p q) xs ns (m.another d) = elim d [ ]
-  found_in (s_joined choice p q) xs ns (m.all d e i s) = elim s [ ]
-  found_in (s_joined group p q) xs ns d = record { tree = s_joined group p q; among = refl; matches = d }
-  found_in (s_joined interleave p q) xs ns d = record { tree = s_joined interleave p q; among = refl; matches = d }
+  found_in s_empty xs ns d = record { tree = s_empty; among = refl; takes = d }
+  found_in s_text xs ns d = record { tree = s_text; among = refl; takes = d }
+  found_in (s_leaf k) xs ns d = record { tree = s_leaf k; among = refl; takes = d }
+  found_in (s_attribute c p) xs ns d = record { tree = s_attribute c p; among = refl; takes = d }
+  found_in (s_list p) xs ns d = record { tree = s_list p; among = refl; takes = d }
+  found_in (s_data e) xs ns d = record { tree = s_data e; among = refl; takes = d }
+  found_in (s_data_except e p) xs ns d = record { tree = s_data_except e p; among = refl; takes = d }
+  found_in (s_value e v) xs ns d = record { tree = s_value e v; among = refl; takes = d }
+  found_in (s_one_or_more p) xs ns d = record { tree = s_one_or_more p; among = refl; takes = d }
+  found_in (s_joined choice p q) xs ns (t.first d) = let f = found_in p xs ns d in record { tree = f.tree; among = inl f.among; takes = f.takes }
+  found_in (s_joined choice p q) xs ns (t.second d) = let f = found_in q xs ns d in record { tree = f.tree; among = inr f.among; takes = f.takes }
+  found_in (s_joined group p q) xs ns d = record { tree = s_joined group p q; among = refl; takes = d }
+  found_in (s_joined interleave p q) xs ns d = record { tree = s_joined interleave p q; among = refl; takes = d }
 
-  by_alternative : (p s : Simple ℕ) (xs : List Attribute) (ns : List Item) → HasAlternative p s → Matches g tests s xs ns → Matches g tests p xs ns
+  by_alternative : (p s : Simple ℕ) (xs : List Attribute) (ns : List Item) → HasAlternative p s → Takes g s xs ns → Takes g p xs ns
   by_alternative s_not_allowed s xs ns h d = absurd h
-  by_alternative s_empty s xs ns h d = subst (λ p. Matches g tests p xs ns) h d
-  by_alternative s_text s xs ns h d = subst (λ p. Matches g tests p xs ns) h d
-  by_alternative (s_leaf k) s xs ns h d = subst (λ p. Matches g tests p xs ns) h d
-  by_alternative (s_attribute c p) s xs ns h d = subst (λ p. Matches g tests p xs ns) h d
-  by_alternative (s_list p) s xs ns h d = subst (λ p. Matches g tests p xs ns) h d
-  by_alternative (s_data e) s xs ns h d = subst (λ p. Matches g tests p xs ns) h d
-  by_alternative (s_data_except e p) s xs ns h d = subst (λ p. Matches g tests p xs ns) h d
-  by_alternative (s_value e v) s xs ns h d = subst (λ p. Matches g tests p xs ns) h d
-  by_alternative (s_one_or_more p) s xs ns h d = subst (λ p. Matches g tests p xs ns) h d
-  by_alternative (s_joined choice p q) s xs ns h d = ⊎_elim (λ a. m.first (by_alternative p s xs ns a d)) (λ a. m.second (by_alternative q s xs ns a d)) h
-  by_alternative (s_joined group p q) s xs ns h d = subst (λ p. Matches g tests p xs ns) h d
-  by_alternative (s_joined interleave p q) s xs ns h d = subst (λ p. Matches g tests p xs ns) h d
+  by_alternative (s_joined choice p q) s xs ns h d = ⊎_elim (λ a. t.first (by_alternative p s xs ns a d)) (λ a. t.second (by_alternative q s xs ns a d)) h
+  by_alternative s_empty s xs ns h d = subst (λ p. Takes g p xs ns) h d
+  by_alternative s_text s xs ns h d = subst (λ p. Takes g p xs ns) h d
+  by_alternative (s_leaf k) s xs ns h d = subst (λ p. Takes g p xs ns) h d
+  by_alternative (s_attribute c p) s xs ns h d = subst (λ p. Takes g p xs ns) h d
+  by_alternative (s_list p) s xs ns h d = subst (λ p. Takes g p xs ns) h d
+  by_alternative (s_data e) s xs ns h d = subst (λ p. Takes g p xs ns) h d
+  by_alternative (s_data_except e p) s xs ns h d = subst (λ p. Takes g p xs ns) h d
+  by_alternative (s_value e v) s xs ns h d = subst (λ p. Takes g p xs ns) h d
+  by_alternative (s_one_or_more p) s xs ns h d = subst (λ p. Takes g p xs ns) h d
+  by_alternative (s_joined group p q) s xs ns h d = subst (λ p. Takes g p xs ns) h d
+  by_alternative (s_joined interleave p q) s xs ns h d = subst (λ p. Takes g p xs ns) h d
 
-  -- a pattern with the alternatives of these matches what one of them does
-  pub matches_some : (tree : ℕ → Simple ℕ) (ms : List PatternNumber) (p : Simple ℕ) → ((s : Simple ℕ) → HasAlternative p s ↔ IsAlternativeOf tree ms s)
-      → (xs : List Attribute) (ns : List Item) → Matches g tests p xs ns ↔ SomeMatches g tests tree ms xs ns
-  matches_some tree ms p has xs ns = (
-    λ d. let f = found_in p xs ns d in let a = (has f.tree).0 f.among in (a.0, a.1, by_alternative (tree a.0.0) f.tree xs ns a.2 f.matches),
-    λ d. let f = found_in (tree d.0.0) xs ns d.2 in by_alternative p f.tree xs ns ((has f.tree).1 (d.0, d.1, f.among)) f.matches,
+  -- a pattern with the alternatives of these takes what one of them does
+  pub takes_some : (tree : ℕ → Simple ℕ) (ms : List PatternNumber) (p : Simple ℕ) → ((s : Simple ℕ) → HasAlternative p s ↔ IsAlternativeOf tree ms s)
+      → (xs : List Attribute) (ns : List Item) → Takes g p xs ns ↔ SomeTakes g tree ms xs ns
+  takes_some tree ms p has xs ns = (
+    λ d. let f = found_in p xs ns d in let a = (has f.tree).0 f.among in (a.0, a.1, by_alternative (tree a.0.0) f.tree xs ns a.2 f.takes),
+    λ d. let f = found_in (tree d.0.0) xs ns d.2 in by_alternative p f.tree xs ns ((has f.tree).1 (d.0, d.1, f.among)) f.takes,
   )
 
 pub if_ok : {X E : Type 0} (r : Result X E) (P Q : X → Type 0) → ((x : X) → P x → Q x) → IfOk r P → IfOk r Q

@@ -8,8 +8,9 @@ use Rattle.rng_model.specs.Tree as tree
 use Rattle.rng_model.specs.Table.{Table}
 use Rattle.rng_model.specs.declared.simple.Simple.{Simple}
 use Rattle.rng_model.specs.declared.simple.Simple.TheVariants as simple
+use Rattle.rng_matching.specs.Derivatives.{is_nullable}
 use Rattle.rng_patterns.specs.PatternTable.{facts_of}
-use Rattle.rng_patterns.specs.Reduced.{has_attribute, is_nullable}
+use Rattle.rng_patterns.specs.Reduced.{has_attribute}
 use Rattle.rng_patterns.specs.Trees.{attribute_found, data_found, choice_over}
 use Rattle.rng_patterns.specs.declared.pattern.Facts.{Facts}
 use Rattle.rng_patterns.specs.declared.pattern.PatternNumber.{PatternNumber}
@@ -44,9 +45,10 @@ all_members f ms i known over n a =
     ap₂ (λ x y. record { nullable = x; attributes = y }) (n ∙ ap (list_any (λ m. is_nullable (f m.0))) all ∙ choice_nullable f ms)
     (a ∙ ap (list_any (λ m. has_attribute (f m.0))) all ∙ choice_attributes f ms)
 
-pub members_below : (ms : List PatternNumber) (n : ℕ) → All (λ m. m < n) (map (λ (m : PatternNumber). m.0) ms) → All (λ m. m.0 < n) ms
-members_below ms n below k d inside =
-    subst (λ x. x < n) (get_or-map (λ (m : PatternNumber). m.0) ms k d d.0 inside) (below k d.0 (omega (arith, length-map ms (λ (m : PatternNumber). m.0))))
+-- what holds of the numbers of the members
+pub of_members : (P : ℕ → Type 0) (ms : List PatternNumber) → All P (map (λ (m : PatternNumber). m.0) ms) → All (λ m. P m.0) ms
+of_members P ms all k d inside =
+    subst P (get_or-map (λ (m : PatternNumber). m.0) ms k d d.0 inside) (all k d.0 (omega (arith, length-map ms (λ (m : PatternNumber). m.0))))
 
 -- what the grammar lists is an attribute of some class
 pub attribute_known : (t : Table) (o : Option Simple) → facts_of (attribute_found t o) ≡ record { nullable = false; attributes = true }

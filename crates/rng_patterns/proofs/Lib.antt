@@ -3,6 +3,5 @@ mod EqualPatterns
 mod KnownFacts
 mod Rows
 mod PatternKinds
-pub mod Matching
 pub mod Choices
 pub mod Taking

@@ -1,5 +1,5 @@
 -- The kind of a pattern shows in its tree.
-use Rattle.std.proofs.Common.{◌≡◌, ℕ, refl, ap, ◌∙◌, Bool, true, false, List, [], ◌∷◌, Option, Some, None, slice_get, arith}
+use Rattle.std.proofs.Common.{◌≡◌, ℕ, refl, sym, ap, ◌∙◌, Bool, true, false, List, [], ◌∷◌, Option, Some, None, slice_get, arith}
 use Rattle.rng_model.specs.Tree as tree
 use Rattle.rng_model.specs.Table.{Table}
 use Rattle.rng_model.specs.declared.simple.Simple.{Simple}
@@ -7,44 +7,47 @@ use Rattle.rng_model.specs.declared.simple.Simple.TheVariants as simple
 use Rattle.rng_patterns.specs.Node.{Node, node_of}
 use Rattle.rng_patterns.specs.Node as node
 use Rattle.rng_patterns.specs.PatternTable.{ArePartsBelow, IsPatternTable}
-use Rattle.rng_patterns.specs.Reduced.{is_empty, is_not_allowed}
+use Rattle.rng_matching.specs.Derivatives.{is_empty, is_not_allowed}
+use Rattle.rng_patterns.specs.Reduced.{is_choice, MayBeMember}
 use Rattle.rng_patterns.specs.Trees.{attribute_found, data_found, tree_of, tree_over}
 use Rattle.rng_patterns.specs.declared.pattern.Pattern.{Pattern}
 use Rattle.rng_patterns.specs.declared.pattern.Pattern.TheVariants as pattern
 use Rattle.rng_patterns.proofs.Trees.{tree_of-over_parts}
 
--- what the grammar lists is neither notAllowed nor empty
-attribute_there : (t : Table) (o : Option Simple) → (is_not_allowed (attribute_found t o) ≡ false) × (is_empty (attribute_found t o) ≡ false)
-attribute_there t None = (refl, refl)
-attribute_there t (Some simple.NotAllowed) = (refl, refl)
-attribute_there t (Some simple.Empty) = (refl, refl)
-attribute_there t (Some simple.Text) = (refl, refl)
-attribute_there t (Some (simple.Element e)) = (refl, refl)
-attribute_there t (Some (simple.Attribute class body)) = (refl, refl)
-attribute_there t (Some (simple.List body)) = (refl, refl)
-attribute_there t (Some (simple.Data datatype)) = (refl, refl)
-attribute_there t (Some (simple.DataExcept datatype except)) = (refl, refl)
-attribute_there t (Some (simple.Value library name text)) = (refl, refl)
-attribute_there t (Some (simple.OneOrMore body)) = (refl, refl)
-attribute_there t (Some (simple.Group a b)) = (refl, refl)
-attribute_there t (Some (simple.Interleave a b)) = (refl, refl)
-attribute_there t (Some (simple.Choice a b)) = (refl, refl)
+-- what the grammar lists is neither notAllowed nor empty, nor a choice
+attribute_there : (t : Table) (o : Option Simple) → (is_not_allowed (attribute_found t o) ≡ false)
+    × (is_empty (attribute_found t o) ≡ false) × (is_choice (attribute_found t o) ≡ false)
+attribute_there t None = (refl, refl, refl)
+attribute_there t (Some simple.NotAllowed) = (refl, refl, refl)
+attribute_there t (Some simple.Empty) = (refl, refl, refl)
+attribute_there t (Some simple.Text) = (refl, refl, refl)
+attribute_there t (Some (simple.Element e)) = (refl, refl, refl)
+attribute_there t (Some (simple.Attribute class body)) = (refl, refl, refl)
+attribute_there t (Some (simple.List body)) = (refl, refl, refl)
+attribute_there t (Some (simple.Data datatype)) = (refl, refl, refl)
+attribute_there t (Some (simple.DataExcept datatype except)) = (refl, refl, refl)
+attribute_there t (Some (simple.Value library name text)) = (refl, refl, refl)
+attribute_there t (Some (simple.OneOrMore body)) = (refl, refl, refl)
+attribute_there t (Some (simple.Group a b)) = (refl, refl, refl)
+attribute_there t (Some (simple.Interleave a b)) = (refl, refl, refl)
+attribute_there t (Some (simple.Choice a b)) = (refl, refl, refl)
 
 data_there : (t : Table) (o : Option Simple) → (is_not_allowed (data_found t o) ≡ false) × (is_empty (data_found t o) ≡ false)
-data_there t None = (refl, refl)
-data_there t (Some simple.NotAllowed) = (refl, refl)
-data_there t (Some simple.Empty) = (refl, refl)
-data_there t (Some simple.Text) = (refl, refl)
-data_there t (Some (simple.Element e)) = (refl, refl)
-data_there t (Some (simple.Attribute class body)) = (refl, refl)
-data_there t (Some (simple.List body)) = (refl, refl)
-data_there t (Some (simple.Data datatype)) = (refl, refl)
-data_there t (Some (simple.DataExcept datatype except)) = (refl, refl)
-data_there t (Some (simple.Value library name text)) = (refl, refl)
-data_there t (Some (simple.OneOrMore body)) = (refl, refl)
-data_there t (Some (simple.Group a b)) = (refl, refl)
-data_there t (Some (simple.Interleave a b)) = (refl, refl)
-data_there t (Some (simple.Choice a b)) = (refl, refl)
+    × (is_choice (data_found t o) ≡ false)
+data_there t None = (refl, refl, refl)
+data_there t (Some simple.NotAllowed) = (refl, refl, refl)
+data_there t (Some simple.Empty) = (refl, refl, refl)
+data_there t (Some simple.Text) = (refl, refl, refl)
+data_there t (Some (simple.Element e)) = (refl, refl, refl)
+data_there t (Some (simple.Attribute class body)) = (refl, refl, refl)
+data_there t (Some (simple.List body)) = (refl, refl, refl)
+data_there t (Some (simple.Data datatype)) = (refl, refl, refl)
+data_there t (Some (simple.DataExcept datatype except)) = (refl, refl, refl)
+data_there t (Some (simple.Value library name text)) = (refl, refl, refl)
+data_there t (Some (simple.OneOrMore body)) = (refl, refl, refl)
+data_there t (Some (simple.Group a b)) = (refl, refl, refl)
+data_there t (Some (simple.Interleave a b)) = (refl, refl, refl)
+data_there t (Some (simple.Choice a b)) = (refl, refl, refl)
 
 abbrev pub is_not_allowed_node : Node → Bool
 is_not_allowed_node node.not_allowed = true
@@ -54,18 +57,23 @@ abbrev pub is_empty_node : Node → Bool
 is_empty_node node.empty = true
 is_empty_node _ = false
 
+abbrev pub is_choice_node : Node → Bool
+is_choice_node (node.choice ms) = true
+is_choice_node _ = false
+
 kind_over : (t : Table) (f : ℕ → tree.Simple ℕ) (n : Node) (i : ℕ) → ArePartsBelow i n
     → (is_not_allowed (tree_over t f n) ≡ is_not_allowed_node n) × (is_empty (tree_over t f n) ≡ is_empty_node n)
-kind_over t f node.not_allowed i h = (refl, refl)
-kind_over t f node.empty i h = (refl, refl)
-kind_over t f node.text i h = (refl, refl)
+    × (is_choice (tree_over t f n) ≡ is_choice_node n)
+kind_over t f node.not_allowed i h = (refl, refl, refl)
+kind_over t f node.empty i h = (refl, refl, refl)
+kind_over t f node.text i h = (refl, refl, refl)
 kind_over t f (node.choice []) i h = absurd (omega (arith, h.0))
 kind_over t f (node.choice (m ∷ [])) i h = absurd (omega (arith, h.0))
-kind_over t f (node.choice (m ∷ n ∷ ms)) i h = (refl, refl)
-kind_over t f (node.group a b) i h = (refl, refl)
-kind_over t f (node.interleave a b) i h = (refl, refl)
-kind_over t f (node.one_or_more a) i h = (refl, refl)
-kind_over t f (node.element e) i h = (refl, refl)
+kind_over t f (node.choice (m ∷ n ∷ ms)) i h = (refl, refl, refl)
+kind_over t f (node.group a b) i h = (refl, refl, refl)
+kind_over t f (node.interleave a b) i h = (refl, refl, refl)
+kind_over t f (node.one_or_more a) i h = (refl, refl, refl)
+kind_over t f (node.element e) i h = (refl, refl, refl)
 kind_over t f (node.attribute a) i h = attribute_there t (slice_get t.patterns a)
 kind_over t f (node.data_at d) i h = data_there t (slice_get t.patterns d)
 
@@ -78,6 +86,9 @@ module _ (t : Table) (ns : List Node) (i : ℕ) (n : Node) (kept : IsPatternTabl
 
   pub empty_shows : is_empty (tree_of t ns i) ≡ is_empty_node n
   empty_shows = ap is_empty is_over ∙ (kind_over t (tree_of t ns) n i (kept.falls i n found)).1
+
+  pub choice_shows : is_choice (tree_of t ns i) ≡ is_choice_node n
+  choice_shows = ap is_choice is_over ∙ (kind_over t (tree_of t ns) n i (kept.falls i n found)).2
 
 -- a pattern of another kind
 pub not_not_allowed : (p : Pattern) → (p ≡ pattern.NotAllowed → ⊥) → false ≡ is_not_allowed_node (node_of p)
@@ -103,3 +114,23 @@ not_empty (pattern.OneOrMore a) h = refl
 not_empty (pattern.Element e) h = refl
 not_empty (pattern.Attribute a) h = refl
 not_empty (pattern.Data d) h = refl
+
+pub not_choice : (p : Pattern) → ((ms : _) → p ≡ pattern.Choice ms → ⊥) → false ≡ is_choice_node (node_of p)
+not_choice pattern.NotAllowed h = refl
+not_choice pattern.Empty h = refl
+not_choice pattern.Text h = refl
+not_choice (pattern.Choice ms) h = absurd (h ms refl)
+not_choice (pattern.Group a b) h = refl
+not_choice (pattern.Interleave a b) h = refl
+not_choice (pattern.OneOrMore a) h = refl
+not_choice (pattern.Element e) h = refl
+not_choice (pattern.Attribute a) h = refl
+not_choice (pattern.Data d) h = refl
+
+-- what is neither notAllowed nor a choice may be a member of one
+pub may_be_member : (t : Table) (ns : List Node) (i : ℕ) (p : Pattern) → IsPatternTable ns → slice_get ns i ≡ Some (node_of p) → (p ≡ pattern.NotAllowed → ⊥)
+    → ((ms : _) → p ≡ pattern.Choice ms → ⊥) → MayBeMember (tree_of t ns i)
+may_be_member t ns i p kept found h k = record {
+  not_not_allowed = not_allowed_shows t ns i (node_of p) kept found ∙ sym (not_not_allowed p h);
+  not_choice = choice_shows t ns i (node_of p) kept found ∙ sym (not_choice p k);
+}

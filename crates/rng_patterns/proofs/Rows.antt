@@ -11,6 +11,7 @@ use Rattle.rng_model.specs.Tree.{s_not_allowed}
 use Rattle.rng_patterns.specs.Node.{Node, node_of}
 use Rattle.rng_patterns.specs.Trees.{tree_over, tree_of, trees}
 use Rattle.rng_patterns.specs.PatternTable.{Adds, AreExact, ArePartsBelow, IsNew, IsPatternTable, facts_of, nodes_of}
+use Rattle.rng_patterns.specs.Reduced.{AreReduced}
 use Rattle.rng_patterns.specs.declared.pattern.Pattern.{Pattern}
 use Rattle.rng_patterns.specs.declared.pattern.Facts.{Facts}
 use Rattle.std.specs.Map.{keys_of}
@@ -21,7 +22,7 @@ use Rattle.std.proofs.lemmas.Grind.{common_steps}
 use Rattle.std.proofs.lemmas.List.Sums.{fails_before_first}
 use Rattle.rng_patterns.specs.contracts.pattern.PatternPartialEq.TheImpl as same
 use Rattle.rng_patterns.proofs.EqualPatterns.{same_node, equal_pattern}
-use Rattle.rng_patterns.proofs.Trees.{length-trees, trees_pushed, tree_of-over_parts, tree_of_pushed}
+use Rattle.rng_patterns.proofs.Trees.{length-trees, reduced_reads, trees_pushed, tree_of-over_parts, tree_of_pushed, tree_stays}
 use Rattle.indexmap.specs.IndexMap.{insert_entry}
 
 -- ---- the first table
@@ -33,7 +34,7 @@ none_exact t = refl
 pub nothing_kept : (rows : List (Pattern × Facts)) → rows ≡ [] → IsPatternTable (nodes_of rows) × AreExact rows
 nothing_kept rows none =
     let Kept : List (Pattern × Facts) → Type 0 = λ rows. IsPatternTable (nodes_of rows) × AreExact rows in
-    subst Kept (sym none) (record { falls = λ i n e. absurd (cc); apart = λ i j n e f. absurd (cc) }, none_exact)
+    subst Kept (sym none) (record { falls = λ i n e. absurd (cc); reduced = λ t i n e. absurd (cc); apart = λ i j n e f. absurd (cc) }, none_exact)
 
 -- ---- one more pattern
 
@@ -56,6 +57,17 @@ falls_pushed ns n kept below i m e = ⊎_elim
     (λ h. let new = found_new ns n i m e h in subst (ArePartsBelow i) new.1 (rw new.0 below))
     (cases_lt i (length ns))
 
+reduced_pushed : (ns : List Node) (n : Node) → IsPatternTable ns → ArePartsBelow (length ns) n → ((t : Table) → AreReduced (tree_of t ns) n) → (t : Table) (i : ℕ)
+    (m : Node) → slice_get (ns ++ n ∷ []) i ≡ Some m → AreReduced (tree_of t (ns ++ n ∷ [])) m
+reduced_pushed ns n kept below own t i m e = ⊎_elim
+    (λ h. let found = found_old ns n i m e h in
+    reduced_reads m i _ _ (kept.falls i m found) (λ k l. stays k (omega (arith, l, h))) (kept.reduced t i m found))
+    (λ h. let new = found_new ns n i m e h in subst (AreReduced (tree_of t (ns ++ n ∷ []))) new.1 (reduced_reads n (length ns) _ _ below stays (own t)))
+    (cases_lt i (length ns))
+  where
+    stays : (k : ℕ) → k < length ns → tree_of t (ns ++ n ∷ []) k ≡ tree_of t ns k
+    stays k l = tree_stays t ns (ns ++ n ∷ []) k (n ∷ [], refl) l
+
 apart_pushed : (ns : List Node) (n : Node) → IsPatternTable ns → IsNew ns n → (i j : ℕ) (m : Node) → slice_get (ns ++ n ∷ []) i ≡ Some m
     → slice_get (ns ++ n ∷ []) j ≡ Some m → i ≡ j
 apart_pushed ns n kept fresh i j m e f = ⊎_elim
@@ -72,13 +84,13 @@ apart_pushed ns n kept fresh i j m e f = ⊎_elim
 -- a table with one more pattern, that is none of those and whose parts are there
 pub one_more : (rows : List (Pattern × Facts)) (p : Pattern) (f : Facts) → IsPatternTable (nodes_of rows) × AreExact rows
     → ArePartsBelow (length (nodes_of rows)) (node_of p)
-    → IsNew (nodes_of rows) (node_of p) → ((t : Table) → f ≡ facts_of (tree_over t (tree_of t (nodes_of rows)) (node_of p)))
+    → ((t : Table) → AreReduced (tree_of t (nodes_of rows)) (node_of p)) → IsNew (nodes_of rows) (node_of p) → ((t : Table) → f ≡ facts_of (tree_over t (tree_of t (nodes_of rows)) (node_of p)))
     → IsPatternTable (nodes_of (rows ++ (p, f) ∷ [])) × AreExact (rows ++ (p, f) ∷ [])
-one_more rows p f kept below fresh exact =
+one_more rows p f kept below reduced fresh exact =
     let ns = nodes_of rows in
     let n = node_of p in
     let longer : nodes_of (rows ++ (p, f) ∷ []) ≡ ns ++ n ∷ [] = map-append (λ r. node_of r.0) rows ((p, f) ∷ []) in (
-      subst IsPatternTable (sym longer) (record { falls = falls_pushed ns n kept.0 below; apart = apart_pushed ns n kept.0 fresh }),
+      subst IsPatternTable (sym longer) (record { falls = falls_pushed ns n kept.0 below; reduced = reduced_pushed ns n kept.0 below reduced; apart = apart_pushed ns n kept.0 fresh }),
       λ t. map-append (λ r. r.1) rows ((p, f) ∷ []) ∙ ap₂ (λ xs x. xs ++ x ∷ []) (kept.1 t) (exact t)
           ∙ sym (map-append facts_of (trees t ns) (tree_over t (tree_of t ns) n ∷ []))
           ∙ ap (map facts_of) (sym (trees_pushed t ns n) ∙ ap (trees t) (sym longer)),

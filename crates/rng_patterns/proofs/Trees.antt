@@ -1,5 +1,5 @@
 -- The trees of numbered patterns, one pattern at a time.
-use Rattle.std.proofs.Common.{◌≡◌, ℕ, ◌<◌, ◌≤◌, All, List, [], ◌∷◌, ◌++◌, length, slice_get, Some, refl, ap, ap₂, sym, ◌∙◌, arith}
+use Rattle.std.proofs.Common.{◌≡◌, ℕ, ◌<◌, ◌≤◌, All, List, [], ◌∷◌, ◌++◌, length, slice_get, Some, refl, ap, ap₂, sym, subst, get_or, ◌∙◌, arith}
 use Rattle.std.proofs.Common.{length-append}
 use Rattle.std.proofs.lemmas.List.{append-nil, append_assoc}
 use Rattle.std.proofs.lemmas.List.Elements.{All-tail}
@@ -12,6 +12,7 @@ use Rattle.rng_patterns.specs.Node.{Node}
 use Rattle.rng_patterns.specs.Node as node
 use Rattle.rng_patterns.specs.Trees.{choice_from, tree_over, tree_of, trees, with_tree}
 use Rattle.rng_patterns.specs.PatternTable.{ArePartsBelow, Longer}
+use Rattle.rng_patterns.specs.Reduced.{AreReduced, MayBeMember, MayBeSide}
 
 -- a choice reads its members alone
 choice_reads : (m : ℕ) (ms : List ℕ) (f g : ℕ → tree.Simple ℕ) (i : ℕ) → All (λ m. m < i) (m ∷ ms) → ((k : ℕ) → k < i → f k ≡ g k)
@@ -33,6 +34,19 @@ reads_below t (node.one_or_more a) i h f g same = ap tree.s_one_or_more (same a 
 reads_below t (node.element e) i h f g same = refl
 reads_below t (node.attribute a) i h f g same = refl
 reads_below t (node.data_at d) i h f g same = refl
+
+-- and whether it is reduced, too
+pub reduced_reads : (n : Node) (i : ℕ) (f g : ℕ → tree.Simple ℕ) → ArePartsBelow i n → ((k : ℕ) → k < i → f k ≡ g k) → AreReduced g n → AreReduced f n
+reduced_reads node.not_allowed i f g h same r = tt
+reduced_reads node.empty i f g h same r = tt
+reduced_reads node.text i f g h same r = tt
+reduced_reads (node.choice ms) i f g h same r = λ k d inside. subst MayBeMember (sym (same (get_or ms k d) (h.1 k d inside))) (r k d inside)
+reduced_reads (node.group a b) i f g h same r = (subst MayBeSide (sym (same a h.0)) r.0, subst MayBeSide (sym (same b h.1)) r.1)
+reduced_reads (node.interleave a b) i f g h same r = (subst MayBeSide (sym (same a h.0)) r.0, subst MayBeSide (sym (same b h.1)) r.1)
+reduced_reads (node.one_or_more a) i f g h same r = subst MayBeSide (sym (same a h)) r
+reduced_reads (node.element e) i f g h same r = tt
+reduced_reads (node.attribute a) i f g h same r = tt
+reduced_reads (node.data_at d) i f g h same r = tt
 
 -- there is a tree for each pattern
 pub length-trees : (t : Table) (ns : List Node) → length (trees t ns) ≡ length ns

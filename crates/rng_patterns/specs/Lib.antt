@@ -2,6 +2,5 @@ pub mod Node
 pub mod Reduced
 pub mod Trees
 pub mod PatternTable
-pub mod Same
 pub mod Choices
 pub mod Taking

@@ -5,7 +5,8 @@ use Rattle.rng_model.specs.Table.{Table}
 use Rattle.rng_model.specs.Tree.{Simple}
 use Rattle.rng_patterns.specs.Node.{Node, node_of}
 use Rattle.rng_patterns.specs.Node as node
-use Rattle.rng_patterns.specs.Reduced.{is_nullable, has_attribute}
+use Rattle.rng_matching.specs.Derivatives.{is_nullable}
+use Rattle.rng_patterns.specs.Reduced.{AreReduced, has_attribute}
 use Rattle.rng_patterns.specs.Trees.{trees, tree_of}
 use Rattle.rng_patterns.specs.declared.pattern.Facts.{Facts}
 use Rattle.rng_patterns.specs.declared.pattern.Pattern.{Pattern}
@@ -30,6 +31,8 @@ ArePartsBelow n (node.data_at d) = ⊤
 pub record IsPatternTable (ns : List Node) : Type 0 where
   -- what each is made of stands before it
   pub falls : (i : ℕ) (n : Node) → slice_get ns i ≡ Some n → ArePartsBelow i n
+  -- the rules about notAllowed and empty have been applied to it, and choices are flat
+  pub reduced : (t : Table) (i : ℕ) (n : Node) → slice_get ns i ≡ Some n → AreReduced (tree_of t ns) n
   -- equal patterns have one number
   pub apart : (i j : ℕ) (n : Node) → slice_get ns i ≡ Some n → slice_get ns j ≡ Some n → i ≡ j
 

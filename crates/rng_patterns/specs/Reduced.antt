@@ -1,24 +1,11 @@
--- Trees in the simple syntax as they are made: what is known of them, and the rules that are applied.
-use Rattle.std.specs.Prelude.{◌≡◌, ◌⊎◌, ℕ, Bool, true, false, ◌||◌, ◌&&◌, cond}
-use Rattle.rng_model.specs.Tree.{Connector, Simple, choice, group, interleave, s_not_allowed, s_empty, s_text, s_leaf, s_attribute, s_list, s_data}
-use Rattle.rng_model.specs.Tree.{s_data_except}
-use Rattle.rng_model.specs.Tree.{s_value, s_one_or_more, s_joined}
-
--- no attribute and no item is needed
-abbrev pub is_nullable : Simple ℕ → Bool
-is_nullable s_not_allowed = false
-is_nullable s_empty = true
-is_nullable s_text = true
-is_nullable (s_leaf k) = false
-is_nullable (s_attribute c p) = false
-is_nullable (s_list p) = false
-is_nullable (s_data d) = false
-is_nullable (s_data_except d p) = false
-is_nullable (s_value d v) = false
-is_nullable (s_one_or_more p) = is_nullable p
-is_nullable (s_joined choice p q) = is_nullable p || is_nullable q
-is_nullable (s_joined group p q) = is_nullable p && is_nullable q
-is_nullable (s_joined interleave p q) = is_nullable p && is_nullable q
+-- Trees in the simple syntax: whether an attribute stands in one, what may stand in groups and choices that are made, and the
+-- alternatives of a choice.
+use Rattle.std.specs.Prelude.{◌≡◌, ◌⊎◌, ℕ, Bool, true, false, ◌||◌, ⊤, All}
+use Rattle.rng_model.specs.Tree.{Simple, choice, group, interleave, s_not_allowed, s_empty, s_text, s_leaf, s_attribute, s_list, s_data}
+use Rattle.rng_model.specs.Tree.{s_data_except, s_value, s_one_or_more, s_joined}
+use Rattle.rng_matching.specs.Derivatives.{is_empty, is_not_allowed}
+use Rattle.rng_patterns.specs.Node.{Node}
+use Rattle.rng_patterns.specs.Node as node
 
 -- an attribute stands in the tree, outside lists and excepts
 abbrev pub has_attribute : Simple ℕ → Bool
@@ -34,40 +21,47 @@ has_attribute (s_value d v) = false
 has_attribute (s_one_or_more p) = has_attribute p
 has_attribute (s_joined k p q) = has_attribute p || has_attribute q
 
-abbrev pub is_not_allowed : Simple ℕ → Bool
-is_not_allowed s_not_allowed = true
-is_not_allowed s_empty = false
-is_not_allowed s_text = false
-is_not_allowed (s_leaf k) = false
-is_not_allowed (s_attribute c p) = false
-is_not_allowed (s_list p) = false
-is_not_allowed (s_data d) = false
-is_not_allowed (s_data_except d p) = false
-is_not_allowed (s_value d v) = false
-is_not_allowed (s_one_or_more p) = false
-is_not_allowed (s_joined k p q) = false
+abbrev pub is_choice : Simple ℕ → Bool
+is_choice s_not_allowed = false
+is_choice s_empty = false
+is_choice s_text = false
+is_choice (s_leaf k) = false
+is_choice (s_attribute c p) = false
+is_choice (s_list p) = false
+is_choice (s_data d) = false
+is_choice (s_data_except d p) = false
+is_choice (s_value d v) = false
+is_choice (s_one_or_more p) = false
+is_choice (s_joined choice p q) = true
+is_choice (s_joined group p q) = false
+is_choice (s_joined interleave p q) = false
 
-abbrev pub is_empty : Simple ℕ → Bool
-is_empty s_not_allowed = false
-is_empty s_empty = true
-is_empty s_text = false
-is_empty (s_leaf k) = false
-is_empty (s_attribute c p) = false
-is_empty (s_list p) = false
-is_empty (s_data d) = false
-is_empty (s_data_except d p) = false
-is_empty (s_value d v) = false
-is_empty (s_one_or_more p) = false
-is_empty (s_joined k p q) = false
+-- a side of a group or an interleave, or the body of a oneOrMore
+pub record MayBeSide (p : Simple ℕ) : Type 0 where
+  -- section 4.20
+  pub not_not_allowed : is_not_allowed p ≡ false
+  -- section 4.21
+  pub not_empty : is_empty p ≡ false
 
--- a group or an interleave by the rules about notAllowed (section 4.20) and empty (section 4.21)
-abbrev pub joined_of : Connector → Simple ℕ → Simple ℕ → Simple ℕ
-joined_of k p q =
-    cond (is_not_allowed p) s_not_allowed (cond (is_not_allowed q) s_not_allowed (cond (is_empty p) q (cond (is_empty q) p (s_joined k p q))))
+-- a member of a choice
+pub record MayBeMember (p : Simple ℕ) : Type 0 where
+  -- section 4.20
+  pub not_not_allowed : is_not_allowed p ≡ false
+  -- the choice is flat
+  pub not_choice : is_choice p ≡ false
 
--- a oneOrMore by them
-abbrev pub repeat_of : Simple ℕ → Simple ℕ
-repeat_of p = cond (is_not_allowed p) s_not_allowed (cond (is_empty p) s_empty (s_one_or_more p))
+-- a pattern over the trees of its parts: each of them may stand where it does
+abbrev pub AreReduced : (ℕ → Simple ℕ) → Node → Type 0
+AreReduced of node.not_allowed = ⊤
+AreReduced of node.empty = ⊤
+AreReduced of node.text = ⊤
+AreReduced of (node.choice ms) = All (λ m. MayBeMember (of m)) ms
+AreReduced of (node.group a b) = MayBeSide (of a) × MayBeSide (of b)
+AreReduced of (node.interleave a b) = MayBeSide (of a) × MayBeSide (of b)
+AreReduced of (node.one_or_more a) = MayBeSide (of a)
+AreReduced of (node.element e) = ⊤
+AreReduced of (node.attribute a) = ⊤
+AreReduced of (node.data_at d) = ⊤
 
 -- the second is an alternative of the first: a member of a choice of choices, that is no choice itself and not notAllowed
 abbrev pub HasAlternative : Simple ℕ → Simple ℕ → Type 0

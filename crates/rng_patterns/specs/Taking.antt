@@ -1,14 +1,14 @@
 -- The patterns of a grammar in a table of patterns.
 use Rattle.std.specs.Prelude.{ℕ, ◌<◌, List, length, slice_index_or, Some}
 use Rattle.rng_model.specs.Tree as tree
-use Rattle.rng_model.specs.Table.{Grammar, Table, tree_at}
-use Rattle.rng_model.specs.Texts.{TextTests}
+use Rattle.rng_model.specs.Table.{Table, tree_at}
 use Rattle.rng_model.specs.declared.simple.PatternId.{PatternId}
 use Rattle.rng_model.specs.declared.simple.Simple.{Simple}
 use Rattle.rng_model.specs.declared.simple.Simple.TheVariants as simple
+use Rattle.rng_matching.specs.Reading.{Reading}
+use Rattle.rng_matching.specs.Taking.{Same}
 use Rattle.rng_patterns.specs.Node.{Node}
 use Rattle.rng_patterns.specs.Trees.{attribute_found, data_found, tree_of}
-use Rattle.rng_patterns.specs.Same.{Same}
 use Rattle.rng_patterns.specs.declared.pattern.PatternNumber.{PatternNumber}
 
 -- a pattern of a grammar, over the trees of its members; what one item matches is as it is
@@ -31,8 +31,8 @@ taken_over t of (simple.Choice a b) = tree.s_joined tree.choice (of a) (of b)
 abbrev pub tree_by : Table → List Node → List PatternNumber → PatternId → tree.Simple ℕ
 tree_by t ns numbers id = tree_of t ns (slice_index_or numbers id.0 (record { 0 = 0 })).0
 
--- each of the first patterns of a grammar has a number in the table, and matches what the pattern of this number matches
+-- each of the first patterns of a grammar has a number in the table, and takes what the pattern of this number takes
 pub record AreTaken (t : Table) (ns : List Node) (numbers : List PatternNumber) : Type 0 where
   pub inside : (i : ℕ) → i < length numbers → (slice_index_or numbers i (record { 0 = 0 })).0 < length ns
-  pub same : (i : ℕ) → i < length numbers → (g : Grammar) (tests : TextTests)
-      → Same g tests (tree_by t ns numbers (record { 0 = i })) (tree_at t.patterns (record { 0 = i }))
+  pub same : (i : ℕ) → i < length numbers → (g : Reading)
+      → Same g (tree_by t ns numbers (record { 0 = i })) (tree_at t.patterns (record { 0 = i }))

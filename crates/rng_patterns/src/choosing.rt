@@ -3,13 +3,13 @@ ghost use Rattle.std.specs.Prelude.{◌≡◌, ◌⊎◌, ◌<◌, ◌↔◌, Al
 ghost use Rattle.std.specs.List.{Contains};
 ghost use Rattle.std.specs.List.Sorted.{IsStrictlyIncreasing};
 ghost use Rattle.rng_model.specs.Document.{Attribute, Item};
-ghost use Rattle.rng_model.specs.Table.{Grammar, Table};
-ghost use Rattle.rng_model.specs.Texts.{TextTests};
+ghost use Rattle.rng_model.specs.Table.{Table};
 ghost use Rattle.rng_model.specs.Tree.{Simple};
-ghost use Rattle.rng_patterns.specs.Choices.{IsAlternativeOf, SomeMatches};
+ghost use Rattle.rng_matching.specs.Reading.{Reading};
+ghost use Rattle.rng_matching.specs.Taking.{Takes};
+ghost use Rattle.rng_patterns.specs.Choices.{IsAlternativeOf, SomeTakes};
 ghost use Rattle.rng_patterns.specs.PatternTable.{Longer};
-ghost use Rattle.rng_patterns.specs.Reduced.{HasAlternative};
-ghost use Rattle.rng_patterns.specs.Same.{Matches};
+ghost use Rattle.rng_patterns.specs.Reduced.{HasAlternative, MayBeMember};
 ghost use Rattle.rng_patterns.specs.Trees.{tree_of};
 ghost use Rattle.rng_patterns.specs.declared.pattern.PatternNumber.{PatternNumber};
 
@@ -33,8 +33,8 @@ impl PatternTable {
         ensures inside { IfOk result (λ n. n.0 < length self.new) }
         ensures alternatives { IfOk result (λ n. (t : Table) (s : Simple ℕ)
             → HasAlternative (tree_of t self.new n.0) s ↔ IsAlternativeOf (tree_of t self.old) members.now s) }
-        ensures matches { IfOk result (λ n. (t : Table) (g : Grammar) (tests : TextTests) (xs : List Attribute) (ns : List Item)
-            → Matches g tests (tree_of t self.new n.0) xs ns ↔ SomeMatches g tests (tree_of t self.old) members.now xs ns) }
+        ensures matches { IfOk result (λ n. (t : Table) (g : Reading) (xs : List Attribute) (ns : List Item)
+            → Takes g (tree_of t self.new n.0) xs ns ↔ SomeTakes g (tree_of t self.old) members.now xs ns) }
     {
         let mut alternatives = self.alternatives(alloc, members)?;
         put_in_order(&mut alternatives);
@@ -49,6 +49,7 @@ impl PatternTable {
     ) -> Result<Vec<PatternNumber>, OutOfMemory>
         requires { All (λ m. m.0 < length self.now) members.now }
         ensures inside { IfOk result (λ all. All (λ m. m.0 < length self.now) all.items) }
+        ensures members { IfOk result (λ all. (t : Table) → All (λ m. MayBeMember (tree_of t self.now m.0)) all.items) }
         ensures same { IfOk result (λ all. (t : Table) (s : Simple ℕ)
             → IsAlternativeOf (tree_of t self.now) all.items s ↔ IsAlternativeOf (tree_of t self.now) members.now s) }
     {
@@ -67,6 +68,8 @@ impl PatternTable {
     ) -> Result<(), OutOfMemory>
         requires { member.0 < length self.now }
         ensures inside { OnOk result (All (λ m. m.0 < length self.now) all.old.items → All (λ m. m.0 < length self.now) all.new.items) }
+        ensures members { OnOk result ((t : Table) → All (λ m. MayBeMember (tree_of t self.now m.0)) all.old.items
+            → All (λ m. MayBeMember (tree_of t self.now m.0)) all.new.items) }
         ensures joined { OnOk result ((t : Table) (s : Simple ℕ) → IsAlternativeOf (tree_of t self.now) all.new.items s
             ↔ (IsAlternativeOf (tree_of t self.now) all.old.items s ⊎ HasAlternative (tree_of t self.now member.0) s)) }
     {
@@ -81,6 +84,7 @@ impl PatternTable {
     /// A choice of alternatives.
     fn choice_of(&mut self, alternatives: Vec<PatternNumber>) -> Result<PatternNumber, OutOfMemory>
         requires inside { All (λ m. m.0 < length self.old) alternatives.items }
+        requires members { (t : Table) → All (λ m. MayBeMember (tree_of t self.old m.0)) alternatives.items }
         requires rising { IsStrictlyIncreasing (map (λ m. m.0) alternatives.items) }
         ensures longer { Longer self.old self.new }
         ensures inside { IfOk result (λ n. n.0 < length self.new) }

@@ -1,9 +1,9 @@
 // The patterns of a grammar, taken over into a table.
 ghost use Rattle.std.specs.Prelude.{◌≡◌, ◌<◌, All, IfOk, Some, length, slice_get};
-ghost use Rattle.rng_model.specs.Table.{AreChildrenBelow, Grammar, Table};
-ghost use Rattle.rng_model.specs.Texts.{TextTests};
+ghost use Rattle.rng_model.specs.Table.{AreChildrenBelow, Table};
+ghost use Rattle.rng_matching.specs.Reading.{Reading};
+ghost use Rattle.rng_matching.specs.Taking.{Same};
 ghost use Rattle.rng_patterns.specs.PatternTable.{Longer};
-ghost use Rattle.rng_patterns.specs.Same.{Same};
 ghost use Rattle.rng_patterns.specs.Taking.{AreTaken, taken_over, tree_by};
 ghost use Rattle.rng_patterns.specs.Trees.{tree_of};
 
@@ -15,7 +15,7 @@ use std::alloc::Global;
 impl PatternTable {
     /// The patterns of a grammar in a table, and the number of each.
     ///
-    /// Each number's pattern matches what the grammar's does. The error is want of memory.
+    /// Each number's pattern takes what the grammar's does. The error is want of memory.
     pub fn of(
         alloc: Global,
         grammar: &SimpleGrammar,
@@ -44,8 +44,8 @@ impl PatternTable {
         requires inside { All (λ n. n.0 < length self.old) numbers.now }
         ensures longer { Longer self.old self.new }
         ensures inside { IfOk result (λ n. n.0 < length self.new) }
-        ensures same { IfOk result (λ n. (t : Table) → slice_get t.patterns position.0 ≡ Some row.now → (g : Grammar) (tests : TextTests)
-            → Same g tests (tree_of t self.new n.0) (taken_over t (tree_by t self.old numbers.now) row.now)) }
+        ensures same { IfOk result (λ n. (t : Table) → slice_get t.patterns position.0 ≡ Some row.now → (g : Reading)
+            → Same g (tree_of t self.new n.0) (taken_over t (tree_by t self.old numbers.now) row.now)) }
     {
         match row {
             Simple::NotAllowed => self.number_of(Pattern::NotAllowed),

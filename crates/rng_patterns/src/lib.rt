@@ -1,8 +1,8 @@
 //! The patterns that a matcher makes, in one table that only grows; equal patterns have one number.
 //!
 //! A number stands for a tree in simple form (RELAX NG Specification, section 5). The rules about notAllowed (4.20) and
-//! about empty (4.21) are applied as patterns are made, and what is made matches what its parts say by the rules of
-//! matching (section 6.2).
+//! about empty (4.21) are applied as patterns are made, and what is made takes what its parts say by the rules of
+//! matching (section 6.2), as `rng_matching` has them.
 #![tactic(auto)]
 
 mod choosing;

@@ -1,12 +1,13 @@
 // Patterns made of others.
 ghost use Rattle.std.specs.Prelude.{◌≡◌, ◌<◌, IfOk, IfSome, IfNone, length};
-ghost use Rattle.rng_model.specs.Table.{Grammar, Table};
-ghost use Rattle.rng_model.specs.Texts.{TextTests};
+ghost use Rattle.rng_model.specs.Table.{Table};
 ghost use Rattle.rng_model.specs.Tree.{Connector, group, interleave, s_joined, s_one_or_more, s_not_allowed, s_empty, s_text, s_leaf};
+ghost use Rattle.rng_matching.specs.Derivatives as tree;
+ghost use Rattle.rng_matching.specs.Derivatives.{joined_of, repeat_of};
+ghost use Rattle.rng_matching.specs.Reading.{Reading};
+ghost use Rattle.rng_matching.specs.Taking.{Same};
 ghost use Rattle.rng_patterns.specs.PatternTable.{Adds, Longer};
-ghost use Rattle.rng_patterns.specs.Reduced as tree;
-ghost use Rattle.rng_patterns.specs.Reduced.{joined_of, repeat_of};
-ghost use Rattle.rng_patterns.specs.Same.{Same};
+ghost use Rattle.rng_patterns.specs.Reduced.{MayBeSide};
 ghost use Rattle.rng_patterns.specs.Trees.{tree_of};
 
 use crate::pattern::{Pattern, PatternNumber};
@@ -52,6 +53,7 @@ impl PatternTable {
         requires second { second.0 < length self.now }
         ensures inside { IfSome result (λ n. n.0 < length self.now) }
         ensures is { IfSome result (λ n. (k : Connector) (t : Table) → tree_of t self.now n.0 ≡ joined_of k (tree_of t self.now first.0) (tree_of t self.now second.0)) }
+        ensures sides { IfNone result ((t : Table) → MayBeSide (tree_of t self.now first.0) × MayBeSide (tree_of t self.now second.0)) }
         ensures none { IfNone result ((k : Connector) (t : Table) → s_joined k (tree_of t self.now first.0) (tree_of t self.now second.0)
             ≡ joined_of k (tree_of t self.now first.0) (tree_of t self.now second.0)) }
     {
@@ -82,8 +84,8 @@ impl PatternTable {
         requires second { second.0 < length self.old }
         ensures longer { Longer self.old self.new }
         ensures tree { IfOk result (λ n. Adds self.old self.new n.0 (λ t. joined_of group (tree_of t self.old first.0) (tree_of t self.old second.0))) }
-        ensures matches { IfOk result (λ n. (t : Table) (g : Grammar) (tests : TextTests)
-            → Same g tests (tree_of t self.new n.0) (s_joined group (tree_of t self.old first.0) (tree_of t self.old second.0))) }
+        ensures matches { IfOk result (λ n. (t : Table) (g : Reading)
+            → Same g (tree_of t self.new n.0) (s_joined group (tree_of t self.old first.0) (tree_of t self.old second.0))) }
     {
         match self.by_rules(first, second) {
             Some(number) => Ok(number),
@@ -103,8 +105,8 @@ impl PatternTable {
         requires second { second.0 < length self.old }
         ensures longer { Longer self.old self.new }
         ensures tree { IfOk result (λ n. Adds self.old self.new n.0 (λ t. joined_of interleave (tree_of t self.old first.0) (tree_of t self.old second.0))) }
-        ensures matches { IfOk result (λ n. (t : Table) (g : Grammar) (tests : TextTests)
-            → Same g tests (tree_of t self.new n.0) (s_joined interleave (tree_of t self.old first.0) (tree_of t self.old second.0))) }
+        ensures matches { IfOk result (λ n. (t : Table) (g : Reading)
+            → Same g (tree_of t self.new n.0) (s_joined interleave (tree_of t self.old first.0) (tree_of t self.old second.0))) }
     {
         match self.by_rules(first, second) {
             Some(number) => Ok(number),
@@ -119,8 +121,8 @@ impl PatternTable {
         requires { pattern.0 < length self.old }
         ensures longer { Longer self.old self.new }
         ensures tree { IfOk result (λ n. Adds self.old self.new n.0 (λ t. repeat_of (tree_of t self.old pattern.0))) }
-        ensures matches { IfOk result (λ n. (t : Table) (g : Grammar) (tests : TextTests)
-            → Same g tests (tree_of t self.new n.0) (s_one_or_more (tree_of t self.old pattern.0))) }
+        ensures matches { IfOk result (λ n. (t : Table) (g : Reading)
+            → Same g (tree_of t self.new n.0) (s_one_or_more (tree_of t self.old pattern.0))) }
     {
         if self.is_not_allowed(pattern) {
             return Ok(pattern);

@@ -1,11 +1,12 @@
 // A table of patterns, each once.
 ghost use Rattle.std.specs.Prelude.{◌≡◌, ◌↔◌, [], IsTrue, ◌<◌, All, IfOk, IfSome, IfNone, Some, length, map, slice_get};
 ghost use Rattle.std.specs.List.{list_any, list_all};
-ghost use Rattle.rng_model.specs.Table.{Grammar, Table};
-ghost use Rattle.rng_model.specs.Texts.{TextTests};
+ghost use Rattle.rng_model.specs.Table.{Table};
+ghost use Rattle.rng_matching.specs.Reading.{Reading};
+ghost use Rattle.rng_matching.specs.Taking.{Takes};
 ghost use Rattle.rng_patterns.specs.Node.{node_of};
 ghost use Rattle.rng_patterns.specs.PatternTable.{Adds, ArePartsBelow, IsNew, IsPatternTable, Longer, facts_of, nodes_of};
-ghost use Rattle.rng_patterns.specs.Same.{Matches};
+ghost use Rattle.rng_patterns.specs.Reduced.{AreReduced};
 ghost use Rattle.rng_patterns.specs.Trees.{choice_over, tree_of, tree_over};
 
 use crate::pattern::{Facts, Pattern, PatternNumber};
@@ -56,7 +57,7 @@ impl PatternTable {
     pub fn facts(&self, number: PatternNumber) -> Facts
         requires { number.0 < length self.now }
         ensures exact { (t : Table) → result ≡ facts_of (tree_of t self.now number.0) }
-        ensures nullable { (t : Table) (g : Grammar) (tests : TextTests) → IsTrue result.nullable ↔ Matches g tests (tree_of t self.now number.0) [] [] }
+        ensures nullable { (t : Table) (g : Reading) → IsTrue result.nullable ↔ Takes g (tree_of t self.now number.0) [] [] }
     {
         *row_at(&self.rows, number.0).1
     }
@@ -111,7 +112,8 @@ impl PatternTable {
 
     /// The number of a pattern whose parts are there: a new one where no pattern of the table is equal to it.
     pub(crate) fn number_of(&mut self, pattern: Pattern) -> Result<PatternNumber, OutOfMemory>
-        requires { ArePartsBelow (length self.old) (node_of pattern) }
+        requires below { ArePartsBelow (length self.old) (node_of pattern) }
+        requires reduced { (t : Table) → AreReduced (tree_of t self.old) (node_of pattern) }
         ensures longer { Longer self.old self.new }
         ensures adds { IfOk result (λ n. Adds self.old self.new n.0 (λ t. tree_over t (tree_of t self.old) (node_of pattern))) }
     {

@@ -9,6 +9,7 @@ use Rattle.rng_patterns.proofs.pattern_table.PatternTable.alternatives.Goals as 
 pub loop-member-preserved : goal.loop-member-preserved
 loop-member-preserved c = record {
   inside = c.in_ok-add_alternatives.ensures.inside c.loop-member.invariant.inside;
+  members = λ t. c.in_ok-add_alternatives.ensures.members t (c.loop-member.invariant.members t);
   same = λ t s.
       member_more (tree_of t c.args.self.now) c.loop-member.all.items c.add_alternatives.new.all.items c.args.members.now c.loop-member.member-index _ s
       c.loop-member-test.true (c.in_ok-add_alternatives.ensures.joined t s) (c.loop-member.invariant.same t s);

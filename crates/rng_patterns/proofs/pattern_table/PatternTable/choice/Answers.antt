@@ -1,19 +1,24 @@
 use Rattle.std.proofs.Common.{◌<◌, ◌↔◌, ℕ, List, length}
 use Rattle.rng_model.specs.Document.{Attribute, Item}
-use Rattle.rng_model.specs.Table.{Grammar, Table}
-use Rattle.rng_model.specs.Texts.{TextTests}
+use Rattle.rng_model.specs.Table.{Table}
 use Rattle.rng_model.specs.Tree.{Simple}
-use Rattle.rng_patterns.specs.Choices.{IsAlternativeOf, SomeMatches}
-use Rattle.rng_patterns.specs.Reduced.{HasAlternative}
-use Rattle.rng_patterns.specs.Same.{Matches}
+use Rattle.rng_matching.specs.Reading.{Reading}
+use Rattle.rng_matching.specs.Taking.{Takes}
+use Rattle.rng_patterns.specs.Choices.{IsAlternativeOf, SomeTakes}
+use Rattle.rng_patterns.specs.Reduced.{HasAlternative, MayBeMember}
 use Rattle.rng_patterns.specs.Trees.{tree_of}
-use Rattle.rng_patterns.proofs.Choices.{all_within, as_sets, if_ok, matches_some}
+use Rattle.rng_patterns.proofs.Choices.{all_within, as_sets, if_ok, takes_some}
 use Rattle.rng_patterns.proofs.pattern_table.PatternTable.choice.Goals as goal
 
 pub choice_of-requires-clause-inside : goal.choice_of-requires-clause-inside
 choice_of-requires-clause-inside c =
     all_within (λ m. m.0 < length c.args.self.now) c.in_ok-alternatives.alternatives.items c.put_in_order.new.numbers.items
     (λ m. (c.put_in_order.ensures.same m).0) c.in_ok-alternatives.ensures.inside
+
+pub choice_of-requires-clause-members : goal.choice_of-requires-clause-members
+choice_of-requires-clause-members c = λ t.
+    all_within (λ m. MayBeMember (tree_of t c.args.self.now m.0)) c.in_ok-alternatives.alternatives.items c.put_in_order.new.numbers.items
+    (λ m. (c.put_in_order.ensures.same m).0) (c.in_ok-alternatives.ensures.members t)
 
 pub returns-clause-alternatives : goal.returns-clause-alternatives
 returns-clause-alternatives c =
@@ -35,7 +40,7 @@ returns-clause-matches c =
     let ns = c.args.self.now in
     if_ok c.choice_of.result
     (λ n. (t : Table) (s : Simple ℕ) → HasAlternative (tree_of t c.choice_of.new.self n.0) s ↔ IsAlternativeOf (tree_of t ns) c.args.members.now s)
-    (λ n. (t : Table) (g : Grammar) (tests : TextTests) (xs : List Attribute) (ks : List Item)
-    → Matches g tests (tree_of t c.choice_of.new.self n.0) xs ks ↔ SomeMatches g tests (tree_of t ns) c.args.members.now xs ks)
-    (λ n has t g tests xs ks. matches_some g tests (tree_of t ns) c.args.members.now (tree_of t c.choice_of.new.self n.0) (has t) xs ks)
+    (λ n. (t : Table) (g : Reading) (xs : List Attribute) (ks : List Item)
+    → Takes g (tree_of t c.choice_of.new.self n.0) xs ks ↔ SomeTakes g (tree_of t ns) c.args.members.now xs ks)
+    (λ n has t g xs ks. takes_some g (tree_of t ns) c.args.members.now (tree_of t c.choice_of.new.self n.0) (has t) xs ks)
     (returns-clause-alternatives c)

@@ -5,7 +5,7 @@ use Rattle.rng_model.specs.Tree.{Simple}
 use Rattle.rng_model.specs.Table.{Table}
 use Rattle.rng_patterns.specs.Choices.{IsAlternativeOf}
 use Rattle.rng_patterns.specs.PatternTable.{Adds}
-use Rattle.rng_patterns.specs.Reduced.{HasAlternative}
+use Rattle.rng_patterns.specs.Reduced.{HasAlternative, MayBeMember}
 use Rattle.rng_patterns.specs.Trees.{choice_over, tree_of}
 use Rattle.rng_patterns.proofs.Choices.{if_ok, of_choice}
 use Rattle.rng_patterns.proofs.pattern_table.PatternTable.choice_of.Goals as goal
@@ -14,7 +14,14 @@ pub number_of-requires : goal.number_of-requires
 number_of-requires c =
     let ms = c.args.alternatives.items in
     let two = c.if-len-gt1.true in
-    (omega (arith, length-map ms (λ m. m.0), two, c.len.ensures), All-map (λ m. m < length c.args.self.now) (λ m. m.0) ms c.requires.inside, c.requires.rising)
+    record {
+      below = (
+        omega (arith, length-map ms (λ m. m.0), two, c.len.ensures),
+        All-map (λ m. m < length c.args.self.now) (λ m. m.0) ms c.requires.inside,
+        c.requires.rising,
+      );
+      reduced = λ t. All-map (λ m. MayBeMember (tree_of t c.args.self.now m)) (λ m. m.0) ms (c.requires.members t);
+    }
 
 pub returns-then-len-gt1-clause-same : goal.returns-then-len-gt1-clause-same
 returns-then-len-gt1-clause-same c =

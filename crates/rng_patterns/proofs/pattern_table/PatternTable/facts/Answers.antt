@@ -2,7 +2,7 @@ use Rattle.std.proofs.Common.{ap, ◌∙◌}
 use Rattle.rng_patterns.specs.PatternTable.{facts_of}
 use Rattle.rng_patterns.specs.Trees.{tree_of}
 use Rattle.rng_patterns.specs.declared.pattern.Facts.{Facts}
-use Rattle.rng_patterns.proofs.Matching.{nullable_exact}
+use Rattle.rng_matching.proofs.Nullable.{nullable_exact}
 use Rattle.rng_patterns.proofs.Rows.{facts_there}
 use Rattle.rng_patterns.proofs.pattern_table.PatternTable.facts.Goals as goal
 
@@ -12,5 +12,5 @@ returns-clause-exact c = λ t.
     ∙ ap (λ ns. facts_of (tree_of t ns c.args.number.0)) c.self.view_is
 
 pub returns-clause-nullable : goal.returns-clause-nullable
-returns-clause-nullable c = λ t g tests.
-    nullable_exact g tests (tree_of t c.args.self.now c.args.number.0) _ (ap (λ (f : Facts). f.nullable) (returns-clause-exact c t))
+returns-clause-nullable c = λ t g.
+    nullable_exact g (tree_of t c.args.self.now c.args.number.0) _ (ap (λ (f : Facts). f.nullable) (returns-clause-exact c t))

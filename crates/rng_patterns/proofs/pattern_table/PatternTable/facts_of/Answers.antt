@@ -3,7 +3,7 @@ use Rattle.rng_patterns.specs.declared.pattern.PatternNumber.{PatternNumber}
 use Rattle.rng_patterns.specs.Node.{node_of}
 use Rattle.rng_patterns.specs.PatternTable.{ArePartsBelow, facts_of}
 use Rattle.rng_patterns.specs.Trees.{tree_of, tree_over}
-use Rattle.rng_patterns.proofs.KnownFacts.{attribute_known, members_below}
+use Rattle.rng_patterns.proofs.KnownFacts.{attribute_known, of_members}
 use Rattle.rng_patterns.proofs.pattern_table.PatternTable.facts_of.Goals as goal
 
 pub facts_of_choice-requires : goal.facts_of_choice-requires
@@ -11,7 +11,7 @@ facts_of_choice-requires c =
     let n = length c.args.self.now in
     let Below : List PatternNumber → Type 0 = λ ms. All (λ m. m.0 < n) ms in
     subst Below (sym c.as_slice.ensures.value)
-    (members_below c.in-Choice.members.items n (subst (λ p. ArePartsBelow n (node_of p)) c.in-Choice.is c.requires).1)
+    (of_members (λ m. m < n) c.in-Choice.members.items (subst (λ p. ArePartsBelow n (node_of p)) c.in-Choice.is c.requires).1)
 
 pub returns-in-Attribute : goal.returns-in-Attribute
 returns-in-Attribute c = λ t.

@@ -1,5 +1,6 @@
 use Rattle.std.proofs.Common.{ap}
-use Rattle.rng_patterns.specs.Reduced.{has_attribute, is_nullable}
+use Rattle.rng_matching.specs.Derivatives.{is_nullable}
+use Rattle.rng_patterns.specs.Reduced.{has_attribute}
 use Rattle.rng_patterns.specs.Trees.{tree_of}
 use Rattle.rng_patterns.proofs.KnownFacts.{all_members, member_more}
 use Rattle.rng_patterns.proofs.pattern_table.PatternTable.facts_of_choice.Goals as goal

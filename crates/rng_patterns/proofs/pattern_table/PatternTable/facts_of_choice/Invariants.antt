@@ -1,7 +1,8 @@
 use Rattle.std.proofs.Common.{◌≡◌, take}
 use Rattle.std.specs.List.{list_any}
 use Rattle.rng_model.specs.Table.{Table}
-use Rattle.rng_patterns.specs.Reduced.{has_attribute, is_nullable}
+use Rattle.rng_matching.specs.Derivatives.{is_nullable}
+use Rattle.rng_patterns.specs.Reduced.{has_attribute}
 use Rattle.rng_patterns.specs.Trees.{tree_of}
 use Rattle.rng_patterns.proofs.pattern_table.PatternTable.facts_of_choice.Given as goal
 

@@ -1,6 +1,8 @@
 use Rattle.std.proofs.Common.{◌≡◌, [], ◌∷◌, length, slice_get, Some, List, subst, sym, ap, ◌∙◌}
 use Rattle.std.proofs.lemmas.List.{length-map}
+use Rattle.rng_model.specs.Table.{Table}
 use Rattle.rng_patterns.specs.Node.{Node, node_of}
+use Rattle.rng_patterns.specs.Reduced.{AreReduced}
 use Rattle.rng_patterns.specs.PatternTable.{AreExact, ArePartsBelow, IsPatternTable, facts_of, nodes_of}
 use Rattle.rng_patterns.specs.Trees.{tree_of, tree_over}
 use Rattle.rng_patterns.specs.declared.pattern.Pattern.{Pattern}
@@ -20,9 +22,11 @@ invariant_of-self-2 c =
     let p = c.args.pattern in
     let f = c.facts_of-facts.result in
     let Kept : List (Pattern × Facts) → Type 0 = λ rows. IsPatternTable (nodes_of rows) × AreExact rows in
+    let Reduced : List Node → Type 0 = λ ns. (t : Table) → AreReduced (tree_of t ns) (node_of p) in
     let Below : List Node → Type 0 = λ ns. ArePartsBelow (length ns) (node_of p) in
     subst Kept (sym (c.in_ok-insert.ensures.entries ∙ goes_last rows p f c.in_default.ensures.none))
-    (one_more rows p f c.self.invariant (subst Below (sym c.self.view_is) c.requires) c.in_default.ensures.none
+    (one_more rows p f c.self.invariant (subst Below (sym c.self.view_is) c.requires.below)
+    (subst Reduced (sym c.self.view_is) c.requires.reduced) c.in_default.ensures.none
     (λ t. c.facts_of-facts.ensures t ∙ ap (λ ns. facts_of (tree_over t (tree_of t ns) (node_of p))) (sym c.self.view_is)))
 
 pub returns-clause-longer : goal.returns-clause-longer

@@ -1,9 +1,9 @@
 use Rattle.std.proofs.Common.{◌≡◌, ◌+◌, ◌∙◌, ap, arith, length, slice_get, List, Some, subst, sym}
 use Rattle.std.proofs.lemmas.List.{length_push}
 use Rattle.std.proofs.lemmas.Option.{slice_get_within}
-use Rattle.rng_model.specs.Table.{AreChildrenBelow, Grammar, tree_at, tree_over}
-use Rattle.rng_model.specs.Texts.{TextTests}
-use Rattle.rng_patterns.specs.Same.{Same}
+use Rattle.rng_model.specs.Table.{AreChildrenBelow, tree_at, tree_over}
+use Rattle.rng_matching.specs.Reading.{Reading}
+use Rattle.rng_matching.specs.Taking.{Same}
 use Rattle.rng_patterns.specs.Taking.{taken_over, tree_by}
 use Rattle.rng_patterns.specs.Trees.{tree_of}
 use Rattle.rng_patterns.specs.declared.pattern.PatternNumber.{PatternNumber}
@@ -21,8 +21,8 @@ rows-preserved c =
     let inside = slice_get_within t.patterns c.len.result row found in
     let long : length c.push.new.self.items ≡ length numbers + 1 = ap length c.in_ok-push.ensures.items ∙ length_push numbers number in
     let again : c.len.result ≡ c.len-in-Some.result = omega (arith, at, c.len-in-Some.ensures, c.rows.numbers.ok.0) in
-    let Own : List PatternNumber → Type 0 = λ numbers. (g : Grammar) (tests : TextTests)
-    → Same g tests (tree_of t c.take.new.self number.0) (taken_over t (tree_by t c.rows.table numbers) row) in
+    let Own : List PatternNumber → Type 0 = λ numbers. (g : Reading)
+    → Same g (tree_of t c.take.new.self number.0) (taken_over t (tree_by t c.rows.table numbers) row) in
     record {
       within = omega (arith, inside, at, long);
       taken = one_taken t c.rows.table c.take.new.self numbers c.push.new.self.items number row c.rows.invariant.taken c.in_ok-take.ensures.longer

@@ -1,10 +1,10 @@
 use Rattle.std.proofs.Common.{◌≡◌, ◌↔◌, [], ◌∷◌, List, Some, get_or, slice_get, subst, sym}
 use Rattle.rng_model.specs.Document.{Attribute, Item}
-use Rattle.rng_model.specs.Table.{Grammar, Table}
-use Rattle.rng_model.specs.Texts.{TextTests}
+use Rattle.rng_model.specs.Table.{Table}
+use Rattle.rng_matching.specs.Reading.{Reading}
+use Rattle.rng_matching.specs.Taking.{Same, Takes}
 use Rattle.rng_model.specs.declared.simple.Simple.{Simple}
-use Rattle.rng_patterns.specs.Choices.{SomeMatches}
-use Rattle.rng_patterns.specs.Same.{Matches, Same}
+use Rattle.rng_patterns.specs.Choices.{SomeTakes}
 use Rattle.rng_patterns.specs.Taking.{taken_over, tree_by}
 use Rattle.rng_patterns.specs.Trees.{tree_of}
 use Rattle.rng_patterns.proofs.Choices.{if_ok}
@@ -19,11 +19,11 @@ returns-in-Choice-clause-same c =
     let a = get_or numbers c.in-Choice.first.0 (record { 0 = 0 }) in
     let b = get_or numbers c.in-Choice.second.0 (record { 0 = 0 }) in
     if_ok c.choice.result
-    (λ n. (t : Table) (g : Grammar) (tests : TextTests) (xs : List Attribute) (ns : List Item)
-    → Matches g tests (tree_of t new n.0) xs ns ↔ SomeMatches g tests (tree_of t old) (a ∷ b ∷ []) xs ns)
-    (λ n. (t : Table) → slice_get t.patterns c.args.position.0 ≡ Some c.args.row.now → (g : Grammar) (tests : TextTests)
-    → Same g tests (tree_of t new n.0) (taken_over t (tree_by t old numbers) c.args.row.now))
-    (λ n some t found g tests.
-    let P : Simple → Type 0 = λ row. Same g tests (tree_of t new n.0) (taken_over t (tree_by t old numbers) row) in
-    subst P (sym c.in-Choice.is) (choice_of_two g tests (tree_of t old) a b (tree_of t new n.0) (some t g tests)))
+    (λ n. (t : Table) (g : Reading) (xs : List Attribute) (ns : List Item)
+    → Takes g (tree_of t new n.0) xs ns ↔ SomeTakes g (tree_of t old) (a ∷ b ∷ []) xs ns)
+    (λ n. (t : Table) → slice_get t.patterns c.args.position.0 ≡ Some c.args.row.now → (g : Reading)
+    → Same g (tree_of t new n.0) (taken_over t (tree_by t old numbers) c.args.row.now))
+    (λ n some t found g.
+    let P : Simple → Type 0 = λ row. Same g (tree_of t new n.0) (taken_over t (tree_by t old numbers) row) in
+    subst P (sym c.in-Choice.is) (choice_of_two g (tree_of t old) a b (tree_of t new n.0) (some t g)))
     c.choice.ensures.matches

@@ -1,0 +1,5 @@
+mod KeyLookups
+mod OwnKeys
+mod Growing
+mod Telling
+pub mod Serving

@@ -1,0 +1,4 @@
+pub mod Keys
+pub mod GrammarClasses
+pub mod WrittenNames
+pub mod KeyTables

@@ -1,0 +1,165 @@
+-- The end of an element, one way out after another, in a table that grows.
+use Rattle.std.proofs.Common.{◌≡◌, ◌↔◌, ◌⊎◌, inl, inr, ℕ, ◌<◌, ◌+◌, zero, suc, List, [], ◌∷◌, ◌++◌, length, map, take, refl}
+use Rattle.std.proofs.Common.{sym, ap, ◌∙◌, subst, Bool, true, ◌||◌, ◌&&◌, All}
+use Rattle.std.proofs.Common.{slice_get, slice_set, slice_index_or, replicate, Contains, Some, arith}
+use Rattle.std.specs.List.{AllZip}
+use Rattle.std.specs.Option.{option_map}
+use Rattle.std.proofs.lemmas.Option.{same_Some, slice_get-map, slice_get-get_or, slice_get_within}
+use Rattle.std.proofs.lemmas.List.{length-set, length-replicate, map-append, take_more, get_or-set_same}
+use Rattle.std.proofs.lemmas.List.Elements.{All-weaker, All-cons, All-nil, All-take, All-map, All-contains, All-set, All-replicate}
+use Rattle.rng_model.specs.Tree.{Simple}
+use Rattle.rng_model.specs.Document.{Item}
+use Rattle.rng_model.specs.Texts.{is_blank}
+use Rattle.rng_matching.specs.Reading.{Reading}
+use Rattle.rng_matching.specs.Taking.{Takes}
+use Rattle.rng_matching.specs.Derivatives.{is_nullable}
+use Rattle.rng_matching.specs.LevelStates.{AreEnded, EndsNow, EndsWith, IsAfterText}
+use Rattle.rng_matching.proofs.LevelStates.{beside_first, contained, nullable_may_end, may_end_with}
+use Rattle.rng_matching.proofs.LevelSteps.{none_ended, ended_no_more, ended_more}
+use Rattle.rng_patterns.specs.declared.pattern.PatternNumber.{PatternNumber}
+use Rattle.rng_matcher.specs.Numbers.{IsInside, tree_of, Adds, IsChoiceOf}
+use Rattle.rng_matcher.specs.Levels.{link_of, IsRestWithin, AreEndsWith, LeavesBy, AddsEnded}
+use Rattle.rng_matcher.specs.declared.links.Link.{Link}
+use Rattle.rng_matcher.proofs.Numbers.{longer_same, longer_through, inside_stays, all_inside_stay, trees_stay, map_push}
+use Rattle.rng_matcher.proofs.Linked.{zip_push}
+use Rattle.rng_matcher.proofs.Opening.{links_stay}
+
+set_other : {A : Type 0} (xs : List A) (i j : ℕ) (y : A) → (j ≡ i → ⊥) → slice_get (slice_set xs i y) j ≡ slice_get xs j
+set_other [] i j y f = refl
+set_other (x ∷ xs) zero zero y f = absurd (f refl)
+set_other (x ∷ xs) zero (suc j) y f = refl
+set_other (x ∷ xs) (suc i) zero y f = refl
+set_other (x ∷ xs) (suc i) (suc j) y f = set_other xs i j y (λ e. f (ap suc e))
+
+one_of_two : (p q m : PatternNumber) → Contains (p ∷ q ∷ []) m → (m ≡ p) ⊎ (m ≡ q)
+one_of_two p q m (zero, lt, e) = inl (sym e)
+one_of_two p q m (suc zero, lt, e) = inr (sym e)
+one_of_two p q m (suc (suc k), lt, e) = absurd (omega (arith, lt))
+
+-- a way out of an alternative that is not good leaves all as it is
+pub leaves_nothing : (g : Reading) (good : List Bool) (trees : List (Simple ℕ)) (l : Link) (before : List PatternNumber) → All (IsInside trees) before →
+    (slice_get good l.inner ≡ Some true → ⊥) → LeavesBy g good trees trees l before before
+leaves_nothing g good trees l before inside bad = record {
+  longer = longer_same trees;
+  inside = inside;
+  count = refl;
+  ended = λ links e. ended_no_more g good links (map (tree_of trees) before) e (link_of trees l) bad;
+}
+
+module _ (g : Reading) (good : List Bool) (old new : List (Simple ℕ)) (l : Link) (before : List PatternNumber) (place joined : PatternNumber)
+    (is_good : slice_get good l.inner ≡ Some true) (inside : All (IsInside old) before) (at : slice_get before l.outer ≡ Some place)
+    (a : Adds (IsChoiceOf g old (place ∷ l.rest ∷ [])) old new joined) where
+  was : slice_get (map (tree_of old) before) l.outer ≡ Some (tree_of old place)
+  was = slice_get-map (tree_of old) before l.outer ∙ ap (option_map (tree_of old)) at
+
+  now : slice_get (map (tree_of new) (slice_set before l.outer joined)) l.outer ≡ Some (tree_of new joined)
+  now =
+      let lt = slice_get_within before l.outer place at in
+      let long = length-set before l.outer joined in
+      let got : slice_get (slice_set before l.outer joined) l.outer ≡ Some joined =
+      slice_get-get_or (slice_set before l.outer joined) l.outer joined (omega (arith, lt, long)) ∙ ap Some (get_or-set_same before l.outer joined joined lt) in
+      slice_get-map (tree_of new) (slice_set before l.outer joined) l.outer ∙ ap (option_map (tree_of new)) got
+
+  others : (i : ℕ) → (i ≡ l.outer → ⊥) → slice_get (map (tree_of new) (slice_set before l.outer joined)) i ≡ slice_get (map (tree_of old) before) i
+  others i f =
+      slice_get-map (tree_of new) (slice_set before l.outer joined) i ∙ ap (option_map (tree_of new)) (set_other before l.outer i joined f)
+      ∙ sym (slice_get-map (tree_of new) before i) ∙ ap (λ ts. slice_get ts i) (trees_stay old new a.longer before inside)
+
+  same : (i : ℕ) (r : Simple ℕ) → (i ≡ l.outer → ⊥)
+      → slice_get (map (tree_of new) (slice_set before l.outer joined)) i ≡ Some r ↔ slice_get (map (tree_of old) before) i ≡ Some r
+  same i r f = (λ e. sym (others i f) ∙ e, λ e. others i f ∙ e)
+
+  joins : (ns : List Item) → Takes g (tree_of new joined) [] ns ↔ (Takes g (tree_of old place) [] ns ⊎ Takes g (tree_of old l.rest) [] ns)
+  joins ns = (to, back) where
+    to : Takes g (tree_of new joined) [] ns → Takes g (tree_of old place) [] ns ⊎ Takes g (tree_of old l.rest) [] ns
+    to t = let m = (a.is ns).0 t in elim (one_of_two place l.rest m.0 m.1) [
+      | inl e ↦ inl (subst (λ m. Takes g (tree_of old m) [] ns) e m.2)
+      | inr e ↦ inr (subst (λ m. Takes g (tree_of old m) [] ns) e m.2)
+    ]
+
+    back : Takes g (tree_of old place) [] ns ⊎ Takes g (tree_of old l.rest) [] ns → Takes g (tree_of new joined) [] ns
+    back (inl t) = (a.is ns).1 (place, contained (place ∷ l.rest ∷ []) 0 place refl, t)
+    back (inr t) = (a.is ns).1 (l.rest, contained (place ∷ l.rest ∷ []) 1 l.rest refl, t)
+
+  pub leaves_rest : LeavesBy g good old new l before (slice_set before l.outer joined)
+  leaves_rest = record {
+    longer = a.longer;
+    inside = All-set (IsInside new) before l.outer joined a.inside (all_inside_stay old new a.longer before inside);
+    count = length-set before l.outer joined;
+    ended = λ links e. ended_more g good links (map (tree_of old) before) e (link_of old l) (map (tree_of new) (slice_set before l.outer joined))
+        (tree_of old place) (tree_of new joined) is_good was now same joins;
+  }
+
+-- no way out yet: each alternative around takes nothing
+pub no_ends : (g : Reading) (good : List Bool) (around : ℕ) (old new : List (Simple ℕ)) (none : PatternNumber) (outside : List PatternNumber) →
+    Adds (IsChoiceOf g old []) old new none → outside ≡ replicate around none → AddsEnded g good around old new [] outside
+no_ends g good around old new none outside a e = record {
+  longer = a.longer;
+  inside = subst (All (IsInside new)) (sym e) (All-replicate (IsInside new) around none a.inside);
+  count = ap length e ∙ length-replicate around none;
+  ended = none_ended g good (map (tree_of new) outside) (λ i r ns f t.
+      All-contains TakesNothing (map (tree_of new) outside) r
+      (subst (λ os. All TakesNothing (map (tree_of new) os)) (sym e)
+      (All-map TakesNothing (tree_of new) (replicate around none) (All-replicate (λ p. TakesNothing (tree_of new p)) around none nothing)))
+      (contained (map (tree_of new) outside) i r f) ns t);
+} where
+  TakesNothing : Simple ℕ → Type 0
+  TakesNothing p = (ns : List Item) → Takes g p [] ns → ⊥
+
+  nothing : TakesNothing (tree_of new none)
+  nothing ns t = let m = (a.is ns).0 t in let lt = m.1.1 in omega (arith, lt)
+
+-- in a loop over the ways out
+pub ends_at : (g h : Reading) (good : List Bool) (around : ℕ) (old base new : List (Simple ℕ)) (links : List Link) (i : ℕ) (d : Link)
+    (before after : List PatternNumber) → g ≡ h → AddsEnded h good around old base (take i links) before → All (IsRestWithin old around) links →
+    i < length links →
+    LeavesBy g good base new (slice_index_or links i d) before after → AddsEnded h good around old new (take (i + 1) links) after
+ends_at g h good around old base new links i d before after same first within lt s =
+    let more = subst (λ g. LeavesBy g good base new (slice_index_or links i d) before after) same s in
+    let rests = All-weaker (IsRestWithin old around) (λ l. IsInside base l.rest) (λ l w. inside_stays old base first.longer l.rest w.1) links within in
+    let front = links_stay base new more.longer (take i links) (All-take (λ l. IsInside base l.rest) i links rests) in
+    let last = links_stay base new more.longer (slice_index_or links i d ∷ [])
+    (All-cons (λ l. IsInside base l.rest) (slice_index_or links i d) [] (rests i d lt) (All-nil (λ l. IsInside base l.rest))) in
+    let all : map (link_of new) (take (i + 1) links) ≡ map (link_of base) (take i links) ++ link_of base (slice_index_or links i d) ∷ [] =
+    ap (map (link_of new)) (take_more links i d lt) ∙ map-append (link_of new) (take i links) (slice_index_or links i d ∷ [])
+    ∙ ap (λ ls. ls ++ map (link_of new) (slice_index_or links i d ∷ [])) front ∙ ap (λ ls. map (link_of base) (take i links) ++ ls) last in
+    record {
+      longer = longer_through old base new first.longer more.longer;
+      inside = more.inside;
+      count = more.count ∙ first.count;
+      ended = subst (λ ls. AreEnded h good ls (map (tree_of new) after)) (sym all) (more.ended (map (link_of base) (take i links)) first.ended);
+    }
+
+-- in a loop that tests each pattern
+pub tests_at : (R : Simple ℕ → Bool → Type 0) (trees : List (Simple ℕ)) (ps : List PatternNumber) (i : ℕ) (d : PatternNumber)
+    (bs items : List Bool) (b : Bool) →
+    AllZip R (map (tree_of trees) (take i ps)) bs → i < length ps → R (tree_of trees (slice_index_or ps i d)) b → items ≡ bs ++ b ∷ [] →
+    AllZip R (map (tree_of trees) (take (i + 1) ps)) items
+tests_at R trees ps i d bs items b first lt r e =
+    subst (λ os. AllZip R (map (tree_of trees) os) items) (sym (take_more ps i d lt))
+    (subst (λ os. AllZip R os items) (sym (map_push (tree_of trees) (take i ps) (slice_index_or ps i d)))
+    (subst (λ items. AllZip R (map (tree_of trees) (take i ps) ++ tree_of trees (slice_index_or ps i d) ∷ []) items) (sym e)
+    (zip_push R (map (tree_of trees) (take i ps)) bs (tree_of trees (slice_index_or ps i d)) b first r)))
+
+pub nullable_at : (g : Reading) (trees : List (Simple ℕ)) (ps : List PatternNumber) (i : ℕ) (d : PatternNumber) (bs items : List Bool) (b : Bool) →
+    AllZip (λ p b. (b ≡ true) ↔ EndsNow g p) (map (tree_of trees) (take i ps)) bs → i < length ps → b ≡ is_nullable (tree_of trees (slice_index_or ps i d)) →
+    items ≡ bs ++ b ∷ [] → AllZip (λ p b. (b ≡ true) ↔ EndsNow g p) (map (tree_of trees) (take (i + 1) ps)) items
+nullable_at g trees ps i d bs items b first lt is e =
+    tests_at (λ p b. (b ≡ true) ↔ EndsNow g p) trees ps i d bs items b first lt
+    (subst (λ b. (b ≡ true) ↔ EndsNow g (tree_of trees (slice_index_or ps i d))) (sym is) (nullable_may_end g (tree_of trees (slice_index_or ps i d)))) e
+
+pub ends_with_at : (g : Reading) (trees : List (Simple ℕ)) (now after : List PatternNumber) (blank : Bool) (i : ℕ) (d r : PatternNumber) (bs items : List Bool)
+    (b : Bool) → AreEndsWith g trees now after blank (take i now) bs → i < length now → slice_get after i ≡ Some r →
+    b ≡ (is_nullable (tree_of trees r) || (is_nullable (tree_of trees (slice_index_or now i d)) && blank)) → items ≡ bs ++ b ∷ [] →
+    AreEndsWith g trees now after blank (take (i + 1) now) items
+ends_with_at g trees now after blank i d r bs items b first lt at is e s same all =
+    let got = slice_get-map (tree_of trees) now i ∙ ap (option_map (tree_of trees)) (slice_get-get_or now i d lt) in
+    let left = slice_get-map (tree_of trees) after i ∙ ap (option_map (tree_of trees)) at in
+    let q = beside_first (IsAfterText g s) (map (tree_of trees) now) (map (tree_of trees) after) i (tree_of trees (slice_index_or now i d)) all got in
+    let is_left : q.0 ≡ tree_of trees r = same_Some _ _ (sym q.1 ∙ left) in
+    let law = may_end_with g s (tree_of trees (slice_index_or now i d)) (tree_of trees r)
+    (subst (λ r. IsAfterText g s (tree_of trees (slice_index_or now i d)) r) is_left q.2) in
+    let tests : b ≡ (is_nullable (tree_of trees r) || (is_nullable (tree_of trees (slice_index_or now i d)) && is_blank s)) =
+    is ∙ ap (λ k. is_nullable (tree_of trees r) || (is_nullable (tree_of trees (slice_index_or now i d)) && k)) (sym same) in
+    tests_at (λ p b. (b ≡ true) ↔ EndsWith g s p) trees now i d bs items b (first s same all) lt
+    (subst (λ b. (b ≡ true) ↔ EndsWith g s (tree_of trees (slice_index_or now i d))) (sym tests) law) e

@@ -1,0 +1,5 @@
+pub mod Numbers
+pub mod Linked
+pub mod Opening
+pub mod Ending
+pub mod Stepping

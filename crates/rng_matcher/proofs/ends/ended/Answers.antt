@@ -1,0 +1,24 @@
+use Rattle.std.proofs.Common.{rules, ◌∙◌}
+use Rattle.rng_matcher.proofs.Ending.{ends_at, no_ends}
+use Rattle.rng_matcher.proofs.ends.ended.Goals as goal
+
+pub links-init : goal.links-init
+links-init g c =
+    let trees = g.D.Derivatives.trees in
+    record {
+      same = c.in_ok-none.ensures.reading;
+      first = no_ends (g.D.Derivatives.reading c.args.derivatives.now) c.args.good.now c.args.around (trees c.args.derivatives.now) (trees c.choice.new.self)
+          c.in_ok-none.none c.in_ok-outside.outside.items c.in_ok-none.ensures.choice (search rules);
+    }
+
+pub links-preserved : goal.links-preserved
+links-preserved g c =
+    let trees = g.D.Derivatives.trees in
+    let reading = g.D.Derivatives.reading in
+    let before = c.links.invariant in
+    record {
+      same = c.in_ok-leave.ensures.reading ∙ before.same;
+      first = ends_at (reading c.links.derivatives) (reading c.args.derivatives.now) c.args.good.now c.args.around (trees c.args.derivatives.now)
+          (trees c.links.derivatives) (trees c.leave.new.derivatives) c.args.links.now c.links.link-index _ c.links.outside.items c.leave.new.outside.items
+          before.same before.first c.requires c.links-test.true c.in_ok-leave.ensures.leaves;
+    }

@@ -1,0 +1,12 @@
+use Rattle.std.proofs.Common.{◌≡◌, take}
+use Rattle.rng_matcher.specs.Levels.{AddsEnded}
+use Rattle.rng_matcher.proofs.ends.ended.Given as goal
+
+abbrev pub invariant-links : goal.invariant-links
+invariant-links g l =
+    let trees = g.D.Derivatives.trees in
+    let reading = g.D.Derivatives.reading in record {
+      same : reading l.derivatives ≡ reading l.fn.derivatives;
+      first : AddsEnded (reading l.fn.derivatives) l.good l.around (trees l.fn.derivatives) (trees l.derivatives)
+          (take l.link-index l.links) l.outside.items;
+    }

@@ -1,0 +1,114 @@
+// The end of an element.
+ghost use Rattle.std.specs.Prelude.{◌≡◌, ◌↔◌, ◌<◌, ◌||◌, ◌&&◌, All, IfOk, OnOk, Some, length, map, slice_get, true};
+ghost use Rattle.std.specs.List.{AllZip};
+ghost use Rattle.rng_matching.specs.LevelStates.{EndsNow};
+ghost use Rattle.rng_matching.specs.Derivatives.{is_nullable};
+ghost use Rattle.rng_matcher.specs.Levels.{AddsEnded, AreEndsWith, IsRestWithin, LeavesBy};
+ghost use Rattle.rng_matcher.specs.Numbers.{IsInside, tree_of};
+
+use crate::derivatives::Derivatives;
+use crate::links::Link;
+use rng_model::OutOfMemory;
+use rng_patterns::PatternNumber;
+use std::alloc::Global;
+
+/// Which of the alternatives may end an element that holds an element.
+pub fn which_end<D: Derivatives>(
+    derivatives: &D,
+    alloc: Global,
+    now: &[PatternNumber],
+) -> Result<Vec<bool>, OutOfMemory>
+    requires { All (IsInside (D.trees derivatives.now)) now.now }
+    ensures { IfOk result (λ good. AllZip (λ p b. (b ≡ true) ↔ EndsNow (D.reading derivatives.now) p)
+        (map (tree_of (D.trees derivatives.now)) now.now) good.items) }
+{
+    let mut good = Vec::new(alloc);
+    'alternatives: for pattern in now {
+        good.push(derivatives.is_nullable(*pattern))?;
+    }
+    Ok(good)
+}
+
+/// Whether the pattern may end an element with a string alone, by what is left of it after the string.
+fn may_end<D: Derivatives>(
+    derivatives: &D,
+    pattern: PatternNumber,
+    after: PatternNumber,
+    blank: bool,
+) -> bool
+    requires pattern { IsInside (D.trees derivatives.now) pattern }
+    requires after { IsInside (D.trees derivatives.now) after }
+    ensures { result ≡ (is_nullable (tree_of (D.trees derivatives.now) after) || (is_nullable (tree_of (D.trees derivatives.now) pattern) && blank)) }
+{
+    derivatives.is_nullable(after) || (derivatives.is_nullable(pattern) && blank)
+}
+
+/// Which of the alternatives may end an element with a string alone, blank or not, by what is left of each after the string.
+pub fn which_end_with<D: Derivatives>(
+    derivatives: &D,
+    alloc: Global,
+    now: &[PatternNumber],
+    after: &[PatternNumber],
+    blank: bool,
+) -> Result<Vec<bool>, OutOfMemory>
+    requires now { All (IsInside (D.trees derivatives.now)) now.now }
+    requires after { All (IsInside (D.trees derivatives.now)) after.now }
+    requires count { length now.now ≡ length after.now }
+    ensures { IfOk result (λ good. AreEndsWith (D.reading derivatives.now) (D.trees derivatives.now) now.now after.now blank now.now good.items) }
+{
+    let mut good = Vec::new(alloc);
+    'alternatives: for (place, pattern) in now.iter().enumerate() {
+        good.push(may_end(derivatives, *pattern, after[place], blank))?;
+    }
+    Ok(good)
+}
+
+/// Whether the alternative at a place is good.
+fn is_good(good: &[bool], place: usize) -> bool
+    ensures { (result ≡ true) ↔ (slice_get good.now place ≡ Some true) }
+{
+    good.get(place) == Some(&true)
+}
+
+/// Takes a way out of an element: where the alternative inside is good, the one around goes on with the rest too.
+fn leave<D: Derivatives>(
+    derivatives: &mut D,
+    alloc: Global,
+    good: &[bool],
+    link: Link,
+    outside: &mut Vec<PatternNumber>,
+) -> Result<(), OutOfMemory>
+    requires outside { All (IsInside (D.trees derivatives.old)) outside.old.items }
+    requires link { IsRestWithin (D.trees derivatives.old) (length outside.old.items) link }
+    ensures reading { OnOk result (D.reading derivatives.new ≡ D.reading derivatives.old) }
+    ensures leaves { OnOk result (LeavesBy (D.reading derivatives.old) good.now (D.trees derivatives.old) (D.trees derivatives.new) link
+        outside.old.items outside.new.items) }
+{
+    if !is_good(good, link.inner) {
+        return Ok(());
+    }
+    let joined = derivatives.choice(alloc, &[outside[link.outer], link.rest])?;
+    outside[link.outer] = joined;
+    Ok(())
+}
+
+/// What the ways out of an element leave of so many alternatives around it, where the alternatives inside that are good end.
+pub fn ended<D: Derivatives>(
+    derivatives: &mut D,
+    alloc: Global,
+    good: &[bool],
+    links: &[Link],
+    around: usize,
+) -> Result<Vec<PatternNumber>, OutOfMemory>
+    requires { All (IsRestWithin (D.trees derivatives.old) around) links.now }
+    ensures reading { OnOk result (D.reading derivatives.new ≡ D.reading derivatives.old) }
+    ensures ended { IfOk result (λ outside. AddsEnded (D.reading derivatives.old) good.now around (D.trees derivatives.old)
+        (D.trees derivatives.new) links.now outside.items) }
+{
+    let none = derivatives.choice(alloc, &[])?;
+    let mut outside = vec![in alloc; none; around]?;
+    'links: for link in links {
+        leave(derivatives, alloc, good, *link, &mut outside)?;
+    }
+    Ok(outside)
+}

@@ -1,0 +1,14 @@
+//! A matcher that takes the events of a document one by one and tells whether the document is valid by a simple grammar.
+//!
+//! Open elements are levels: of the innermost the matcher keeps alternatives for what remains of it, and of each the ways
+//! out into the alternatives around it (`rng_matching`'s `LevelStates`). What is left of a pattern is asked of
+//! `Derivatives`.
+#![tactic(auto)]
+
+mod derivatives;
+mod ends;
+mod levels;
+mod links;
+mod state;
+
+pub use derivatives::{Derivatives, Way};

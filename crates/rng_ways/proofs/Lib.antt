@@ -1,0 +1,13 @@
+mod Offers
+mod Kept
+mod Standing
+mod Adding
+mod Nodes
+mod Rows
+mod WaysOfLeaves
+mod Composing
+mod Weights
+mod Bareness
+mod Closings
+mod Starts
+mod KnownTexts

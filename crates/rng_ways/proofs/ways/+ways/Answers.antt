@@ -1,0 +1,325 @@
+use Rattle.std.proofs.Common.{◌≡◌, ◌∙◌, ◌<◌, ◌≤◌, ◌+◌, ℕ, suc, All, List, [], ◌∷◌, ◌++◌, length, map, take, get_or, refl, sym, ap, ap₂, subst, arith}
+use Rattle.std.proofs.lemmas.Bool.{not-false, not-true}
+use Rattle.std.proofs.Math.ListN.{get_or-map}
+use Rattle.std.proofs.lemmas.List.{length-map, map-append, take_all}
+use Rattle.std.proofs.Math.Seq.{take-suc}
+use Rattle.rng_model.specs.Tree.{Simple, choice, group, s_joined, s_one_or_more}
+use Rattle.rng_matching.specs.Taking.{Same}
+use Rattle.rng_matching.specs.Derivatives.{group_of, is_nullable}
+use Rattle.rng_matching.proofs.FreeForms.{choice_all}
+use Rattle.rng_patterns.specs.Trees.{choice_over, tree_of}
+use Rattle.rng_patterns.specs.declared.pattern.Facts.{Facts}
+use Rattle.rng_patterns.specs.declared.pattern.PatternNumber.{PatternNumber}
+use Rattle.rng_patterns.proofs.Choices.{if_ok}
+use Rattle.rng_patterns.proofs.Taking.{choice_of_two}
+use Rattle.rng_patterns.proofs.Trees.{Longer-length, Longer-trans, tree_stays}
+use Rattle.rng_ways.specs.Kinds.{Obeys, connector_of, reading_of, weight}
+use Rattle.rng_ways.specs.Ways.{AreWaysOf}
+use Rattle.rng_ways.proofs.Adding.{either_member}
+use Rattle.rng_ways.proofs.Composing.{both_made, copies_made, first_made, group_made, member_made, opened_hands_on, opened_same, over_hands_on}
+use Rattle.rng_ways.proofs.Composing.{map_numbers, no_order_between, over_same, side_law, ways_of_same}
+use Rattle.rng_ways.proofs.Kept.{Obeys-hereditary, choice_has}
+use Rattle.rng_ways.proofs.Nodes.{is_over, other_single, parts_there, single_alone}
+use Rattle.rng_ways.proofs.Weights.{member_less, opened_less, right_less}
+use Rattle.rng_ways.proofs.ways.+ways.Goals as goal
+
+pub ways-ways_of_choice-requires : goal.ways-ways_of_choice-requires
+ways-ways_of_choice-requires t c =
+    let t0 = c.args.grammar.now in
+    let ms = c.in-Choice.members.items in
+    let n = length c.args.table.now in
+    let e : c.as_slice-in-Choice.result.now ≡ ms =
+    c.as_slice-in-Choice.ensures.value ∙ c.in_ok-members-in-Choice.ensures ∙ c.as_slice.ensures.value in
+    let is = is_over t0 c.args.table.now c.args.number.0 c.pattern.result.now _ c.pattern.ensures.table c.pattern.ensures.found c.in-Choice.is in
+    let w = ap weight is in
+    let v = ap (λ ms. weight (choice_over (tree_of t0 c.args.table.now) (map (λ (m : PatternNumber). m.0) ms))) e in
+    let below = parts_there c.args.table.now c.args.number.0 c.pattern.result.now _ c.pattern.ensures.table c.pattern.ensures.found c.in-Choice.is in
+    let d = c.decreases in
+    let inside = c.requires in
+    let long = length-map ms (λ (m : PatternNumber). m.0) in
+    let two = below.0 in
+    let two_members : 2 ≤ length ms = omega (arith, long, two) in
+    let Inside : List PatternNumber → Type 0 = λ ms. All (λ m. m.0 < n) ms in
+    let member : All (λ (m : PatternNumber). m.0 < n) ms = λ k dm h.
+    let one = below.1 k dm.0 (omega (arith, long, h)) in
+    let at = get_or-map (λ (m : PatternNumber). m.0) ms k dm in
+    omega (arith, one, at, inside) in
+    (omega (arith, w, v, d), (subst Inside (sym e) member, subst (λ (ms : List PatternNumber). 2 ≤ length ms) (sym e) two_members))
+
+pub ways-ways_of_group-requires : goal.ways-ways_of_group-requires
+ways-ways_of_group-requires t c =
+    let t0 = c.args.grammar.now in
+    let w = ap weight (is_over t0 c.args.table.now c.args.number.0 c.pattern.result.now _ c.pattern.ensures.table c.pattern.ensures.found c.in-Group.is) in
+    let below = parts_there c.args.table.now c.args.number.0 c.pattern.result.now _ c.pattern.ensures.table c.pattern.ensures.found c.in-Group.is in
+    let first = below.0 in
+    let second = below.1 in
+    let d = c.decreases in
+    let inside = c.requires in
+    (omega (arith, w, d), (omega (arith, first, inside), omega (arith, second, inside)))
+
+pub ways-ways_of_both-requires : goal.ways-ways_of_both-requires
+ways-ways_of_both-requires t c =
+    let t0 = c.args.grammar.now in
+    let w = ap weight (is_over t0 c.args.table.now c.args.number.0 c.pattern.result.now _ c.pattern.ensures.table c.pattern.ensures.found c.in-Interleave.is) in
+    let below = parts_there c.args.table.now c.args.number.0 c.pattern.result.now _ c.pattern.ensures.table c.pattern.ensures.found c.in-Interleave.is in
+    let first = below.0 in
+    let second = below.1 in
+    let d = c.decreases in
+    let inside = c.requires in
+    (omega (arith, w, d), (no_order_between c.args.kind, (omega (arith, first, inside), omega (arith, second, inside))))
+
+pub ways-ways_of_copies-requires : goal.ways-ways_of_copies-requires
+ways-ways_of_copies-requires t c =
+    let t0 = c.args.grammar.now in
+    let below = parts_there c.args.table.now c.args.number.0 c.pattern.result.now _ c.pattern.ensures.table c.pattern.ensures.found c.in-OneOrMore.is in
+    let d = c.decreases in
+    let inside = c.requires in (
+      omega (arith, d),
+      (
+        inside,
+        (
+          omega (arith, below, inside),
+          is_over t0 c.args.table.now c.args.number.0 c.pattern.result.now _ c.pattern.ensures.table
+              c.pattern.ensures.found c.in-OneOrMore.is,
+        ),
+      ),
+    )
+
+pub ways-ways_of_leaf-requires : goal.ways-ways_of_leaf-requires
+ways-ways_of_leaf-requires t c = record {
+  inside = c.requires;
+  leaf = single_alone c.args.grammar.now c.args.table.now c.args.number.0 c.pattern.result.now c.pattern.result.now c.pattern.ensures.table
+      c.pattern.ensures.found refl
+      (other_single c.pattern.result.now c.in_default.not-Choice c.in_default.not-Group c.in_default.not-Interleave c.in_default.not-OneOrMore);
+}
+
+pub ways-returns-in_ok-members-in-Choice-clause-ways : goal.ways-returns-in_ok-members-in-Choice-clause-ways
+ways-returns-in_ok-members-in-Choice-clause-ways t c =
+    let t0 = c.args.grammar.now in
+    let e : c.as_slice-in-Choice.result.now ≡ c.in-Choice.members.items =
+    c.as_slice-in-Choice.ensures.value ∙ c.in_ok-members-in-Choice.ensures ∙ c.as_slice.ensures.value in
+    let is = ap (λ ms. choice_over (tree_of t0 c.args.table.now) (map (λ (m : PatternNumber). m.0) ms)) e
+    ∙ sym (is_over t0 c.args.table.now c.args.number.0 c.pattern.result.now _ c.pattern.ensures.table c.pattern.ensures.found c.in-Choice.is) in
+    if_ok c.ways_of_choice.result _ _ (λ ws h. subst (λ p. AreWaysOf t0 c.ways_of_choice.new.table c.args.kind p ws.items) is h) c.ways_of_choice.ensures.ways
+
+pub ways-returns-in-Group-clause-ways : goal.ways-returns-in-Group-clause-ways
+ways-returns-in-Group-clause-ways t c =
+    let t0 = c.args.grammar.now in
+    let is = sym (is_over t0 c.args.table.now c.args.number.0 c.pattern.result.now _ c.pattern.ensures.table c.pattern.ensures.found c.in-Group.is) in
+    if_ok c.ways_of_group.result _ _ (λ ws h. subst (λ p. AreWaysOf t0 c.ways_of_group.new.table c.args.kind p ws.items) is h) c.ways_of_group.ensures.ways
+
+pub ways-returns-in-Interleave-clause-ways : goal.ways-returns-in-Interleave-clause-ways
+ways-returns-in-Interleave-clause-ways t c =
+    let t0 = c.args.grammar.now in
+    let is = sym (is_over t0 c.args.table.now c.args.number.0 c.pattern.result.now _ c.pattern.ensures.table c.pattern.ensures.found c.in-Interleave.is) in
+    if_ok c.ways_of_both.result _ _ (λ ws h. subst (λ p. AreWaysOf t0 c.ways_of_both.new.table c.args.kind p ws.items) is h) c.ways_of_both.ensures.ways
+
+pub ways_of_both-ways-requires-2 : goal.ways_of_both-ways-requires-2
+ways_of_both-ways-requires-2 t c =
+    let t0 = c.args.grammar.now in
+    let stays = ap weight (tree_stays t0 c.args.table.now c.ways.new.table c.args.second.0 c.in_ok-firsts.ensures.longer c.requires.second) in
+    let less = right_less (connector_of c.args.joint) (tree_of t0 c.args.table.now c.args.first.0) (tree_of t0 c.args.table.now c.args.second.0) in
+    let d = c.decreases in
+    let inside = c.requires.second in
+    let long = Longer-length c.args.table.now c.ways.new.table c.in_ok-firsts.ensures.longer in
+    (omega (arith, stays, less, d), omega (arith, inside, long))
+
+pub ways_of_both-returns-clause-ways : goal.ways_of_both-returns-clause-ways
+ways_of_both-returns-clause-ways t c =
+    let t0 = c.args.grammar.now in
+    let n0 = c.args.table.now in
+    let n1 = c.ways.new.table in
+    let n2 = c.ways-2.new.table in
+    let n3 = c.add_filled.new.table in
+    let p = tree_of t0 n0 c.args.first.0 in
+    let q = tree_of t0 n0 c.args.second.0 in
+    let longer2 = Longer-trans n0 n1 n2 c.in_ok-firsts.ensures.longer c.in_ok-seconds.ensures.longer in
+    let longer3 = Longer-trans n0 n2 n3 longer2 c.in_ok-add_filled.ensures.longer in
+    let second_is = tree_stays t0 n0 n1 c.args.second.0 c.in_ok-firsts.ensures.longer c.requires.second in
+    let a = side_law t0 n1 n2 c.args.kind p c.in_ok-firsts.firsts.items c.in_ok-seconds.ensures.longer c.in_ok-firsts.ensures.ways in
+    let b = side_law t0 n2 n3 c.args.kind q c.in_ok-seconds.seconds.items c.in_ok-add_filled.ensures.longer
+    (subst (λ q. AreWaysOf t0 n2 c.args.kind q c.in_ok-seconds.seconds.items) second_is c.in_ok-seconds.ensures.ways) in
+    both_made t0 n2 n3 c.add_filled-2.new.table c.args.kind c.args.joint c.args.first c.args.second p q c.as_slice.result.now c.as_slice-2.result.now
+    c.new-all.result.items c.add_filled.new.all.items c.add_filled-2.new.all.items c.requires.order c.new-all.ensures.items
+    (tree_stays t0 n0 n3 c.args.first.0 longer3 c.requires.first) (tree_stays t0 n0 n2 c.args.second.0 longer2 c.requires.second)
+    (subst (AreWaysOf t0 n2 c.args.kind p) (sym c.as_slice.ensures.value) a) (subst (AreWaysOf t0 n3 c.args.kind q) (sym c.as_slice-2.ensures.value) b)
+    c.in_ok-add_filled.ensures.ways c.in_ok-add_filled-2.ensures.ways
+
+pub item_ways_of_group-returns-then-not-facts-clause-ways : goal.item_ways_of_group-returns-then-not-facts-clause-ways
+item_ways_of_group-returns-then-not-facts-clause-ways t c =
+    let t0 = c.args.grammar.now in
+    let n0 = c.args.table.now in
+    let n1 = c.ways.new.table in
+    let n2 = c.add_filled.new.table in
+    let p = tree_of t0 n0 c.args.first.0 in
+    let q = tree_of t0 n0 c.args.second.0 in
+    let longer2 = Longer-trans n0 n1 n2 c.in_ok-firsts.ensures.longer c.in_ok-add_filled.ensures.longer in
+    let first_is = ap is_nullable (tree_stays t0 n0 n2 c.args.first.0 longer2 c.requires.first) in
+    let told = ap (λ (f : Facts). f.nullable) (c.facts.ensures.exact t0) in
+    let a = subst (AreWaysOf t0 n1 c.args.kind p) (sym c.as_slice.ensures.value) c.in_ok-firsts.ensures.ways in
+    first_made t0 n1 n2 c.args.kind c.args.second p q c.as_slice.result.now c.new-all.result.items c.add_filled.new.all.items c.requires.kind
+    (sym first_is ∙ sym told ∙ not-true _ c.if-not-facts.true) c.new-all.ensures.items
+    (tree_stays t0 n0 n1 c.args.second.0 c.in_ok-firsts.ensures.longer c.requires.second) a c.in_ok-add_filled.ensures.ways
+
+pub item_ways_of_group-ways-requires-2 : goal.item_ways_of_group-ways-requires-2
+item_ways_of_group-ways-requires-2 t c =
+    let t0 = c.args.grammar.now in
+    let longer = Longer-trans c.args.table.now c.ways.new.table c.add_filled.new.table c.in_ok-firsts.ensures.longer c.in_ok-add_filled.ensures.longer in
+    let stays = ap weight (tree_stays t0 c.args.table.now c.add_filled.new.table c.args.second.0 longer c.requires.second) in
+    let less = right_less group (tree_of t0 c.args.table.now c.args.first.0) (tree_of t0 c.args.table.now c.args.second.0) in
+    let d = c.decreases in
+    let inside = c.requires.second in
+    let long = Longer-length c.args.table.now c.add_filled.new.table longer in
+    (omega (arith, stays, less, d), omega (arith, inside, long))
+
+pub item_ways_of_group-returns-clause-ways : goal.item_ways_of_group-returns-clause-ways
+item_ways_of_group-returns-clause-ways t c =
+    let t0 = c.args.grammar.now in
+    let n0 = c.args.table.now in
+    let n1 = c.ways.new.table in
+    let n2 = c.add_filled.new.table in
+    let p = tree_of t0 n0 c.args.first.0 in
+    let q = tree_of t0 n0 c.args.second.0 in
+    let longer2 = Longer-trans n0 n1 n2 c.in_ok-firsts.ensures.longer c.in_ok-add_filled.ensures.longer in
+    let first_is = ap is_nullable (tree_stays t0 n0 n2 c.args.first.0 longer2 c.requires.first) in
+    let told = ap (λ (f : Facts). f.nullable) (c.facts.ensures.exact t0) in
+    let a = subst (AreWaysOf t0 n1 c.args.kind p) (sym c.as_slice.ensures.value) c.in_ok-firsts.ensures.ways in
+    let n3 = c.ways-2.new.table in
+    let second_is = tree_stays t0 n0 n2 c.args.second.0 longer2 c.requires.second in
+    let b = subst (λ q. AreWaysOf t0 n3 c.args.kind q c.in_ok-seconds.seconds.items) second_is c.in_ok-seconds.ensures.ways in
+    group_made t0 n1 n2 n3 c.add_filled-2.new.table c.args.kind c.args.second p q c.as_slice.result.now c.as_slice-2.result.now
+    c.new-all.result.items c.add_filled.new.all.items c.add_filled-2.new.all.items c.requires.kind
+    (sym first_is ∙ sym told ∙ not-false _ c.if-not-facts.false) c.new-all.ensures.items
+    (tree_stays t0 n0 n1 c.args.second.0 c.in_ok-firsts.ensures.longer c.requires.second) a
+    (subst (AreWaysOf t0 n3 c.args.kind q) (sym c.as_slice-2.ensures.value) b) c.in_ok-seconds.ensures.longer
+    c.in_ok-add_filled.ensures.ways c.in_ok-add_filled-2.ensures.ways
+
+pub ways_of_choice-ways-requires : goal.ways_of_choice-ways-requires
+ways_of_choice-ways-requires t c =
+    let t0 = c.args.grammar.now in
+    let n0 = c.args.table.now in
+    let ms : List PatternNumber = c.args.members.now in
+    let i = c.members.member-index in
+    let none : PatternNumber = record { 0 = 0 } in
+    let inside = c.requires.inside i none c.members-test.true in
+    let stays = ap weight (tree_stays t0 n0 c.members.table (get_or ms i none).0 c.members.invariant.longer inside) in
+    let at = ap (λ k. weight (tree_of t0 n0 k)) (get_or-map (λ (m : PatternNumber). m.0) ms i none) in
+    let long = length-map ms (λ (m : PatternNumber). m.0) in
+    let within = c.members-test.true in
+    let two = c.requires.two in
+    let less = member_less (tree_of t0 n0) (map (λ (m : PatternNumber). m.0) ms) i 0 (omega (arith, long, within)) (omega (arith, long, two)) in
+    let more = Longer-length n0 c.members.table c.members.invariant.longer in
+    let d = c.decreases in
+    (omega (arith, stays, at, less, d), omega (arith, inside, more))
+
+pub ways_of_choice-members-preserved : goal.ways_of_choice-members-preserved
+ways_of_choice-members-preserved t c =
+    let t0 = c.args.grammar.now in
+    let n0 = c.args.table.now in
+    let before = c.members.table in
+    let n1 = c.ways.new.table in
+    let n2 = c.add_filled.new.table in
+    let ms : List PatternNumber = c.args.members.now in
+    let i = c.members.member-index in
+    let none : PatternNumber = record { 0 = 0 } in
+    let f : PatternNumber → Simple ℕ = λ m. tree_of t0 n0 m.0 in
+    let inside = c.requires.inside i none c.members-test.true in
+    let is = tree_stays t0 n0 before (get_or ms i none).0 c.members.invariant.longer inside in
+    let next : i + 1 ≡ suc i = omega arith in
+    let longer1 = Longer-trans n0 before n1 c.members.invariant.longer c.in_ok-ways.ensures.longer in
+    let cut : map f (take i ms) ++ f (get_or ms i none) ∷ [] ≡ map f (take (i + 1) ms) =
+    sym (ap (map f) (ap (λ k. take k ms) next ∙ take-suc ms i none c.members-test.true) ∙ map-append f (take i ms) (get_or ms i none ∷ [])) in
+    record {
+      longer = Longer-trans n0 n1 n2 longer1 c.in_ok-add_filled.ensures.longer;
+      ways = subst (λ ps. AreWaysOf t0 n2 c.args.kind (choice_all ps) c.add_filled.new.all.items) cut
+          (member_made t0 n1 n2 c.args.kind (map f (take i ms)) (f (get_or ms i none)) c.as_slice.result.now c.members.all.items c.add_filled.new.all.items
+          (side_law t0 before n1 c.args.kind (choice_all (map f (take i ms))) c.members.all.items c.in_ok-ways.ensures.longer c.members.invariant.ways)
+          (subst (AreWaysOf t0 n1 c.args.kind (f (get_or ms i none))) (sym c.as_slice.ensures.value)
+          (subst (λ p. AreWaysOf t0 n1 c.args.kind p c.in_ok-ways.ways.items) is c.in_ok-ways.ensures.ways))
+          c.in_ok-add_filled.ensures.ways);
+    }
+
+pub ways_of_choice-returns-clause-ways : goal.ways_of_choice-returns-clause-ways
+ways_of_choice-returns-clause-ways t c =
+    let t0 = c.args.grammar.now in
+    let n0 = c.args.table.now in
+    let ms : List PatternNumber = c.args.members.now in
+    let f : ℕ → Simple ℕ = tree_of t0 n0 in
+    let numbers : List ℕ = map (λ (m : PatternNumber). m.0) ms in
+    let all = take_all c.members.member-index ms c.members-test.false in
+    let h = subst (λ ms. AreWaysOf t0 c.members.table c.args.kind (choice_all (map
+    (λ (m : PatternNumber). f m.0) ms)) c.members.all.items) all c.members.invariant.ways in
+    ways_of_same t0 c.members.table c.args.kind (choice_all (map f numbers)) (choice_over f numbers) c.members.all.items (over_same (reading_of t0) f numbers)
+    (over_hands_on f numbers)
+    (subst (λ ps. AreWaysOf t0 c.members.table c.args.kind (choice_all ps) c.members.all.items) (sym (map_numbers f ms)) h)
+
+pub ways_of_copies-returns-clause-ways : goal.ways_of_copies-returns-clause-ways
+ways_of_copies-returns-clause-ways t c =
+    let t0 = c.args.grammar.now in
+    let g = reading_of t0 in
+    let n0 = c.args.table.now in
+    let n1 = c.ways.new.table in
+    let n2 = c.empty.new.self in
+    let n3 = c.choice.new.self in
+    let n4 = c.add_filled.new.table in
+    let p = tree_of t0 n0 c.args.body.0 in
+    let copies = tree_of t0 n0 c.args.number.0 in
+    let more = c.in_ok-more.more in
+    let longer2 = Longer-trans n0 n1 n2 c.in_ok-copies.ensures.longer c.in_ok-empty.ensures.longer in
+    let longer13 = Longer-trans n1 n2 n3 c.in_ok-empty.ensures.longer c.in_ok-more.ensures.longer in
+    let number_is = tree_stays t0 n0 n2 c.args.number.0 longer2 c.requires.number ∙ c.requires.copies in
+    let empty_is = c.in_ok-empty.ensures.tree.is t0 in
+    let two = choice_of_two g (tree_of t0 n2) c.args.number c.in_ok-empty.empty (tree_of t0 n3 more.0) (λ xs ns. c.in_ok-more.ensures.matches t0 g xs ns) in
+    let same = subst (λ a. Same g (tree_of t0 n3 more.0) (s_joined choice (s_one_or_more p) a)) empty_is
+    (subst (λ a. Same g (tree_of t0 n3 more.0) (s_joined choice a (tree_of t0 n2 c.in_ok-empty.empty.0))) number_is two) in
+    let a = side_law t0 n1 n3 c.args.kind p c.in_ok-copies.copies.items longer13 c.in_ok-copies.ensures.ways in
+    subst (λ q. AreWaysOf t0 n4 c.args.kind q c.add_filled.new.all.items) (sym c.requires.copies)
+    (copies_made t0 n3 n4 c.args.kind more p c.as_slice.result.now c.new-all.result.items c.add_filled.new.all.items c.new-all.ensures.items same
+    (λ place o. choice_has (Obeys place) (Obeys-hereditary place) (tree_of t0 n2) (c.args.number ∷ c.in_ok-empty.empty ∷ []) (tree_of t0 n3 more.0)
+    (λ s. (c.in_ok-more.ensures.alternatives t0 s).0)
+    (λ m k. either_member (λ n. Obeys place (tree_of t0 n2 n.0)) c.args.number c.in_ok-empty.empty m (subst (Obeys place) (sym number_is) o)
+    (subst (Obeys place) (sym empty_is) (Obeys-hereditary place).of_empty) k))
+    (subst (AreWaysOf t0 n3 c.args.kind p) (sym c.as_slice.ensures.value) a) c.in_ok-add_filled.ensures.ways)
+
+pub ways_of_group-ways-requires : goal.ways_of_group-ways-requires
+ways_of_group-ways-requires t c =
+    let t0 = c.args.grammar.now in
+    let n0 = c.args.table.now in
+    let n1 = c.group.new.self in
+    let n2 = c.group-2.new.self in
+    let x = tree_of t0 n0 c.in-Some.outer.0 in
+    let y = tree_of t0 n0 c.in-Some.inner.0 in
+    let b = tree_of t0 n0 c.args.second.0 in
+    let is : tree_of t0 n2 c.in_ok-whole.whole.0 ≡ group_of x (group_of y b) =
+    c.in_ok-whole.ensures.tree.is t0
+    ∙ ap₂ group_of (tree_stays t0 n0 n1 c.in-Some.outer.0 c.in_ok-rest.ensures.longer c.in-Some.ensures.inside.0) (c.in_ok-rest.ensures.tree.is t0) in
+    let first_is = c.in-Some.ensures.sides t0 in
+    let w = ap weight is in
+    let v = ap (λ p. weight (s_joined group p b)) first_is in
+    let less = opened_less x y b in
+    let d = c.decreases in
+    (omega (arith, w, v, less, d), c.in_ok-whole.ensures.tree.inside)
+
+pub ways_of_group-returns : goal.ways_of_group-returns
+ways_of_group-returns t c =
+    let t0 = c.args.grammar.now in
+    let n0 = c.args.table.now in
+    let n1 = c.group.new.self in
+    let n2 = c.group-2.new.self in
+    let x = tree_of t0 n0 c.in-Some.outer.0 in
+    let y = tree_of t0 n0 c.in-Some.inner.0 in
+    let b = tree_of t0 n0 c.args.second.0 in
+    let is : tree_of t0 n2 c.in_ok-whole.whole.0 ≡ group_of x (group_of y b) =
+    c.in_ok-whole.ensures.tree.is t0
+    ∙ ap₂ group_of (tree_stays t0 n0 n1 c.in-Some.outer.0 c.in_ok-rest.ensures.longer c.in-Some.ensures.inside.0) (c.in_ok-rest.ensures.tree.is t0) in
+    let first_is = c.in-Some.ensures.sides t0 in
+    let n3 = c.ways.new.table in
+    let longer2 = Longer-trans n0 n1 n2 c.in_ok-rest.ensures.longer c.in_ok-whole.ensures.longer in
+    record {
+      longer = if_ok c.ways.result _ _ (λ ws h. Longer-trans n0 n2 n3 longer2 h) c.ways.ensures.longer;
+      ways = if_ok c.ways.result _ _
+          (λ ws h. subst (λ p. AreWaysOf t0 n3 c.args.kind (s_joined group p b) ws.items) (sym first_is)
+          (ways_of_same t0 n3 c.args.kind (group_of x (group_of y b)) (s_joined group (s_joined group x y) b) ws.items (opened_same (reading_of t0) x y b)
+          (opened_hands_on x y b) (subst (λ p. AreWaysOf t0 n3 c.args.kind p ws.items) is h)))
+          c.ways.ensures.ways;
+    }

@@ -1,0 +1,4 @@
+pub mod Kinds
+pub mod Ways
+pub mod Closing
+pub mod Starting

@@ -1,0 +1,94 @@
+// Patterns after a start tag.
+ghost use Rattle.std.specs.Prelude.{◌≡◌, [], ◌<◌, IfOk, OnOk, length, slice_index_or};
+ghost use Rattle.rng_model.specs.View.{name_of};
+ghost use Rattle.rng_patterns.specs.PatternTable.{Longer};
+ghost use Rattle.rng_patterns.specs.Trees.{tree_of};
+ghost use Rattle.rng_ways.specs.Ways.{AreInside};
+ghost use Rattle.rng_ways.specs.Starting.{AreBodies, AreStarts, IsBodyOf, IsReady};
+
+use crate::leaves::element_takes;
+use crate::way::{Kind, Way};
+use crate::ways::ways;
+use rng_model::{Name, OutOfMemory, PatternId, SimpleGrammar};
+use rng_patterns::{Pattern, PatternNumber, PatternTable};
+use std::alloc::Global;
+
+/// The bodies by which a pattern takes an element of this name, each with what is left behind the element.
+///
+/// RELAX NG Specification, section 6.2.7. The numbers are those of the grammar's patterns. The error is want of memory.
+pub fn start(
+    alloc: Global,
+    grammar: &SimpleGrammar,
+    table: &mut PatternTable,
+    numbers: &[PatternNumber],
+    number: PatternNumber,
+    name: &Name,
+) -> Result<Vec<Way>, OutOfMemory>
+    requires inside { number.0 < length table.old }
+    requires ready { IsReady grammar.now table.old numbers.now }
+    ensures longer { OnOk result (Longer table.old table.new) }
+    ensures starts { IfOk result (λ ws. AreStarts grammar.now table.new numbers.now (tree_of grammar.now table.old number.0) (name_of name.now) ws.items) }
+{
+    let ways = ways(alloc, grammar, table, Kind::Element(name), number)?;
+    let mut starts = Vec::new(alloc);
+    add_starts(grammar, table, numbers, name, ways.as_slice(), &mut starts)?;
+    Ok(starts)
+}
+
+/// The body of a leaf that takes an element of this name.
+fn body(
+    grammar: &SimpleGrammar,
+    table: &PatternTable,
+    numbers: &[PatternNumber],
+    leaf: PatternNumber,
+    name: &Name,
+) -> Option<PatternNumber>
+    requires inside { leaf.0 < length table.now }
+    requires ready { IsReady grammar.now table.now numbers.now }
+    ensures { IsBodyOf grammar.now table.now numbers.now (tree_of grammar.now table.now leaf.0) (name_of name.now) result }
+{
+    let Pattern::Element(element) = table.pattern(leaf) else {
+        return None;
+    };
+    if !element_takes(grammar, *element, Kind::Element(name)) {
+        return None;
+    }
+    match grammar.element(*element) {
+        Some((_, body)) => Some(number_at(numbers, *body)),
+        None => None,
+    }
+}
+
+/// The number of the grammar's pattern at a position.
+fn number_at(numbers: &[PatternNumber], position: PatternId) -> PatternNumber
+    requires { position.0 < length numbers.now }
+    ensures { result ≡ slice_index_or numbers.now position.0 (record { 0 = 0 }) }
+{
+    numbers[position.0]
+}
+
+/// Adds the bodies of the leaves that take an element of this name.
+fn add_starts(
+    grammar: &SimpleGrammar,
+    table: &PatternTable,
+    numbers: &[PatternNumber],
+    name: &Name,
+    ways: &[Way],
+    starts: &mut Vec<Way>,
+) -> Result<(), OutOfMemory>
+    requires ready { IsReady grammar.now table.now numbers.now }
+    requires ways { AreInside table.now ways.now }
+    requires none { starts.old.items ≡ [] }
+    ensures starts { OnOk result (AreBodies grammar.now table.now numbers.now (name_of name.now) ways.now starts.new.items) }
+{
+    'ways: for way in ways {
+        let Some(body) = body(grammar, table, numbers, way.leaf, name) else {
+            continue;
+        };
+        starts.push(Way {
+            leaf: body,
+            rest: way.rest,
+        })?;
+    }
+    Ok(())
+}

@@ -1,0 +1,46 @@
+// Ways to begin.
+use rng_model::Name;
+use rng_patterns::PatternNumber;
+
+/// A leaf of a pattern that may take what comes first, and the pattern of what may follow then.
+#[derive(Clone, Copy, PartialEq, Eq)]
+pub struct Way {
+    pub leaf: PatternNumber,
+    pub rest: PatternNumber,
+}
+
+/// What comes first, as far as ways are told apart by it.
+#[derive(Clone, Copy)]
+pub enum Kind<'a> {
+    /// An element of this name.
+    Element(&'a Name),
+    /// An attribute of this name.
+    Attribute(&'a Name),
+    Text,
+}
+
+/// Where a pattern is asked: among the children of an element or the values of attributes, or in a list, where no list
+/// stands (RELAX NG Specification, section 7.1.3).
+#[derive(Clone, Copy)]
+pub enum Place {
+    Content,
+    List,
+}
+
+/// How two patterns are joined.
+#[derive(Clone, Copy)]
+pub enum Joint {
+    Group,
+    Interleave,
+}
+
+/// Where the rest of a side stands in the rest of the whole.
+#[derive(Clone, Copy)]
+pub enum Hole {
+    /// It is the rest of the whole.
+    Whole,
+    /// The first of two that are joined, with this second.
+    First(Joint, PatternNumber),
+    /// The second of two that are joined, with this first.
+    Second(Joint, PatternNumber),
+}

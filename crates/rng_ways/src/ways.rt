@@ -1,0 +1,219 @@
+// The ways of a pattern: the leaves by which it may begin, each with what is left then.
+ghost use Rattle.std.specs.Prelude.{◌≡◌, ◌<◌, ◌≤◌, All, IfOk, OnOk, length, map};
+ghost use Rattle.rng_model.specs.Tree.{group, s_joined, s_one_or_more};
+ghost use Rattle.rng_patterns.specs.PatternTable.{Longer};
+ghost use Rattle.rng_patterns.specs.Trees.{choice_over, tree_of};
+ghost use Rattle.rng_ways.specs.Kinds.{HasNoOrder, IsOfItems, connector_of};
+ghost use Rattle.rng_ways.specs.Ways.{AreWaysOf, IsHoleInside, filled};
+
+use crate::filling::add_filled;
+use crate::leaves::{opened, ways_of_leaf};
+use crate::way::{Hole, Joint, Kind, Way};
+use rng_model::{OutOfMemory, SimpleGrammar};
+use rng_patterns::{Pattern, PatternNumber, PatternTable};
+use std::alloc::Global;
+
+/// The ways of a pattern to take something of this kind first, each leaf once.
+///
+/// A list nested to the left is opened to the right, so that its ways are those of its first member.
+#[cycle(ways)]
+pub fn ways(
+    alloc: Global,
+    grammar: &SimpleGrammar,
+    table: &mut PatternTable,
+    kind: Kind,
+    number: PatternNumber,
+) -> Result<Vec<Way>, OutOfMemory>
+    requires { number.0 < length table.old }
+    ensures longer { OnOk result (Longer table.old table.new) }
+    ensures ways { IfOk result (λ ws. AreWaysOf grammar.now table.new kind.entry (tree_of grammar.now table.old number.0) ws.items) }
+{
+    match table.pattern(number) {
+        Pattern::Choice(members) => {
+            let members = copied(alloc, members.as_slice())?;
+            ways_of_choice(alloc, grammar, table, kind, members.as_slice())
+        }
+        Pattern::Group(first, second) => {
+            let (first, second) = (*first, *second);
+            ways_of_group(alloc, grammar, table, kind, first, second)
+        }
+        Pattern::Interleave(first, second) => {
+            let (first, second) = (*first, *second);
+            ways_of_both(
+                alloc,
+                grammar,
+                table,
+                kind,
+                Joint::Interleave,
+                first,
+                second,
+            )
+        }
+        Pattern::OneOrMore(body) => {
+            let body = *body;
+            ways_of_copies(alloc, grammar, table, kind, number, body)
+        }
+        _ => ways_of_leaf(alloc, grammar, table, kind, number),
+    }
+}
+
+/// A copy of numbers.
+pub fn copied(alloc: Global, numbers: &[PatternNumber]) -> Result<Vec<PatternNumber>, OutOfMemory>
+    ensures { IfOk result (λ copy. copy.items ≡ numbers.now) }
+{
+    let mut copy = Vec::new(alloc);
+    copy.extend_from_slice(numbers)?;
+    Ok(copy)
+}
+
+/// The ways of a choice of these members.
+#[cycle(ways)]
+fn ways_of_choice(
+    alloc: Global,
+    grammar: &SimpleGrammar,
+    table: &mut PatternTable,
+    kind: Kind,
+    members: &[PatternNumber],
+) -> Result<Vec<Way>, OutOfMemory>
+    requires inside { All (λ m. m.0 < length table.old) members.now }
+    requires two { 2 ≤ length members.now }
+    ensures longer { OnOk result (Longer table.old table.new) }
+    ensures ways { IfOk result (λ ws. AreWaysOf grammar.now table.new kind.entry (choice_over (tree_of grammar.now table.old)
+        (map (λ m. m.0) members.now)) ws.items) }
+{
+    let mut all = Vec::new(alloc);
+    'members: for member in members {
+        let ways = ways(alloc, grammar, table, kind, *member)?;
+        add_filled(alloc, table, Hole::Whole, ways.as_slice(), &mut all)?;
+    }
+    Ok(all)
+}
+
+/// The ways of a group.
+#[cycle(ways)]
+fn ways_of_group(
+    alloc: Global,
+    grammar: &SimpleGrammar,
+    table: &mut PatternTable,
+    kind: Kind,
+    first: PatternNumber,
+    second: PatternNumber,
+) -> Result<Vec<Way>, OutOfMemory>
+    requires first { first.0 < length table.old }
+    requires second { second.0 < length table.old }
+    ensures longer { OnOk result (Longer table.old table.new) }
+    ensures ways { IfOk result (λ ws. AreWaysOf grammar.now table.new kind.entry
+        (s_joined group (tree_of grammar.now table.old first.0) (tree_of grammar.now table.old second.0)) ws.items) }
+{
+    if let Kind::Attribute(_) = kind {
+        return ways_of_both(alloc, grammar, table, kind, Joint::Group, first, second);
+    }
+    let Some((outer, inner)) = opened(table, first) else {
+        return item_ways_of_group(alloc, grammar, table, kind, first, second);
+    };
+    let rest = table.group(inner, second)?;
+    let whole = table.group(outer, rest)?;
+    ways(alloc, grammar, table, kind, whole)
+}
+
+/// The ways of a group to take an item first: those of its first side, and of the second where the first is nullable.
+#[cycle(ways)]
+fn item_ways_of_group(
+    alloc: Global,
+    grammar: &SimpleGrammar,
+    table: &mut PatternTable,
+    kind: Kind,
+    first: PatternNumber,
+    second: PatternNumber,
+) -> Result<Vec<Way>, OutOfMemory>
+    requires kind { IsOfItems kind }
+    requires first { first.0 < length table.old }
+    requires second { second.0 < length table.old }
+    ensures longer { OnOk result (Longer table.old table.new) }
+    ensures ways { IfOk result (λ ws. AreWaysOf grammar.now table.new kind.entry
+        (s_joined group (tree_of grammar.now table.old first.0) (tree_of grammar.now table.old second.0)) ws.items) }
+{
+    let firsts = ways(alloc, grammar, table, kind, first)?;
+    let mut all = Vec::new(alloc);
+    add_filled(
+        alloc,
+        table,
+        Hole::First(Joint::Group, second),
+        firsts.as_slice(),
+        &mut all,
+    )?;
+    if !table.facts(first).nullable {
+        return Ok(all);
+    }
+    let seconds = ways(alloc, grammar, table, kind, second)?;
+    add_filled(alloc, table, Hole::Whole, seconds.as_slice(), &mut all)?;
+    Ok(all)
+}
+
+/// The ways of two patterns joined, where either may come first: of each beside the other.
+#[cycle(ways)]
+fn ways_of_both(
+    alloc: Global,
+    grammar: &SimpleGrammar,
+    table: &mut PatternTable,
+    kind: Kind,
+    joint: Joint,
+    first: PatternNumber,
+    second: PatternNumber,
+) -> Result<Vec<Way>, OutOfMemory>
+    requires order { HasNoOrder kind joint }
+    requires first { first.0 < length table.old }
+    requires second { second.0 < length table.old }
+    ensures longer { OnOk result (Longer table.old table.new) }
+    ensures ways { IfOk result (λ ws. AreWaysOf grammar.now table.new kind.entry
+        (s_joined (connector_of joint) (tree_of grammar.now table.old first.0) (tree_of grammar.now table.old second.0)) ws.items) }
+{
+    let firsts = ways(alloc, grammar, table, kind, first)?;
+    let seconds = ways(alloc, grammar, table, kind, second)?;
+    let mut all = Vec::new(alloc);
+    add_filled(
+        alloc,
+        table,
+        Hole::First(joint, second),
+        firsts.as_slice(),
+        &mut all,
+    )?;
+    add_filled(
+        alloc,
+        table,
+        Hole::Second(joint, first),
+        seconds.as_slice(),
+        &mut all,
+    )?;
+    Ok(all)
+}
+
+/// The ways of a oneOrMore, which has this number, with this body: those of a copy, with more copies behind it.
+#[cycle(ways)]
+fn ways_of_copies(
+    alloc: Global,
+    grammar: &SimpleGrammar,
+    table: &mut PatternTable,
+    kind: Kind,
+    number: PatternNumber,
+    body: PatternNumber,
+) -> Result<Vec<Way>, OutOfMemory>
+    requires number { number.0 < length table.old }
+    requires body { body.0 < length table.old }
+    requires copies { tree_of grammar.now table.old number.0 ≡ s_one_or_more (tree_of grammar.now table.old body.0) }
+    ensures longer { OnOk result (Longer table.old table.new) }
+    ensures ways { IfOk result (λ ws. AreWaysOf grammar.now table.new kind.entry (tree_of grammar.now table.old number.0) ws.items) }
+{
+    let copies = ways(alloc, grammar, table, kind, body)?;
+    let empty = table.empty()?;
+    let more = table.choice(alloc, &[number, empty])?;
+    let mut all = Vec::new(alloc);
+    add_filled(
+        alloc,
+        table,
+        Hole::First(Joint::Group, more),
+        copies.as_slice(),
+        &mut all,
+    )?;
+    Ok(all)
+}
