@@ -8,7 +8,7 @@ use Rattle.rng_model.specs.declared.simple.Simple.{Simple}
 use Rattle.rng_graph.specs.InTwos.{nested}
 use Rattle.rng_simple.specs.Copying.{AreCopied, listed_at, place_of, tree_numbered}
 use Rattle.rng_simple.specs.LabelCodes.{class_code, codes_of, datatype_code, value_code}
-use Rattle.rng_simple.specs.Representation.{simple_renamed}
+use Rattle.rng_simple.specs.Renamed.{simple_renamed}
 use Rattle.rng_simple.specs.RowTable.{AreCoded, IsRowTable, labels_of, row_count, value_of}
 use Rattle.rng_simple.specs.Rows.{AreDistinctRows, no_datatype, tree_at}
 use Rattle.rng_simple.specs.declared.row_table.RowTable.{RowTable}
