@@ -52,6 +52,10 @@ IsProgressInside trees (progress.Going p line) = IsPositionInside trees p
 IsProgressInside trees (progress.Failed line) = ⊤
 IsProgressInside trees progress.Lost = ⊤
 
+-- memory was wanting
+abbrev pub IsLost : Progress → Type 0
+IsLost p = p ≡ progress.Lost
+
 -- what is known stands for the events
 abbrev pub IsKnown : Reading → List (Simple ℕ) → Progress → List Event → Type 0
 IsKnown g trees (progress.Going p line) es = HasCome g trees p line es

@@ -1,12 +1,13 @@
 // The matcher.
-ghost use Rattle.std.specs.Prelude.{◌≡◌, ◌↔◌, ℕ, List, [], IfOk, map};
+ghost use Rattle.std.specs.Prelude.{◌≡◌, ◌↔◌, ℕ, List, [], ◌∷◌, ◌++◌, IfOk, IsErr, OnErr, OnOk, map};
+ghost use Rattle.rng_model.specs.EventView.{event_of};
 ghost use Rattle.rng_model.specs.Document.{Item};
 ghost use Rattle.rng_model.specs.PyxTrees as trees;
 ghost use Rattle.rng_model.specs.PyxTrees.{IsPyxDocument, Placed, events_of};
 ghost use Rattle.rng_matching.specs.Taking.{Takes};
 ghost use Rattle.rng_matcher.specs.Numbers.{IsInside, tree_of};
 ghost use Rattle.rng_matcher.specs.Outcomes.{IsOutcome};
-ghost use Rattle.rng_matcher.specs.Positions.{IsKnown};
+ghost use Rattle.rng_matcher.specs.Positions.{IsKnown, IsLost};
 
 use crate::derivatives::Derivatives;
 use crate::ends::some_end;
@@ -69,8 +70,9 @@ impl<D: Derivatives + Drop> Matcher<D> {
 
     /// What is to be said of the document whose events were told. The error is want of memory.
     pub fn finish(self) -> Result<Outcome, OutOfMemory>
-        ensures { IfOk result (λ o. (bytes : List ℕ) (d : Placed) → IsPyxDocument bytes d → IsKnown (D.reading self.0) (D.trees self.0) self.1 (events_of d)
+        ensures outcome { IfOk result (λ o. (bytes : List ℕ) (d : Placed) → IsPyxDocument bytes d → IsKnown (D.reading self.0) (D.trees self.0) self.1 (events_of d)
             → IsOutcome (D.reading self.0) d o) }
+        ensures again { IsLost self.1 → IsErr result }
     {
         let Matcher {
             derivatives,
@@ -90,12 +92,24 @@ impl<D: Derivatives + Drop> Matcher<D> {
     }
 }
 
+impl<D: Derivatives + Drop> Matcher<D> {
+    /// Takes the next event. The error is want of memory, and so it is after one.
+    fn take(&mut self, event: Event<'_>) -> Result<(), OutOfMemory>
+        ensures known { OnOk result ((events : List trees.Event) → IsKnown (D.reading self.old.0) (D.trees self.old.0) self.old.1 events
+            → IsKnown (D.reading self.new.0) (D.trees self.new.0) self.new.1 (events ++ event_of event.entry ∷ [])) }
+        ensures lost { OnErr result (IsLost self.new.1) }
+        ensures again { IsLost self.old.1 → IsErr result }
+    {
+        let progress = mem::replace(&mut self.progress, Progress::Lost);
+        self.progress = progress_after(&mut self.derivatives, self.alloc, progress, event)?;
+        Ok(())
+    }
+}
+
 impl<D: Derivatives + Drop> Events for Matcher<D> {
     ghost stands = { λ m events. IsKnown (D.reading m.0) (D.trees m.0) m.1 events };
 
     fn event(&mut self, event: Event<'_>) -> Result<(), OutOfMemory> {
-        let progress = mem::replace(&mut self.progress, Progress::Lost);
-        self.progress = progress_after(&mut self.derivatives, self.alloc, progress, event)?;
-        Ok(())
+        self.take(event)
     }
 }

@@ -1,11 +1,11 @@
 // What is known of a document, event by event.
-ghost use Rattle.std.specs.Prelude.{◌≡◌, ℕ, All, IfOk, OnOk};
+ghost use Rattle.std.specs.Prelude.{◌≡◌, ℕ, All, IfOk, IsErr, OnOk};
 ghost use Rattle.std.specs.List.{list_all};
 ghost use Rattle.rng_model.specs.EventView.{event_of, kind_of};
 ghost use Rattle.rng_model.specs.PyxTrees as trees;
 ghost use Rattle.rng_matching.specs.Derivatives.{is_not_allowed};
 ghost use Rattle.rng_matcher.specs.Numbers.{IsInside, tree_of};
-ghost use Rattle.rng_matcher.specs.Positions.{AddsProgress, AddsStep, HasCome, IsKnown, IsPositionInside, IsProgressInside};
+ghost use Rattle.rng_matcher.specs.Positions.{AddsProgress, AddsStep, HasCome, IsKnown, IsLost, IsPositionInside, IsProgressInside};
 
 use crate::derivatives::Derivatives;
 use crate::position::{Position, after_end, after_start, after_text};
@@ -89,6 +89,7 @@ pub fn progress_after<D: Derivatives>(
     ensures reading { OnOk result (D.reading derivatives.new ≡ D.reading derivatives.old) }
     ensures progress { IfOk result (λ p. AddsProgress (D.reading derivatives.old) (event_of event.entry)
         (IsKnown (D.reading derivatives.old) (D.trees derivatives.old) progress) (D.trees derivatives.new) p) }
+    ensures lost { IsLost progress → IsErr result }
 {
     match progress {
         Progress::Going { position, .. } => go_on(derivatives, alloc, position, event),

@@ -8,8 +8,8 @@ use Rattle.rng_matcher.specs.Positions.{IsKnown}
 use Rattle.rng_matcher.proofs.Knowing.{failed, ends_valid, ends_invalid}
 use Rattle.rng_matcher.proofs.matcher.Matcher.finish.Goals as goal
 
-pub returns-then-some_end : goal.returns-then-some_end
-returns-then-some_end g c = λ bytes d is known.
+pub returns-then-some_end-clause-outcome : goal.returns-then-some_end-clause-outcome
+returns-then-some_end-clause-outcome g c = λ bytes d is known.
     let trees = g.D.Derivatives.trees in
     let reading = g.D.Derivatives.reading in
     let derivatives = c.self.inside.derivatives in
@@ -20,8 +20,8 @@ returns-then-some_end g c = λ bytes d is known.
     subst (λ m. IsValid (reading m.0) d) c.self.view_is
     (ends_valid (reading derivatives) (trees derivatives) c.in-Going.position c.in-Going.line bytes d is come some)
 
-pub returns-in-Going : goal.returns-in-Going
-returns-in-Going g c = λ bytes d is known.
+pub returns-in-Going-clause-outcome : goal.returns-in-Going-clause-outcome
+returns-in-Going-clause-outcome g c = λ bytes d is known.
     let trees = g.D.Derivatives.trees in
     let reading = g.D.Derivatives.reading in
     let derivatives = c.self.inside.derivatives in
@@ -32,8 +32,8 @@ returns-in-Going g c = λ bytes d is known.
     subst (λ m. ¬ (IsValid (reading m.0) d) × FailsAt (reading m.0) (events_of d) c.in-Going.line) c.self.view_is
     (ends_invalid (reading derivatives) (trees derivatives) c.in-Going.position c.in-Going.line bytes d is come none)
 
-pub returns-in-Failed : goal.returns-in-Failed
-returns-in-Failed g c = λ bytes d is known.
+pub returns-in-Failed-clause-outcome : goal.returns-in-Failed-clause-outcome
+returns-in-Failed-clause-outcome g c = λ bytes d is known.
     let trees = g.D.Derivatives.trees in
     let reading = g.D.Derivatives.reading in
     let derivatives = c.self.inside.derivatives in
