@@ -37,3 +37,4 @@ pub mod EventsAtFault
 pub mod Verdicts
 pub mod Finishing
 pub mod HeldBytes
+pub mod EventLines

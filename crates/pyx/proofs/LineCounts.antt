@@ -54,7 +54,7 @@ ended_within bytes s = if_within _ _ (is_some (behind 65 bytes)) _ _ (ok_within 
 pub tag_ended_keeps : (bytes : List ℕ) (s t : State) → (tag_ended bytes s).0 ≡ Ok t → (t.count ≡ s.count) × (tag_bytes t.tag ≤ tag_bytes s.tag)
 tag_ended_keeps bytes s t e = (ended_within bytes s).at t e
 
-text_within : (s : State) → Within s.count (tag_bytes s.tag) (text_ended s)
+pub text_within : (s : State) → Within s.count (tag_bytes s.tag) (text_ended s)
 unfolding text_ended
 text_within s = if_within _ _ _ _ _ (ok_within s.count _ s _ refl (omega arith)) (ok_within s.count _ _ _ refl (omega arith))
 
