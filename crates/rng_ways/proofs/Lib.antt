@@ -11,3 +11,6 @@ mod Bareness
 mod Closings
 mod Starts
 mod KnownTexts
+mod Behind
+mod Telling
+mod Pieces

@@ -19,7 +19,7 @@ use Rattle.rng_matching.proofs.Starts.{bodies_in, bodies_out}
 use Rattle.rng_patterns.specs.PatternTable.{Longer}
 use Rattle.rng_patterns.specs.declared.pattern.PatternNumber.{PatternNumber}
 use Rattle.rng_patterns.proofs.Trees.{Longer-length, tree_stays}
-use Rattle.rng_ways.specs.Kinds.{IsElementNamed, reading_of}
+use Rattle.rng_ways.specs.Kinds.{IsElementNamed, Obeys, reading_of}
 use Rattle.rng_ways.specs.Starting.{AreBodies, AreStarts, IsBodyOf, IsReady}
 use Rattle.rng_ways.specs.Ways.{AreInside, IsInside, way_by, ways_by}
 use Rattle.rng_ways.specs.declared.way.Way as numbered
@@ -267,4 +267,5 @@ ready_longer t old new numbers longer ready = record {
     same = λ i h g. subst (λ p. Same g p (tree_at t.patterns (record { 0 = i }))) (sym (tree_stays t old new _ longer (ready.taken.inside i h)))
         (ready.taken.same i h g);
   };
+  kept = λ place id h o. subst (Obeys place) (sym (tree_stays t old new _ longer (ready.taken.inside id.0 h))) (ready.kept place id h o);
 }

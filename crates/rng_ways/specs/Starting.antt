@@ -3,7 +3,8 @@ use Rattle.std.specs.Prelude.{◌≡◌, ◌↔◌, ℕ, ◌<◌, [], ◌∷◌,
 use Rattle.rng_model.specs.Names.{Name}
 use Rattle.rng_model.specs.Tree.{Simple}
 use Rattle.rng_model.specs.Document.{Attribute, Item, Items, an_element, list_of}
-use Rattle.rng_model.specs.Table.{IsTable, Table}
+use Rattle.rng_model.specs.Table.{IsTable, Table, tree_at}
+use Rattle.rng_model.specs.declared.simple.PatternId.{PatternId}
 use Rattle.rng_matching.specs.Reading.{body_of}
 use Rattle.rng_matching.specs.Taking.{Takes, Same}
 use Rattle.rng_matching.specs.Restricted.{IsRestricted, IsRestrictedBody}
@@ -15,8 +16,9 @@ use Rattle.rng_patterns.specs.Node.{Node}
 use Rattle.rng_patterns.specs.Taking.{AreTaken, tree_by}
 use Rattle.rng_patterns.specs.Trees.{tree_of}
 use Rattle.rng_patterns.specs.declared.pattern.PatternNumber.{PatternNumber}
-use Rattle.rng_ways.specs.Kinds.{reading_of}
+use Rattle.rng_ways.specs.Kinds.{Obeys, reading_of}
 use Rattle.rng_ways.specs.Ways.{AreInside, ways_by}
+use Rattle.rng_ways.specs.declared.way.Place.{Place}
 use Rattle.rng_ways.specs.declared.way.Way.{Way}
 
 -- the patterns of the grammar stand in the table, by these numbers
@@ -24,6 +26,8 @@ pub record IsReady (t : Table) (ns : List Node) (numbers : List PatternNumber) :
   pub grammar : IsTable t
   pub long : length numbers ≡ length t.patterns
   pub taken : AreTaken t ns numbers
+  -- and obey there what they obey in the grammar
+  pub kept : (place : Place) (id : PatternId) → id.0 < length numbers → Obeys place (tree_at t.patterns id) → Obeys place (tree_by t ns numbers id)
 
 -- the bodies of elements, as they stand in the table, obey the restrictions
 abbrev pub HasRestrictedBodies : Table → List Node → List PatternNumber → Type 0
