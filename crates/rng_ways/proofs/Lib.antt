@@ -14,3 +14,4 @@ mod KnownTexts
 mod Behind
 mod Telling
 mod Pieces
+mod Tags

@@ -8,6 +8,8 @@ use Rattle.rng_model.specs.View.{attribute_of}
 use Rattle.rng_matching.specs.Reading.{Reading}
 use Rattle.rng_matching.specs.Taking.{Takes}
 use Rattle.rng_matching.specs.Blanks.{IsBare}
+use Rattle.rng_matching.specs.LevelStates.{IsAfterTag}
+use Rattle.rng_matching.specs.Restricted.{IsRestricted}
 use Rattle.rng_matching.specs.Derivatives as tree
 use Rattle.rng_matching.specs.Ways.{EachWay, IsItemLeaf, IsAttributeLeaf}
 use Rattle.rng_patterns.specs.Choices.{SomeTakes}
@@ -77,3 +79,8 @@ pub record AreRests (t : Table) (old new : List Node) (first : First) (ways : Li
   pub takes : AreFor first (ways_by (tree_of t old) ways) → (xs : List Attribute) (ns : List Item) → SomeTakes (reading_of t) (tree_of t new) rests xs ns
       ↔ Offers (reading_of t) (ways_by (tree_of t old) ways) (attributes_of first) (items_of first) xs ns
   pub kept : AreFor first (ways_by (tree_of t old) ways) → All (λ m. Obeys (place_of first) (tree_of t new m.0)) rests
+
+-- the second number's pattern takes alone what the first one's takes with the attributes of a tag, where that is restricted
+pub record IsLeftOfTag (t : Table) (old new : List Node) (xs : List Attribute) (number rest : PatternNumber) : Type 0 where
+  pub inside : rest.0 < length new
+  pub law : IsRestricted (tree_of t old number.0) → IsAfterTag (reading_of t) xs (tree_of t old number.0) (tree_of t new rest.0)

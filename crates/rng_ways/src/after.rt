@@ -3,18 +3,20 @@ ghost use Rattle.std.specs.Prelude.{◌≡◌, ◌↔◌, ◌<◌, true, [], ◌
 ghost use Rattle.rng_model.specs.Blanks.{pieces};
 ghost use Rattle.rng_model.specs.Document.{a_text};
 ghost use Rattle.rng_model.specs.Table.{tree_at};
+ghost use Rattle.rng_model.specs.View.{attribute_of};
 ghost use Rattle.rng_model.specs.Texts.{is_blank};
 ghost use Rattle.rng_matching.specs.LevelStates.{IsAfterText};
 ghost use Rattle.rng_matching.specs.Restricted.{IsRestricted, MayBeListed};
 ghost use Rattle.rng_matching.specs.Taking.{Takes, WeaklyTakes};
 ghost use Rattle.rng_patterns.specs.PatternTable.{Longer};
 ghost use Rattle.rng_patterns.specs.Trees.{attribute_found, data_found, tree_of};
-ghost use Rattle.rng_ways.specs.After.{AreRests, AreWaysFor, IsLeft, TellsTaken};
+ghost use Rattle.rng_ways.specs.After.{AreRests, AreWaysFor, IsLeft, IsLeftOfTag, TellsTaken};
 ghost use Rattle.rng_ways.specs.Kinds.{reading_of};
 ghost use Rattle.rng_ways.specs.Starting.{IsReady};
 ghost use Rattle.rng_ways.specs.Ways.{AreInside};
 ghost use Rattle.rng_ways.specs.declared.way.First.TheVariants as firsts;
 
+use crate::closing::close;
 use crate::starting::number_at;
 use crate::texts::{allows, is_excepted, is_value};
 use crate::way::{First, Kind, Place, Way};
@@ -79,6 +81,31 @@ pub fn after_text(
         First::Text(Place::Content, text),
         number,
     )
+}
+
+/// What is left of a pattern after the attributes of a tag, once the tag is closed: it takes alone what the pattern takes with them.
+///
+/// RELAX NG Specification, sections 6.2 and 6.2.7, for patterns that obey section 7. The numbers are those of the grammar's
+/// patterns. The error is want of memory. Costs for each attribute the ways of the pattern to take one of its name, and the
+/// tests of their values; then a walk over the parts in which an attribute stands.
+pub fn after_tag(
+    alloc: Global,
+    grammar: &SimpleGrammar,
+    table: &mut PatternTable,
+    numbers: &[PatternNumber],
+    number: PatternNumber,
+    attrs: &[Attr],
+) -> Result<PatternNumber, OutOfMemory>
+    requires inside { number.0 < length table.old }
+    requires ready { IsReady grammar.now table.old numbers.now }
+    ensures longer { OnOk result (Longer table.old table.new) }
+    ensures after { IfOk result (IsLeftOfTag grammar.now table.old table.new (map attribute_of attrs.now) number) }
+{
+    let mut rest = number;
+    'attrs: for attr in attrs {
+        rest = after(alloc, grammar, table, numbers, First::Attribute(attr), rest)?;
+    }
+    close(alloc, table, rest)
 }
 
 /// What is left of a pattern once this has come first.

@@ -14,7 +14,7 @@ mod texts;
 mod way;
 mod ways;
 
-pub use after::after_text;
+pub use after::{after_tag, after_text};
 pub use closing::close;
 pub use starting::start;
 pub use way::Way;
