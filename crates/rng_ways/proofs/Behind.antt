@@ -111,6 +111,7 @@ no_rests t ns first rests e = subst (AreRests t ns ns first []) (sym e) (record 
 }) where
   none : (m : PatternNumber) → Contains [] m → ⊥
   none m (i, h, e) = omega (arith, h)
+
   nowhere : {A : Type 0} (w : Way) → Among w [] → A
   nowhere w a = elim a [ ]
 

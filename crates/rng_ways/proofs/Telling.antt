@@ -71,8 +71,8 @@ module _ (g : Reading) (place : Place) (s : Bor (List ℕ)) where
   pub tells_of_none : (l : Simple ℕ) → l ≡ no_data → TellsTaken g (firsts.Text place s) l false
   tells_of_none l is = subst (λ p. TellsTaken g (firsts.Text place s) p false) (sym is)
       (λ leaf o. (λ h. absurd (cc), λ w. nothing (as_list s_not_allowed w))) where
-    nothing : {A : Type 0} {ns : List Item} → Takes g s_not_allowed [] ns → A
-    nothing d = elim d [ ]
+        nothing : {A : Type 0} {ns : List Item} → Takes g s_not_allowed [] ns → A
+        nothing d = elim d [ ]
 
 pub tells_of_list : (g : Reading) (place : Place) (s : Bor (List ℕ)) (l p : Simple ℕ) (b : Bool) → place ≡ places.Content → l ≡ s_list p
     → (MayBeListed p → (b ≡ true) ↔ Takes g p [] (map a_text (g.tests.pieces s.now))) → TellsTaken g (firsts.Text place s) l b

@@ -1,4 +1,5 @@
-use Rattle.std.proofs.Common.{◌≡◌, ◌∙◌, ◌<◌, ◌+◌, ◌&&◌, ◌++◌, [], ◌∷◌, suc, List, Some, Bool, not, true, false, length, take, get_or, slice_get, option_copied, refl, sym, ap, subst, arith, rules}
+use Rattle.std.proofs.Common.{◌≡◌, ◌∙◌, ◌<◌, ◌+◌, ◌&&◌, ◌++◌, [], ◌∷◌, suc, List, Some, not, true, false, take}
+use Rattle.std.proofs.Common.{get_or, length, slice_get, option_copied, refl, sym, ap, subst, arith, rules}
 use Rattle.std.proofs.lemmas.Option.{slice_get_within}
 use Rattle.std.proofs.Math.Seq.{take-suc}
 use Rattle.std.specs.String.{string_bytes}
@@ -212,7 +213,8 @@ rests-ways-preserved t c =
       longer = Longer-trans old c.ways.table new inv.longer c.in_ok-takes.ensures.longer;
       rests = subst (λ (vs : List numbered.Way). AreRests t0 old new c.args.first vs c.if-branch.rests.items) (sym cut) (elim c.if-branch.branch [
         | rests-then-branch+in_ok-push w ↦ leaf_leaves t0 old c.ways.table new c.args.first (take i ws) (get_or ws i d) c.ways.rests.items inv.longer
-            c.in_ok-takes.ensures.longer inside inv.rests c.in_ok-takes.field-0 c.if-branch.rests.items w.if-branch.true (search rules) c.in_ok-takes.ensures.taken
+            c.in_ok-takes.ensures.longer inside inv.rests c.in_ok-takes.field-0 c.if-branch.rests.items
+            w.if-branch.true (search rules) c.in_ok-takes.ensures.taken
         | rests-else-branch w ↦ subst (λ (rs : List PatternNumber). AreRests t0 old new c.args.first (take i ws ++ get_or ws i d ∷ []) rs) (search rules)
             (leaf_leaves_none t0 old c.ways.table new c.args.first (take i ws) (get_or ws i d) c.ways.rests.items inv.longer
             c.in_ok-takes.ensures.longer inside inv.rests c.in_ok-takes.field-0 w.if-branch.false c.in_ok-takes.ensures.taken)
