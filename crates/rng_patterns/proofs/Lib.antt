@@ -4,4 +4,5 @@ mod KnownFacts
 mod Rows
 mod PatternKinds
 pub mod Choices
+pub mod Alternatives
 pub mod Taking
