@@ -5,4 +5,6 @@ mod Rows
 mod PatternKinds
 pub mod Choices
 pub mod Alternatives
+mod Contents
+mod Keeping
 pub mod Taking
