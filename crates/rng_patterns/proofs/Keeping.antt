@@ -13,7 +13,7 @@ use Rattle.rng_model.specs.declared.simple.Simple as rows
 use Rattle.rng_model.specs.declared.simple.Simple.TheVariants as simple
 use Rattle.rng_matching.specs.Derivatives.{is_empty, is_not_allowed, joined_of, repeat_of}
 use Rattle.rng_matching.specs.Restricted.{HasNoAttribute, HasNoneGrouped, RepeatsWell, HasTexts, MayBeListed, content_type, type_of_both, type_of_choice, IsTyped}
-use Rattle.rng_patterns.specs.Kept.{AreKept, AreRestrictedAlike, HasContentWithin, IsChoiceOf, IsMadeOver, KeepsRestrictions}
+use Rattle.rng_patterns.specs.Kept.{AreKept, AreRestrictedAlike, HasContentWithin, HasNoLists, IsChoiceOf, IsMadeOver, KeepsRestrictions}
 use Rattle.rng_patterns.specs.Node.{Node}
 use Rattle.rng_patterns.specs.PatternTable.{Longer}
 use Rattle.rng_patterns.specs.Taking.{AreTaken, tree_by}
@@ -50,6 +50,7 @@ kept_same p = record {
   ungrouped = λ h. h;
   repeats = λ h. h;
   texts = λ h. h;
+  unlisted = λ h. h;
   content = λ c e. inl (c, e, greater_itself c);
   not_allowed = λ e. e;
 }
@@ -113,6 +114,7 @@ group_kept p q made other h i = record {
       joined_has HasNoneGrouped group made other tt (ungrouped_if_bare made (h.bare o.0)) (ungrouped_if_bare other (i.bare o.1)) (h.bare o.0, i.bare o.1);
   repeats = λ o. joined_has RepeatsWell group made other tt (h.repeats o.0) (i.repeats o.1) (h.repeats o.0, i.repeats o.1);
   texts = λ o. joined_has (HasTexts MayBeListed) group made other tt (h.texts o.0) (i.texts o.1) (h.texts o.0, i.texts o.1);
+  unlisted = λ o. joined_has HasNoLists group made other tt (h.unlisted o.0) (i.unlisted o.1) (h.unlisted o.0, i.unlisted o.1);
   content = λ c e.
       let b = both_have (content_type p) (content_type q) c e in
       joined_content group made other b.0 b.1 c refl b.4 (h.content b.0 b.2) (i.content b.1 b.3);
@@ -127,6 +129,7 @@ interleave_kept p q made other h i = record {
       joined_has HasNoneGrouped interleave made other tt (ungrouped_if_bare made (h.bare o.0)) (ungrouped_if_bare other (i.bare o.1)) (h.bare o.0, i.bare o.1);
   repeats = λ o. joined_has RepeatsWell interleave made other tt (h.repeats o.0) (i.repeats o.1) (h.repeats o.0, i.repeats o.1);
   texts = λ o. joined_has (HasTexts MayBeListed) interleave made other tt (h.texts o.0) (i.texts o.1) (h.texts o.0, i.texts o.1);
+  unlisted = λ o. joined_has HasNoLists interleave made other tt (h.unlisted o.0) (i.unlisted o.1) (h.unlisted o.0, i.unlisted o.1);
   content = λ c e.
       let b = both_have (content_type p) (content_type q) c e in
       joined_content interleave made other b.0 b.1 c refl b.4 (h.content b.0 b.2) (i.content b.1 b.3);
@@ -139,6 +142,7 @@ repeat_kept p made h = record {
   ungrouped = λ o. repeat_has HasNoneGrouped made tt tt (h.ungrouped o);
   repeats = λ o. repeat_has RepeatsWell made tt tt (h.ungrouped o.0, h.repeats o.1);
   texts = λ o. repeat_has (HasTexts MayBeListed) made tt tt (h.texts o);
+  unlisted = λ o. repeat_has HasNoLists made tt tt (h.unlisted o);
   content = λ c e.
       let b = both_have (content_type p) (content_type p) c e in
       let one : b.1 ≡ b.0 = some_is b.1 b.0 (sym b.3 ∙ b.2) in
@@ -197,6 +201,8 @@ choice_kept p q made other whole h i is = record {
   repeats = λ o. choice_has RepeatsWell (record { of_both = λ p q h i. (h, i); sides = λ p q h. h }) made other whole tt is (h.repeats o.0) (i.repeats o.1);
   texts = λ o.
       choice_has (HasTexts MayBeListed) (record { of_both = λ p q h i. (h, i); sides = λ p q h. h }) made other whole tt is (h.texts o.0) (i.texts o.1);
+  unlisted = λ o.
+      choice_has HasNoLists (record { of_both = λ p q h i. (h, i); sides = λ p q h. h }) made other whole tt is (h.unlisted o.0) (i.unlisted o.1);
   content = λ c e.
       let b = both_members (content_type p) (content_type q) c e in
       choice_content made other whole c is
@@ -253,5 +259,6 @@ typed_kept p made h typed = ⊎_elim
 pub restricted_alike : (t : Table) (ns : List Node) (numbers : List PatternNumber) → AreKept t ns numbers → AreRestrictedAlike t ns numbers
 restricted_alike t ns numbers kept = record {
   restricted = λ id h o. let k = kept id.0 h in record { repeats = k.repeats o.repeats; texts = k.texts o.texts };
+  unlisted = λ id h o. (kept id.0 h).unlisted o;
   typed = λ id h o. typed_kept _ _ (kept id.0 h) o;
 }
