@@ -13,6 +13,7 @@ use Rattle.rng_model.specs.declared.simple.Simple as rows
 use Rattle.rng_model.specs.declared.simple.Simple.TheVariants as simple
 use Rattle.rng_matching.specs.Derivatives.{is_empty, is_not_allowed, joined_of, repeat_of}
 use Rattle.rng_matching.specs.Restricted.{HasNoAttribute, HasNoneGrouped, RepeatsWell, HasTexts, MayBeListed, content_type, type_of_both, type_of_choice, IsTyped}
+use Rattle.rng_matching.proofs.Hereditary.{none_is_ungrouped}
 use Rattle.rng_patterns.specs.Kept.{AreKept, AreRestrictedAlike, HasContentWithin, HasNoLists, IsChoiceOf, IsMadeOver, KeepsRestrictions}
 use Rattle.rng_patterns.specs.Node.{Node}
 use Rattle.rng_patterns.specs.PatternTable.{Longer}
@@ -27,21 +28,6 @@ use Rattle.rng_patterns.proofs.Contents.{both_have, both_members, both_within, g
 either_one : (Q : Simple ℕ → Type 0) (b : Bool) (p q : Simple ℕ) → Q p → Q q → Q (cond b p q)
 either_one Q true p q h k = h
 either_one Q false p q h k = k
-
-ungrouped_if_bare : (p : Simple ℕ) → HasNoAttribute p → HasNoneGrouped p
-ungrouped_if_bare s_not_allowed o = tt
-ungrouped_if_bare s_empty o = tt
-ungrouped_if_bare s_text o = tt
-ungrouped_if_bare (s_leaf k) o = tt
-ungrouped_if_bare (s_attribute c p) o = absurd o
-ungrouped_if_bare (s_list p) o = ungrouped_if_bare p o
-ungrouped_if_bare (s_data d) o = tt
-ungrouped_if_bare (s_data_except d p) o = ungrouped_if_bare p o
-ungrouped_if_bare (s_value d v) o = tt
-ungrouped_if_bare (s_one_or_more p) o = ungrouped_if_bare p o
-ungrouped_if_bare (s_joined choice p q) o = (ungrouped_if_bare p o.0, ungrouped_if_bare q o.1)
-ungrouped_if_bare (s_joined group p q) o = o
-ungrouped_if_bare (s_joined interleave p q) o = o
 
 -- a pattern that is taken as it is
 pub kept_same : (p : Simple ℕ) → KeepsRestrictions p p
@@ -111,7 +97,7 @@ group_kept : (p q made other : Simple ℕ) → KeepsRestrictions p made → Keep
 group_kept p q made other h i = record {
   bare = λ o. joined_has HasNoAttribute group made other tt (h.bare o.0) (i.bare o.1) (h.bare o.0, i.bare o.1);
   ungrouped = λ o.
-      joined_has HasNoneGrouped group made other tt (ungrouped_if_bare made (h.bare o.0)) (ungrouped_if_bare other (i.bare o.1)) (h.bare o.0, i.bare o.1);
+      joined_has HasNoneGrouped group made other tt (none_is_ungrouped made (h.bare o.0)) (none_is_ungrouped other (i.bare o.1)) (h.bare o.0, i.bare o.1);
   repeats = λ o. joined_has RepeatsWell group made other tt (h.repeats o.0) (i.repeats o.1) (h.repeats o.0, i.repeats o.1);
   texts = λ o. joined_has (HasTexts MayBeListed) group made other tt (h.texts o.0) (i.texts o.1) (h.texts o.0, i.texts o.1);
   unlisted = λ o. joined_has HasNoLists group made other tt (h.unlisted o.0) (i.unlisted o.1) (h.unlisted o.0, i.unlisted o.1);
@@ -126,7 +112,7 @@ interleave_kept : (p q made other : Simple ℕ) → KeepsRestrictions p made →
 interleave_kept p q made other h i = record {
   bare = λ o. joined_has HasNoAttribute interleave made other tt (h.bare o.0) (i.bare o.1) (h.bare o.0, i.bare o.1);
   ungrouped = λ o.
-      joined_has HasNoneGrouped interleave made other tt (ungrouped_if_bare made (h.bare o.0)) (ungrouped_if_bare other (i.bare o.1)) (h.bare o.0, i.bare o.1);
+      joined_has HasNoneGrouped interleave made other tt (none_is_ungrouped made (h.bare o.0)) (none_is_ungrouped other (i.bare o.1)) (h.bare o.0, i.bare o.1);
   repeats = λ o. joined_has RepeatsWell interleave made other tt (h.repeats o.0) (i.repeats o.1) (h.repeats o.0, i.repeats o.1);
   texts = λ o. joined_has (HasTexts MayBeListed) interleave made other tt (h.texts o.0) (i.texts o.1) (h.texts o.0, i.texts o.1);
   unlisted = λ o. joined_has HasNoLists interleave made other tt (h.unlisted o.0) (i.unlisted o.1) (h.unlisted o.0, i.unlisted o.1);

@@ -1,10 +1,9 @@
 -- Strings that are asked as a whole: the pieces of a list, one after the other, and the value of an attribute.
-use Rattle.std.proofs.Common.{◌≡◌, ◌∙◌, ℕ, ◌<◌, ◌≤◌, ◌+◌, ◌↔◌, inl, inr, List, [], ◌∷◌, drop, get_or, length, map, slice_index_or, refl, sym, ap, subst}
+use Rattle.std.proofs.Common.{◌≡◌, ◌∙◌, ℕ, ◌<◌, ◌≤◌, ◌+◌, ◌↔◌, inl, inr, List, [], ◌∷◌, drop, get_or, length, map, slice_index_or, refl, sym, subst}
 use Rattle.std.proofs.Common.{Bool, true, false, ◌&&◌, ◌||◌, Bor}
 use Rattle.std.proofs.lemmas.List.{drop_all, drop_more}
-use Rattle.rng_model.specs.Tree.{Simple, choice, group, interleave, s_not_allowed, s_empty, s_text, s_leaf, s_attribute, s_list, s_data, s_data_except}
-use Rattle.rng_model.specs.Tree.{s_value, s_one_or_more, s_joined}
-use Rattle.rng_model.specs.Document.{Item, a_text, AllTexts, no_texts, text_and}
+use Rattle.rng_model.specs.Tree.{Simple}
+use Rattle.rng_model.specs.Document.{Item, a_text, no_texts, text_and}
 use Rattle.rng_model.specs.Table.{Table, tree_at}
 use Rattle.rng_model.specs.Texts.{is_blank}
 use Rattle.rng_model.specs.declared.simple.PatternId.{PatternId}
@@ -13,7 +12,7 @@ use Rattle.rng_matching.specs.Taking.{Takes, WeaklyTakes, Same}
 use Rattle.rng_matching.specs.Taking as t
 use Rattle.rng_matching.specs.Restricted.{IsRestricted, MayBeListed}
 use Rattle.rng_matching.specs.Blanks.{IsBare, strings_alone}
-use Rattle.rng_matching.proofs.Texts.{all_texts}
+use Rattle.rng_matching.proofs.Texts.{all_texts, no_lists}
 use Rattle.rng_matching.proofs.Tools.{both, either_left, either_right, in_both, in_either}
 use Rattle.rng_patterns.specs.Node.{Node}
 use Rattle.rng_patterns.specs.Taking.{tree_by}
@@ -33,22 +32,6 @@ bytes_in ss = map (λ (s : Bor (List ℕ)). s.now) ss
 abbrev pub texts_in : List (Bor (List ℕ)) → List Item
 texts_in ss = map a_text (bytes_in ss)
 
--- in a list no list stands
-listed_obeys : (p : Simple ℕ) → MayBeListed p → Obeys places.List p
-listed_obeys s_not_allowed o = tt
-listed_obeys s_empty o = tt
-listed_obeys s_text o = tt
-listed_obeys (s_leaf k) o = tt
-listed_obeys (s_attribute c p) o = absurd o
-listed_obeys (s_list p) o = o
-listed_obeys (s_data d) o = tt
-listed_obeys (s_data_except d p) o = o
-listed_obeys (s_value d v) o = tt
-listed_obeys (s_one_or_more p) o = listed_obeys p o
-listed_obeys (s_joined choice p q) o = (listed_obeys p o.0, listed_obeys q o.1)
-listed_obeys (s_joined group p q) o = (listed_obeys p o.0, listed_obeys q o.1)
-listed_obeys (s_joined interleave p q) o = absurd o
-
 pub one_piece_more : (t : Table) (old new : List Node) (rest next : PatternNumber) (whole : Simple ℕ) (ss : List (Bor (List ℕ))) (i : ℕ) (d : Bor (List ℕ))
     → i < length ss → IsLeft t old new (firsts.Text places.List (get_or ss i d)) rest next → Obeys places.List (tree_of t old rest.0)
     → (Takes (reading_of t) (tree_of t old rest.0) [] (texts_in (drop i ss)) ↔ Takes (reading_of t) whole [] (texts_in ss))
@@ -66,7 +49,7 @@ pub list_told : (t : Table) (old new : List Node) (numbers : List PatternNumber)
     → ((b ≡ true) ↔ Takes (reading_of t) (tree_of t new rest.0) [] []) → MayBeListed (tree_at t.patterns body)
     → (b ≡ true) ↔ Takes (reading_of t) (tree_at t.patterns body) [] (map a_text bytes)
 list_told t old new numbers body rest ss i bytes b ready inside past are takes nullable o =
-    let law = takes (ready.kept places.List body inside (listed_obeys (tree_at t.patterns body) o)) in
+    let law = takes (ready.kept places.List body inside (no_lists (tree_at t.patterns body) o)) in
     let same = ready.taken.same body.0 inside (reading_of t) in
     let Rest : List (Bor (List ℕ)) → Type 0 = λ l. Takes (reading_of t) (tree_of t new rest.0) [] (texts_in l) in
     let Whole : List (List ℕ) → Type 0 = λ l. Takes (reading_of t) (tree_at t.patterns body) [] (map a_text l) in

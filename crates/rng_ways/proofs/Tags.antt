@@ -1,24 +1,43 @@
 -- The attributes of a tag, one after the other.
-use Rattle.std.proofs.Common.{◌≡◌, ℕ, ◌<◌, ◌≤◌, ◌+◌, ◌↔◌, List, [], ◌∷◌, drop, get_or, length, map, refl, sym, subst, Bor}
+use Rattle.std.proofs.Common.{◌≡◌, ℕ, ◌<◌, ◌≤◌, ◌+◌, ◌↔◌, List, [], ◌∷◌, drop, get_or, length, map, sym, subst, Bor}
 use Rattle.std.proofs.lemmas.List.{drop_all, drop_more}
-use Rattle.rng_model.specs.Tree.{Simple}
+use Rattle.rng_model.specs.Tree.{Simple, s_not_allowed, s_empty, s_text, s_leaf, s_attribute, s_list, s_data, s_data_except}
+use Rattle.rng_model.specs.Tree.{s_value, s_one_or_more, s_joined}
 use Rattle.rng_model.specs.Document.{Attribute, Item}
 use Rattle.rng_model.specs.WellFormed.{Distinct, one_more}
 use Rattle.rng_model.specs.Table.{Table}
 use Rattle.rng_model.specs.View.{attribute_of}
 use Rattle.rng_model.specs.declared.document.Attr.{Attr}
 use Rattle.rng_matching.specs.Taking.{Takes}
-use Rattle.rng_matching.specs.Restricted.{IsRestricted}
+use Rattle.rng_matching.specs.Restricted.{HasNoAttribute, IsRestricted, RepeatsWell}
 use Rattle.rng_matching.proofs.Attributes.{closed_in, closed_out}
+use Rattle.rng_matching.proofs.Hereditary.{none_is_ungrouped}
 use Rattle.rng_patterns.specs.Node.{Node}
 use Rattle.rng_patterns.specs.PatternTable.{Longer}
 use Rattle.rng_patterns.specs.Trees.{tree_of}
 use Rattle.rng_patterns.specs.declared.pattern.PatternNumber.{PatternNumber}
 use Rattle.rng_patterns.proofs.Trees.{Longer-refl, Longer-trans}
 use Rattle.rng_ways.specs.After.{IsLeft, IsLeftOfTag}
-use Rattle.rng_ways.specs.Closing.{IsClosed}
+use Rattle.rng_ways.specs.Closing.{IsBareOfAttributes, IsClosed}
 use Rattle.rng_ways.specs.Kinds.{reading_of}
 use Rattle.rng_ways.specs.declared.way.First.TheVariants as firsts
+
+-- what has no attribute repeats none
+bare_repeats : (p : Simple ℕ) → HasNoAttribute p → RepeatsWell p
+bare_repeats s_not_allowed o = tt
+bare_repeats s_empty o = tt
+bare_repeats s_text o = tt
+bare_repeats (s_leaf k) o = tt
+bare_repeats (s_attribute c p) o = absurd o
+bare_repeats (s_list p) o = bare_repeats p o
+bare_repeats (s_data d) o = tt
+bare_repeats (s_data_except d p) o = bare_repeats p o
+bare_repeats (s_value d v) o = tt
+bare_repeats (s_one_or_more p) o = (none_is_ungrouped p o, bare_repeats p o)
+bare_repeats (s_joined k p q) o = (bare_repeats p o.0, bare_repeats q o.1)
+
+bare_restricted : (p : Simple ℕ) → IsBareOfAttributes p → IsRestricted p
+bare_restricted p bare = record { repeats = bare_repeats p bare.none; texts = bare.texts }
 
 abbrev pub seen : List Attr → List Attribute
 seen all = map attribute_of all
@@ -78,4 +97,5 @@ tag_behind t old before new all i number rest next past was closed = record {
         λ h. now.0 (subst Rest (sym none) (closed_out g (tree_of t before rest.0) ns (same.to [] ns h))),
         λ d. same.back [] ns (closed_in g (tree_of t before rest.0) ns (subst Rest none (now.1 d))),
       );
+  kept = λ o. bare_restricted _ (closed.bare t (was.kept o).texts);
 }

@@ -1,10 +1,10 @@
 -- Whether leaves take a string or an attribute, sort by sort.
-use Rattle.std.proofs.Common.{Bor, ◌≡◌, ◌∙◌, ℕ, ◌↔◌, ⊎_elim, inl, inr, List, [], ◌∷◌, map, refl, sym, ap, subst, Bool, true, false, not, ◌&&◌, Some}
+use Rattle.std.proofs.Common.{Bor, ◌≡◌, ◌∙◌, ℕ, ◌↔◌, List, [], ◌∷◌, map, refl, sym, subst, Bool, true, false, not, ◌&&◌, Some}
 use Rattle.rng_model.specs.Tree.{Simple, Datatype, s_not_allowed, s_empty, s_text, s_leaf, s_attribute, s_list, s_data, s_data_except, s_value, s_one_or_more}
 use Rattle.rng_model.specs.Tree.{s_joined}
 use Rattle.rng_model.specs.Names.{NameClass, some_of}
 use Rattle.rng_model.specs.Document.{Item, a_text, no_texts, text_and}
-use Rattle.rng_model.specs.Table.{Table, tree_at}
+use Rattle.rng_model.specs.Table.{Table}
 use Rattle.rng_model.specs.View.{attribute_of}
 use Rattle.rng_model.specs.declared.document.Attr.{Attr}
 use Rattle.rng_model.specs.declared.simple.Simple as row

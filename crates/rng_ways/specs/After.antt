@@ -80,7 +80,9 @@ pub record AreRests (t : Table) (old new : List Node) (first : First) (ways : Li
       ↔ Offers (reading_of t) (ways_by (tree_of t old) ways) (attributes_of first) (items_of first) xs ns
   pub kept : AreFor first (ways_by (tree_of t old) ways) → All (λ m. Obeys (place_of first) (tree_of t new m.0)) rests
 
--- the second number's pattern takes alone what the first one's takes with the attributes of a tag, where that is restricted
+-- the second number's pattern takes alone what the first one's takes with the attributes of a tag, where that is restricted, and
+-- is so itself
 pub record IsLeftOfTag (t : Table) (old new : List Node) (xs : List Attribute) (number rest : PatternNumber) : Type 0 where
   pub inside : rest.0 < length new
   pub law : IsRestricted (tree_of t old number.0) → IsAfterTag (reading_of t) xs (tree_of t old number.0) (tree_of t new rest.0)
+  pub kept : IsRestricted (tree_of t old number.0) → IsRestricted (tree_of t new rest.0)

@@ -1,22 +1,20 @@
 use Rattle.std.proofs.Common.{◌≡◌, ◌∙◌, ◌<◌, ◌+◌, ◌&&◌, ◌++◌, [], ◌∷◌, suc, List, Some, not, true, false, take}
-use Rattle.std.proofs.Common.{get_or, length, slice_get, option_copied, refl, sym, ap, subst, arith, rules}
+use Rattle.std.proofs.Common.{get_or, length, refl, sym, ap, subst, arith, rules}
 use Rattle.std.proofs.lemmas.Option.{slice_get_within}
 use Rattle.std.proofs.Math.Seq.{take-suc}
 use Rattle.std.specs.String.{string_bytes}
-use Rattle.rng_model.specs.Table.{Table, tree_at}
+use Rattle.rng_model.specs.Table.{tree_at}
 use Rattle.rng_model.specs.Texts.{is_blank}
 use Rattle.rng_model.specs.Types.{datatype_of}
 use Rattle.rng_model.specs.Patterns.{without_parameters}
-use Rattle.rng_model.specs.DatatypeTests.{text_tests}
 use Rattle.rng_model.specs.View.{class_of, name_of}
 use Rattle.rng_matching.specs.Derivatives.{is_excepted}
-use Rattle.rng_patterns.specs.PatternTable.{Longer}
 use Rattle.rng_patterns.specs.Taking.{tree_by}
 use Rattle.rng_patterns.specs.Trees.{attribute_found, data_found, tree_of}
 use Rattle.rng_patterns.specs.declared.pattern.PatternNumber.{PatternNumber}
 use Rattle.rng_patterns.proofs.Choices.{if_ok}
 use Rattle.rng_patterns.proofs.Trees.{Longer-length, Longer-refl, Longer-trans}
-use Rattle.rng_ways.specs.After.{AreRests, IsLeft, TellsTaken}
+use Rattle.rng_ways.specs.After.{AreRests, TellsTaken}
 use Rattle.rng_ways.specs.Kinds.{Obeys, reading_of}
 use Rattle.rng_ways.specs.Ways.{AreInside}
 use Rattle.rng_ways.specs.declared.way.First.TheVariants as firsts

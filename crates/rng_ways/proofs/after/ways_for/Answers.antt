@@ -1,8 +1,7 @@
-use Rattle.std.proofs.Common.{sym, subst, List, rules}
+use Rattle.std.proofs.Common.{sym, subst, rules}
 use Rattle.rng_patterns.proofs.Choices.{if_ok}
 use Rattle.rng_patterns.specs.Trees.{tree_of}
 use Rattle.rng_ways.specs.After.{AreWaysFor}
-use Rattle.rng_ways.specs.declared.way.Way as numbered
 use Rattle.rng_ways.proofs.Behind.{ways_for_attribute, ways_for_text}
 use Rattle.rng_ways.proofs.after.ways_for.Goals as goal
 
