@@ -3,3 +3,5 @@ pub mod Linked
 pub mod Opening
 pub mod Ending
 pub mod Stepping
+pub mod Positions
+pub mod Knowing

@@ -1,16 +1,25 @@
 -- Numbers of a table that grows.
-use Rattle.std.proofs.Common.{◌≡◌, ℕ, ◌<◌, ◌+◌, List, [], ◌∷◌, ◌++◌, length, map, take, refl, sym, ap, ◌∙◌, subst, All, arith, slice_index_or, append_assoc}
+use Rattle.std.proofs.Common.{◌≡◌, ℕ, ◌<◌, ◌+◌, List, [], ◌∷◌, ◌++◌, length, map, take, refl, sym, ap, ◌∙◌, subst, All, arith, slice_index_or, append_assoc, Result, Ok, Err, IfOk}
 use Rattle.std.proofs.lemmas.List.{length-append, get_or_append_left, take_more}
-use Rattle.std.proofs.lemmas.List.Elements.{All-weaker, All-take, All-push, AllZip-push, All-head, All-tail}
+use Rattle.std.proofs.lemmas.List.Elements.{All-weaker, All-take, All-push, AllZip-push, All-head, All-tail, All-nil, All-cons}
 use Rattle.std.specs.List.{AllZip}
 use Rattle.rng_model.specs.Tree.{Simple, s_not_allowed}
 use Rattle.rng_matching.specs.Reading.{Reading}
+use Rattle.rng_matching.specs.Restricted.{IsRestricted}
 use Rattle.rng_patterns.specs.declared.pattern.PatternNumber.{PatternNumber}
 use Rattle.rng_matcher.specs.Numbers.{Longer, IsInside, tree_of, Adds, AddsEach}
+
+pub ok_weaker : {A E : Type 0} (r : Result A E) (P Q : A → Type 0) → ((x : A) → P x → Q x) → IfOk r P → IfOk r Q
+ok_weaker (Ok x) P Q f h = f x h
+ok_weaker (Err e) P Q f h = tt
 
 pub append_nothing : {A : Type 0} (xs : List A) → xs ++ [] ≡ xs
 append_nothing [] = refl
 append_nothing (x ∷ xs) = ap (λ l. x ∷ l) (append_nothing xs)
+
+pub all_before : {A : Type 0} (P : A → Type 0) (xs : List A) (x : A) → All P (xs ++ x ∷ []) → All P xs
+all_before P [] x all = All-nil P
+all_before P (y ∷ xs) x all = All-cons P y xs (All-head P y (xs ++ x ∷ []) all) (all_before P xs x (All-tail P y (xs ++ x ∷ []) all))
 
 pub longer_same : (ts : List (Simple ℕ)) → Longer ts ts
 longer_same ts = ([], sym (append_nothing ts))
@@ -18,11 +27,14 @@ longer_same ts = ([], sym (append_nothing ts))
 pub longer_through : (a b c : List (Simple ℕ)) → Longer a b → Longer b c → Longer a c
 longer_through a b c l m = (l.0 ++ m.0, m.1 ∙ ap (λ x. x ++ m.0) l.1 ∙ append_assoc a l.0 m.0)
 
-pub inside_stays : (old new : List (Simple ℕ)) → Longer old new → (n : PatternNumber) → IsInside old n → IsInside new n
-inside_stays old new l n i = let e = ap length l.1 in let long = length-append old l.0 in omega (arith, i, e, long)
-
 pub tree_stays : (old new : List (Simple ℕ)) → Longer old new → (n : PatternNumber) → IsInside old n → tree_of new n ≡ tree_of old n
-tree_stays old new l n i = ap (λ ts. tree_of ts n) l.1 ∙ get_or_append_left old l.0 s_not_allowed n.0 i
+tree_stays old new l n i = ap (λ ts. tree_of ts n) l.1 ∙ get_or_append_left old l.0 s_not_allowed n.0 i.below
+
+pub inside_stays : (old new : List (Simple ℕ)) → Longer old new → (n : PatternNumber) → IsInside old n → IsInside new n
+inside_stays old new l n i = record {
+  below = let b = i.below in let e = ap length l.1 in let long = length-append old l.0 in omega (arith, b, e, long);
+  restricted = subst IsRestricted (sym (tree_stays old new l n i)) i.restricted;
+}
 
 pub all_inside_stay : (old new : List (Simple ℕ)) → Longer old new → (ns : List PatternNumber) → All (IsInside old) ns → All (IsInside new) ns
 all_inside_stay old new l ns all = All-weaker (IsInside old) (IsInside new) (inside_stays old new l) ns all

@@ -1,7 +1,7 @@
 -- The state at each tag, in a table that grows.
 use Rattle.std.proofs.Common.{◌≡◌, ◌↔◌, true, ℕ, ◌<◌, List, [], ◌∷◌, ◌++◌, length, map, fold, refl, sym, ap, ◌∙◌, subst, All, inr, Bool}
 use Rattle.std.specs.List.{AllZip}
-use Rattle.std.proofs.lemmas.List.Elements.{All-weaker, All-push, All-head, All-tail, All-nil, All-cons, All-contains, Contains-push}
+use Rattle.std.proofs.lemmas.List.Elements.{All-weaker, All-push, All-head, All-tail, All-contains, Contains-push}
 use Rattle.rng_model.specs.Names.{Name}
 use Rattle.rng_model.specs.Tree.{Simple}
 use Rattle.rng_model.specs.Document.{Attribute}
@@ -14,10 +14,10 @@ use Rattle.rng_matcher.specs.Levels.{link_of, IsLinkWithin, IsRestWithin, AddsOp
 use Rattle.rng_matcher.specs.States.{with_level, levels_of, state_of, IsLevelInside, IsStateInside, AddsState, EndsBy, EndsLevelBy}
 use Rattle.rng_matcher.specs.declared.state.Level.{Level}
 use Rattle.rng_matcher.specs.declared.state.State.{State}
-use Rattle.rng_matcher.proofs.Numbers.{longer_through, inside_stays, trees_stay}
+use Rattle.rng_matcher.proofs.Numbers.{longer_through, inside_stays, trees_stay, all_before}
 use Rattle.rng_matcher.proofs.Opening.{links_stay}
 
-level_stays : (old new : List (Simple ℕ)) → Longer old new → (l : Level) → IsLevelInside old l → IsLevelInside new l
+pub level_stays : (old new : List (Simple ℕ)) → Longer old new → (l : Level) → IsLevelInside old l → IsLevelInside new l
 level_stays old new longer l inside =
     All-weaker (IsRestWithin old l.around) (IsRestWithin new l.around) (λ k w. (w.0, inside_stays old new longer k.rest w.1)) l.links.items inside
 
@@ -90,7 +90,7 @@ pub ends : (g : Reading) (good : List Bool) (old new : List (Simple ℕ)) (s n :
     AddsEnded g good l.around old new l.links.items n.now.items → AddsState (EndsBy g good (state_of old s)) old new n
 ends g good old new s n l inside popped e =
     let all = subst (All (IsLevelInside old)) popped inside.levels in
-    let outer = levels_before old n.levels.items l all in
+    let outer = all_before (IsLevelInside old) n.levels.items l all in
     let inner = All-weaker (IsRestWithin old l.around) (λ k. IsInside old k.rest) (λ k w. w.1) l.links.items (All-contains (IsLevelInside old) _ l all
     (Contains-push n.levels.items l)) in
     record {
@@ -103,12 +103,7 @@ ends g good old new s n l inside popped e =
             ∙ ap (λ ls. map (link_of new) l.links.items ∷ ls) (sym (levels_stay old new e.longer n.levels.items outer));
         ended = e.ended;
       });
-    } where
-      levels_before : (trees : List (Simple ℕ)) (ls : List Level) (l : Level) → All (IsLevelInside trees) (ls ++ l ∷ []) → All (IsLevelInside trees) ls
-      levels_before trees [] l all = All-nil (IsLevelInside trees)
-      levels_before trees (k ∷ ls) l all =
-          All-cons (IsLevelInside trees) k ls (All-head (IsLevelInside trees) k (ls ++ l ∷ []) all)
-          (levels_before trees ls l (All-tail (IsLevelInside trees) k (ls ++ l ∷ []) all))
+    }
 
 -- with what the tests of the alternatives say, it is the end of a level
 pub ends_level : (g : Reading) (MayEnd : Simple ℕ → Type 0) (good : List Bool) (m n : LevelState) → AllZip (λ p b. (b ≡ true) ↔ MayEnd p) m.now good →

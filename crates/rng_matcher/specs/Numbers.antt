@@ -6,6 +6,7 @@ use Rattle.rng_model.specs.Tree.{Simple}
 use Rattle.rng_model.specs.Document.{Item}
 use Rattle.rng_matching.specs.Reading.{Reading}
 use Rattle.rng_matching.specs.Taking.{Takes}
+use Rattle.rng_matching.specs.Restricted.{IsRestricted}
 use Rattle.rng_matching.specs.Derivatives as tree
 use Rattle.rng_matching.specs.LevelStates.{AreStarts}
 use Rattle.rng_patterns.specs.Trees.{tree_in}
@@ -16,12 +17,13 @@ use Rattle.rng_matcher.specs.declared.derivatives.Way.{Way}
 abbrev pub Longer : List (Simple ℕ) → List (Simple ℕ) → Type 0
 Longer old new = (more : List (Simple ℕ)) × (new ≡ old ++ more)
 
--- the number is one of the table
-abbrev pub IsInside : List (Simple ℕ) → PatternNumber → Type 0
-IsInside trees n = n.0 < length trees
-
 abbrev pub tree_of : List (Simple ℕ) → PatternNumber → Simple ℕ
 tree_of trees n = tree_in trees n.0
+
+-- the number is one of the table, and its pattern obeys the restrictions (RELAX NG Specification, section 7)
+pub record IsInside (trees : List (Simple ℕ)) (n : PatternNumber) : Type 0 where
+  pub below : n.0 < length trees
+  pub restricted : IsRestricted (tree_of trees n)
 
 -- the pattern of this number, new or not, is so
 pub record Adds (Is : Simple ℕ → Type 0) (old new : List (Simple ℕ)) (n : PatternNumber) : Type 0 where

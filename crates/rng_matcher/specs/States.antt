@@ -3,7 +3,7 @@ use Rattle.std.specs.Prelude.{◌≡◌, ◌⊎◌, ℕ, List, [], ◌∷◌, Al
 use Rattle.rng_model.specs.Tree.{Simple}
 use Rattle.rng_matching.specs.Reading.{Reading}
 use Rattle.rng_matching.specs.LevelStates as level
-use Rattle.rng_matching.specs.LevelStates.{LevelState, AreEnded}
+use Rattle.rng_matching.specs.LevelStates.{LevelState, AreEnded, EndsLevel}
 use Rattle.rng_matcher.specs.Numbers.{Longer, IsInside, tree_of}
 use Rattle.rng_matcher.specs.Levels.{link_of, IsRestWithin}
 use Rattle.rng_matcher.specs.declared.state.Level.{Level}
@@ -42,3 +42,7 @@ pub record EndsLevelBy (g : Reading) (good : List Bool) (m n : LevelState) : Typ
 -- so it does, or none was open
 abbrev pub EndsBy : Reading → List Bool → LevelState → LevelState → Type 0
 EndsBy g good m n = (m.levels ≡ []) ⊎ EndsLevelBy g good m n
+
+-- an element ends, by the ways out of the alternatives that may end; or none was open
+abbrev pub EndsIf : Reading → (Simple ℕ → Type 0) → LevelState → LevelState → Type 0
+EndsIf g MayEnd m n = (m.levels ≡ []) ⊎ EndsLevel g MayEnd m n

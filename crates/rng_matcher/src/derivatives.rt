@@ -20,7 +20,8 @@ pub struct Way {
 
 /// Patterns by number, and what is left of them after an item, for a grammar that obeys the restrictions.
 ///
-/// RELAX NG Specification, sections 6.2 and 7. After want of memory nothing is known of the table.
+/// RELAX NG Specification, sections 6.2 and 7. Only patterns that obey the restrictions are asked, and what is answered obeys
+/// them. After want of memory nothing is known of the table.
 pub trait Derivatives {
     /// The grammar, with the tests of texts.
     ghost reading: { Self → Reading };

@@ -1,6 +1,6 @@
 // The end of an element.
 ghost use Rattle.std.specs.Prelude.{◌≡◌, ◌↔◌, ◌<◌, ◌||◌, ◌&&◌, All, IfOk, OnOk, Some, length, map, slice_get, true};
-ghost use Rattle.std.specs.List.{AllZip};
+ghost use Rattle.std.specs.List.{AllZip, list_any};
 ghost use Rattle.rng_matching.specs.LevelStates.{EndsNow};
 ghost use Rattle.rng_matching.specs.Derivatives.{is_nullable};
 ghost use Rattle.rng_matcher.specs.Levels.{AddsEnded, AreEndsWith, IsRestWithin, LeavesBy};
@@ -27,6 +27,19 @@ pub fn which_end<D: Derivatives>(
         good.push(derivatives.is_nullable(*pattern))?;
     }
     Ok(good)
+}
+
+/// Whether some alternative may end.
+pub fn some_end<D: Derivatives>(derivatives: &D, now: &[PatternNumber]) -> bool
+    requires { All (IsInside (D.trees derivatives.now)) now.now }
+    ensures { result ≡ list_any (λ p. is_nullable (tree_of (D.trees derivatives.now) p)) now.now }
+{
+    'alternatives: for pattern in now {
+        if derivatives.is_nullable(*pattern) {
+            return true;
+        }
+    }
+    false
 }
 
 /// Whether the pattern may end an element with a string alone, by what is left of it after the string.

@@ -5,10 +5,18 @@
 //! `Derivatives`.
 #![tactic(auto)]
 
+mod closing;
 mod derivatives;
 mod ends;
+mod held;
 mod levels;
 mod links;
+mod matcher;
+mod outcome;
+mod position;
+mod progress;
 mod state;
 
 pub use derivatives::{Derivatives, Way};
+pub use matcher::Matcher;
+pub use outcome::Outcome;

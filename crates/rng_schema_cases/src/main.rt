@@ -1,9 +1,11 @@
-//! Prints which clause the files in each row of `cases.txt` break first, a line a row.
+//! Prints which clause the files in each row break first, a line a row: in `components.txt` of the clauses 11 to 15, which are
+//! those of components, and in `schemas.txt` of all.
 //!
 //! A row has files, the name of each and its text. The first is the main one.
 #![tactic(auto)]
 
 use case_rows::{Row, rows};
+use rng_components::check_components;
 use rng_load::load;
 use rng_model::SchemaFault;
 use rng_rules::restrict;
@@ -12,16 +14,22 @@ use std::alloc::Global;
 use std::io;
 
 fn main(rt: HostRuntime) -> io::Result<()> {
-    for row in rows(&rt, "cases.txt")? {
-        print_answer(&rt, &row)?;
+    for row in rows(&rt, "components.txt")? {
+        let files = files_of(rt.alloc(), &row)?;
+        let checked = check_files(rt.alloc(), files.as_slice(), row.text(0)?);
+        print_answer(&rt, checked)?;
+    }
+    for row in rows(&rt, "schemas.txt")? {
+        let files = files_of(rt.alloc(), &row)?;
+        let judged = judge_files(rt.alloc(), files.as_slice(), row.text(0)?);
+        print_answer(&rt, judged)?;
     }
     Ok(())
 }
 
-/// Prints what is answered of the files of a row.
-fn print_answer(rt: &(impl Print + AllocGlobal), row: &Row) -> io::Result<()> {
-    let files = files_of(rt.alloc(), row)?;
-    match judged(rt.alloc(), files.as_slice(), row.text(0)?) {
+/// Prints which clause is broken, if one is.
+fn print_answer(rt: &impl Print, answer: Result<(), SchemaFault>) -> io::Result<()> {
+    match answer {
         Ok(()) => println!(rt; "none"),
         Err(SchemaFault::File { clause, name }) => println!(rt; "S{clause} {name}"),
         Err(SchemaFault::Clause(clause)) => println!(rt; "S{clause}"),
@@ -29,8 +37,14 @@ fn print_answer(rt: &(impl Print + AllocGlobal), row: &Row) -> io::Result<()> {
     }
 }
 
+/// The clause that the files break first, of those up to 15.
+fn check_files(alloc: Global, files: &[(String, Vec<u8>)], main: &str) -> Result<(), SchemaFault> {
+    let schema = load(alloc, files, main)?;
+    check_components(alloc, &schema)
+}
+
 /// The clause that the files break first.
-fn judged(alloc: Global, files: &[(String, Vec<u8>)], main: &str) -> Result<(), SchemaFault> {
+fn judge_files(alloc: Global, files: &[(String, Vec<u8>)], main: &str) -> Result<(), SchemaFault> {
     let schema = load(alloc, files, main)?;
     let grammar = simplify_schema(alloc, &schema)?;
     restrict(alloc, &grammar)
