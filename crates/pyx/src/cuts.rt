@@ -6,6 +6,7 @@ ghost use Rattle.pyx.specs.Cuts.{behind, at_byte};
 use memchr::memchr;
 
 /// What stands after this character in front.
+#[inline(always)]
 pub fn behind(kind: char, text: &str) -> Option<&str>
     requires { kind < 128 }
     ensures { option_map (λ x. x.now) result ≡ behind kind text.now }
@@ -14,6 +15,7 @@ pub fn behind(kind: char, text: &str) -> Option<&str>
 }
 
 /// What stands before the first of this character, and after it.
+#[inline(always)]
 pub fn cut_at(mark: u8, text: &str) -> Option<(&str, &str)>
     requires { mark < 128 }
     ensures { option_map (λ x. (x.0.now, x.1.now)) result ≡ at_byte mark text.now }

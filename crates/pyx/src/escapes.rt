@@ -79,6 +79,7 @@ fn replace(alloc: Global, text: &str) -> Result<String, LineFault>
 
 /// What a text stands for. Only a text with escapes is copied. Another escape, or a backslash at the end, breaks P5.
 #[tactic(auto, using(crate::proofs::ReplacedEscapes::unescaped_plain))]
+#[inline(always)]
 pub fn unescape(alloc: Global, text: &str) -> Result<Unescaped<'_>, LineFault>
     ensures { Gives clause_of value_of result (value_read (unescaped text.now)) }
 {

@@ -62,6 +62,7 @@ fn is_name(text: &str) -> bool
 }
 
 #[tactic(auto, unfolding(crate::specs::LineReader::attribute_of))]
+#[inline(always)]
 fn attribute(alloc: Global, text: &str) -> Result<Said<'_>, LineFault>
     ensures { Gives clause_of said_view result (attribute_of text.now) }
 {
@@ -76,6 +77,7 @@ fn attribute(alloc: Global, text: &str) -> Result<Said<'_>, LineFault>
 }
 
 #[tactic(auto, unfolding(crate::specs::LineReader::kind_of, crate::specs::LineReader::named, crate::specs::LineReader::text_of))]
+#[inline(always)]
 fn kind(alloc: Global, line: &str) -> Result<Said<'_>, LineFault>
     ensures { Gives clause_of said_view result (kind_of line.now) }
 {
@@ -129,6 +131,7 @@ fn read_bytes(alloc: Global, bytes: &[u8]) -> Result<Said<'_>, LineFault>
 }
 
 #[tactic(auto, unfolding(crate::specs::LineReader::said_of), using(crate::proofs::PlainTexts::good_text))]
+#[inline(always)]
 fn read_line(alloc: Global, line: Line<'_>) -> Result<Said<'_>, LineFault>
     requires { IsKnown line }
     ensures { Gives clause_of said_view result (said_of (line_of line.entry)) }
@@ -146,6 +149,7 @@ fn read_line(alloc: Global, line: Line<'_>) -> Result<Said<'_>, LineFault>
 }
 
 /// What this line says, or the least clause that it breaks by itself. Takes memory for a value or a text with escapes.
+#[inline(always)]
 pub fn said_of(alloc: Global, line: Line<'_>) -> Result<Said<'_>, LineFault>
     requires { IsKnown line }
     ensures said { Gives clause_of said_view result (said_of (line_of line.entry)) }

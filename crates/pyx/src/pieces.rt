@@ -124,6 +124,7 @@ impl Pieces {
 
     /// The line ends behind these bytes, which may be known as a text.
     #[tactic(auto, unfolding(crate::specs::Pieces::line_taken))]
+    #[inline(always)]
     fn line<E: Events>(
         &mut self,
         front: &[u8],
@@ -158,6 +159,7 @@ impl Pieces {
     }
 
     /// The line ends behind this text of plain bytes.
+    #[inline(always)]
     fn text_line<E: Events>(&mut self, text: &str, events: &mut E) -> Result<(), PyxFault>
         requires plain { list_all is_plain text.now ≡ true }
         requires begun { length self.old.begun.items ≤ 65536 }

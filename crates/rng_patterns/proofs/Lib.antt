@@ -4,4 +4,7 @@ mod KnownFacts
 mod Rows
 mod PatternKinds
 pub mod Choices
+pub mod Alternatives
+mod Contents
+mod Keeping
 pub mod Taking

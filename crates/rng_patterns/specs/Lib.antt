@@ -4,3 +4,4 @@ pub mod Trees
 pub mod PatternTable
 pub mod Choices
 pub mod Taking
+pub mod Kept

@@ -78,3 +78,23 @@ HasAlternative (s_one_or_more p) s = s ≡ s_one_or_more p
 HasAlternative (s_joined choice p q) s = HasAlternative p s ⊎ HasAlternative q s
 HasAlternative (s_joined group p q) s = s ≡ s_joined group p q
 HasAlternative (s_joined interleave p q) s = s ≡ s_joined interleave p q
+
+-- notAllowed is no member of a choice (section 4.20)
+abbrev pub HasAllowedMembers : Simple ℕ → Type 0
+HasAllowedMembers s_not_allowed = ⊥
+HasAllowedMembers s_empty = ⊤
+HasAllowedMembers s_text = ⊤
+HasAllowedMembers (s_leaf k) = ⊤
+HasAllowedMembers (s_attribute c p) = ⊤
+HasAllowedMembers (s_list p) = ⊤
+HasAllowedMembers (s_data d) = ⊤
+HasAllowedMembers (s_data_except d p) = ⊤
+HasAllowedMembers (s_value d v) = ⊤
+HasAllowedMembers (s_one_or_more p) = ⊤
+HasAllowedMembers (s_joined choice p q) = HasAllowedMembers p × HasAllowedMembers q
+HasAllowedMembers (s_joined group p q) = ⊤
+HasAllowedMembers (s_joined interleave p q) = ⊤
+
+-- notAllowed stands for the whole or nowhere
+abbrev pub IsReducedChoice : Simple ℕ → Type 0
+IsReducedChoice p = (p ≡ s_not_allowed) ⊎ HasAllowedMembers p

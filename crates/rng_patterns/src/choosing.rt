@@ -4,12 +4,13 @@ ghost use Rattle.std.specs.List.{Contains};
 ghost use Rattle.std.specs.List.Sorted.{IsStrictlyIncreasing};
 ghost use Rattle.rng_model.specs.Document.{Attribute, Item};
 ghost use Rattle.rng_model.specs.Table.{Table};
-ghost use Rattle.rng_model.specs.Tree.{Simple};
+ghost use Rattle.rng_model.specs.Tree.{Simple, s_not_allowed};
+ghost use Rattle.rng_matching.specs.Restricted.{IsRestricted, IsTyped};
 ghost use Rattle.rng_matching.specs.Reading.{Reading};
 ghost use Rattle.rng_matching.specs.Taking.{Takes};
 ghost use Rattle.rng_patterns.specs.Choices.{IsAlternativeOf, SomeTakes};
 ghost use Rattle.rng_patterns.specs.PatternTable.{Longer};
-ghost use Rattle.rng_patterns.specs.Reduced.{HasAlternative, MayBeMember};
+ghost use Rattle.rng_patterns.specs.Reduced.{HasAlternative, IsReducedChoice, MayBeMember};
 ghost use Rattle.rng_patterns.specs.Trees.{tree_of};
 ghost use Rattle.rng_patterns.specs.declared.pattern.PatternNumber.{PatternNumber};
 
@@ -22,7 +23,8 @@ impl PatternTable {
     /// A choice of the members; of none it is notAllowed, and of one that one. The order of members, and how often each
     /// is there, make no difference.
     ///
-    /// RELAX NG Specification, sections 6.2.1 and 4.20. The error is want of memory. Costs a sort of all alternatives.
+    /// RELAX NG Specification, sections 6.2.1 and 4.20. It obeys the restrictions of section 7 where all members do. The
+    /// error is want of memory. Costs a sort of all alternatives.
     pub fn choice(
         &mut self,
         alloc: Global,
@@ -35,6 +37,13 @@ impl PatternTable {
             → HasAlternative (tree_of t self.new n.0) s ↔ IsAlternativeOf (tree_of t self.old) members.now s) }
         ensures matches { IfOk result (λ n. (t : Table) (g : Reading) (xs : List Attribute) (ns : List Item)
             → Takes g (tree_of t self.new n.0) xs ns ↔ SomeTakes g (tree_of t self.old) members.now xs ns) }
+        ensures reduced { IfOk result (λ n. (t : Table) → IsReducedChoice (tree_of t self.new n.0)) }
+        ensures none { IfOk result (λ n. (t : Table) → ((s : Simple ℕ) → IsAlternativeOf (tree_of t self.old) members.now s → ⊥)
+            → tree_of t self.new n.0 ≡ s_not_allowed) }
+        ensures restricted { IfOk result (λ n. (t : Table) → All (λ m. IsRestricted (tree_of t self.old m.0)) members.now
+            → IsRestricted (tree_of t self.new n.0)) }
+        ensures typed { IfOk result (λ n. (t : Table) → All (λ m. IsTyped (tree_of t self.old m.0)) members.now
+            → IsTyped (tree_of t self.new n.0)) }
     {
         let mut alternatives = self.alternatives(alloc, members)?;
         put_in_order(&mut alternatives);
@@ -90,6 +99,7 @@ impl PatternTable {
         ensures inside { IfOk result (λ n. n.0 < length self.new) }
         ensures same { IfOk result (λ n. (t : Table) (s : Simple ℕ)
             → HasAlternative (tree_of t self.new n.0) s ↔ IsAlternativeOf (tree_of t self.old) alternatives.items s) }
+        ensures reduced { IfOk result (λ n. (t : Table) → IsReducedChoice (tree_of t self.new n.0)) }
     {
         if alternatives.len() > 1 {
             return self.number_of(Pattern::Choice(alternatives));

@@ -3,6 +3,7 @@ ghost use Rattle.std.specs.Prelude.{◌≡◌, ◌<◌, All, IfOk, Some, length,
 ghost use Rattle.rng_model.specs.Table.{AreChildrenBelow, Table};
 ghost use Rattle.rng_matching.specs.Reading.{Reading};
 ghost use Rattle.rng_matching.specs.Taking.{Same};
+ghost use Rattle.rng_patterns.specs.Kept.{AreRestrictedAlike, IsMadeOver};
 ghost use Rattle.rng_patterns.specs.PatternTable.{Longer};
 ghost use Rattle.rng_patterns.specs.Taking.{AreTaken, taken_over, tree_by};
 ghost use Rattle.rng_patterns.specs.Trees.{tree_of};
@@ -15,13 +16,15 @@ use std::alloc::Global;
 impl PatternTable {
     /// The patterns of a grammar in a table, and the number of each.
     ///
-    /// Each number's pattern takes what the grammar's does. The error is want of memory.
+    /// Each number's pattern takes what the grammar's does, and obeys the restrictions that the grammar's obeys (RELAX NG
+    /// Specification, section 7). The error is want of memory.
     pub fn of(
         alloc: Global,
         grammar: &SimpleGrammar,
     ) -> Result<(PatternTable, Vec<PatternNumber>), OutOfMemory>
         ensures long { IfOk result (λ r. length r.1.items ≡ length grammar.now.patterns) }
         ensures taken { IfOk result (λ r. AreTaken grammar.now r.0 r.1.items) }
+        ensures restricted { IfOk result (λ r. AreRestrictedAlike grammar.now r.0 r.1.items) }
     {
         let mut table = PatternTable::new(alloc);
         let mut numbers = Vec::new(alloc);
@@ -46,6 +49,8 @@ impl PatternTable {
         ensures inside { IfOk result (λ n. n.0 < length self.new) }
         ensures same { IfOk result (λ n. (t : Table) → slice_get t.patterns position.0 ≡ Some row.now → (g : Reading)
             → Same g (tree_of t self.new n.0) (taken_over t (tree_by t self.old numbers.now) row.now)) }
+        ensures made { IfOk result (λ n. (t : Table) → slice_get t.patterns position.0 ≡ Some row.now
+            → IsMadeOver t (tree_by t self.old numbers.now) row.now (tree_of t self.new n.0)) }
     {
         match row {
             Simple::NotAllowed => self.number_of(Pattern::NotAllowed),

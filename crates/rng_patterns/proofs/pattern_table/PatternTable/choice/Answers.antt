@@ -1,12 +1,14 @@
-use Rattle.std.proofs.Common.{◌<◌, ◌↔◌, ℕ, List, length}
+use Rattle.std.proofs.Common.{◌≡◌, ◌<◌, ◌↔◌, ℕ, All, List, Result, Ok, Err, IfOk, length}
 use Rattle.rng_model.specs.Document.{Attribute, Item}
 use Rattle.rng_model.specs.Table.{Table}
-use Rattle.rng_model.specs.Tree.{Simple}
+use Rattle.rng_model.specs.Tree.{Simple, s_not_allowed}
 use Rattle.rng_matching.specs.Reading.{Reading}
 use Rattle.rng_matching.specs.Taking.{Takes}
+use Rattle.rng_matching.specs.Restricted.{IsRestricted, IsTyped}
 use Rattle.rng_patterns.specs.Choices.{IsAlternativeOf, SomeTakes}
 use Rattle.rng_patterns.specs.Reduced.{HasAlternative, MayBeMember}
 use Rattle.rng_patterns.specs.Trees.{tree_of}
+use Rattle.rng_patterns.proofs.Alternatives.{choice_restricted, choice_typed, no_alternatives}
 use Rattle.rng_patterns.proofs.Choices.{all_within, as_sets, if_ok, takes_some}
 use Rattle.rng_patterns.proofs.pattern_table.PatternTable.choice.Goals as goal
 
@@ -44,3 +46,31 @@ returns-clause-matches c =
     → Takes g (tree_of t c.choice_of.new.self n.0) xs ks ↔ SomeTakes g (tree_of t ns) c.args.members.now xs ks)
     (λ n has t g xs ks. takes_some g (tree_of t ns) c.args.members.now (tree_of t c.choice_of.new.self n.0) (has t) xs ks)
     (returns-clause-alternatives c)
+
+both_ok : {X E : Type 0} (r : Result X E) (P Q R : X → Type 0) → ((x : X) → P x → Q x → R x) → IfOk r P → IfOk r Q → IfOk r R
+both_ok (Ok x) P Q R f h k = f x h k
+both_ok (Err e) P Q R f h k = tt
+
+pub returns-clause-none : goal.returns-clause-none
+returns-clause-none c =
+    let ns = c.args.self.now in
+    both_ok c.choice_of.result _ _
+    (λ n. (t : Table) → ((s : Simple ℕ) → IsAlternativeOf (tree_of t ns) c.args.members.now s → ⊥) → tree_of t c.choice_of.new.self n.0 ≡ s_not_allowed)
+    (λ n has reduced t. no_alternatives (tree_of t ns) c.args.members.now (tree_of t c.choice_of.new.self n.0) (reduced t) (λ s. (has t s).0))
+    (returns-clause-alternatives c) c.choice_of.ensures.reduced
+
+pub returns-clause-restricted : goal.returns-clause-restricted
+returns-clause-restricted c =
+    let ns = c.args.self.now in
+    both_ok c.choice_of.result _ _
+    (λ n. (t : Table) → All (λ m. IsRestricted (tree_of t ns m.0)) c.args.members.now → IsRestricted (tree_of t c.choice_of.new.self n.0))
+    (λ n has reduced t. choice_restricted (tree_of t ns) c.args.members.now (tree_of t c.choice_of.new.self n.0) (reduced t) (λ s. (has t s).0))
+    (returns-clause-alternatives c) c.choice_of.ensures.reduced
+
+pub returns-clause-typed : goal.returns-clause-typed
+returns-clause-typed c =
+    let ns = c.args.self.now in
+    both_ok c.choice_of.result _ _
+    (λ n. (t : Table) → All (λ m. IsTyped (tree_of t ns m.0)) c.args.members.now → IsTyped (tree_of t c.choice_of.new.self n.0))
+    (λ n has reduced t. choice_typed (tree_of t ns) c.args.members.now (tree_of t c.choice_of.new.self n.0) (reduced t) (λ s. (has t s).0))
+    (returns-clause-alternatives c) c.choice_of.ensures.reduced

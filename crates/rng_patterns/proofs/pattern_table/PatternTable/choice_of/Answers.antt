@@ -5,8 +5,9 @@ use Rattle.rng_model.specs.Tree.{Simple}
 use Rattle.rng_model.specs.Table.{Table}
 use Rattle.rng_patterns.specs.Choices.{IsAlternativeOf}
 use Rattle.rng_patterns.specs.PatternTable.{Adds}
-use Rattle.rng_patterns.specs.Reduced.{HasAlternative, MayBeMember}
+use Rattle.rng_patterns.specs.Reduced.{HasAlternative, IsReducedChoice, MayBeMember}
 use Rattle.rng_patterns.specs.Trees.{choice_over, tree_of}
+use Rattle.rng_patterns.proofs.Alternatives.{choice_reduced}
 use Rattle.rng_patterns.proofs.Choices.{if_ok, of_choice}
 use Rattle.rng_patterns.proofs.pattern_table.PatternTable.choice_of.Goals as goal
 
@@ -31,4 +32,14 @@ returns-then-len-gt1-clause-same c =
     (λ n. Adds ns c.number_of.new.self n.0 (λ t. choice_over (tree_of t ns) (map (λ m. m.0) ms)))
     (λ n. (t : Table) (s : Simple ℕ) → HasAlternative (tree_of t c.number_of.new.self n.0) s ↔ IsAlternativeOf (tree_of t ns) ms s)
     (λ n added t s. subst (λ p. HasAlternative p s ↔ IsAlternativeOf (tree_of t ns) ms s) (sym (added.is t)) (of_choice (tree_of t ns) ms s))
+    c.number_of.ensures.adds
+
+pub returns-then-len-gt1-clause-reduced : goal.returns-then-len-gt1-clause-reduced
+returns-then-len-gt1-clause-reduced c =
+    let ns = c.args.self.now in
+    let ms = c.args.alternatives.items in
+    if_ok c.number_of.result
+    (λ n. Adds ns c.number_of.new.self n.0 (λ t. choice_over (tree_of t ns) (map (λ m. m.0) ms)))
+    (λ n. (t : Table) → IsReducedChoice (tree_of t c.number_of.new.self n.0))
+    (λ n added t. subst IsReducedChoice (sym (added.is t)) (choice_reduced (tree_of t ns) ms (c.requires.members t)))
     c.number_of.ensures.adds

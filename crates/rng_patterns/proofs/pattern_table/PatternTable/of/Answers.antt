@@ -7,6 +7,8 @@ use Rattle.rng_matching.specs.Taking.{Same}
 use Rattle.rng_patterns.specs.Taking.{taken_over, tree_by}
 use Rattle.rng_patterns.specs.Trees.{tree_of}
 use Rattle.rng_patterns.specs.declared.pattern.PatternNumber.{PatternNumber}
+use Rattle.rng_patterns.specs.Kept.{IsMadeOver}
+use Rattle.rng_patterns.proofs.Keeping.{one_kept, restricted_alike}
 use Rattle.rng_patterns.proofs.Taking.{one_taken, past_end}
 use Rattle.rng_patterns.proofs.pattern_table.PatternTable.of.Goals as goal
 
@@ -23,12 +25,17 @@ rows-preserved c =
     let again : c.len.result ≡ c.len-in-Some.result = omega (arith, at, c.len-in-Some.ensures, c.rows.numbers.ok.0) in
     let Own : List PatternNumber → Type 0 = λ numbers. (g : Reading)
     → Same g (tree_of t c.take.new.self number.0) (taken_over t (tree_by t c.rows.table numbers) row) in
+    let Made : List PatternNumber → Type 0 = λ numbers. IsMadeOver t (tree_by t c.rows.table numbers) row (tree_of t c.take.new.self number.0) in
     record {
       within = omega (arith, inside, at, long);
       taken = one_taken t c.rows.table c.take.new.self numbers c.push.new.self.items number row c.rows.invariant.taken c.in_ok-take.ensures.longer
           c.in_ok-push.ensures.items c.in_ok-take.ensures.inside (subst (λ n. AreChildrenBelow n row) at c.in-Some.ensures.below)
           (subst (λ n. tree_at t.patterns (record { 0 = n }) ≡ tree_over (tree_at t.patterns) row) at c.in-Some.ensures.tree)
           (subst Own c.as_slice.ensures.value (c.in_ok-take.ensures.same t (subst (λ n. slice_get t.patterns n ≡ Some row) again found)));
+      kept = one_kept t c.rows.table c.take.new.self numbers c.push.new.self.items number row c.rows.invariant.taken c.rows.invariant.kept
+          c.in_ok-take.ensures.longer c.in_ok-push.ensures.items (subst (λ n. AreChildrenBelow n row) at c.in-Some.ensures.below)
+          (subst (λ n. tree_at t.patterns (record { 0 = n }) ≡ tree_over (tree_at t.patterns) row) at c.in-Some.ensures.tree)
+          (subst Made c.as_slice.ensures.value (c.in_ok-take.ensures.made t (subst (λ n. slice_get t.patterns n ≡ Some row) again found)));
     }
 
 pub returns-clause-long : goal.returns-clause-long
@@ -38,3 +45,6 @@ returns-clause-long c =
     let within = c.rows.invariant.within in
     let past = past_end c.args.grammar.now.patterns c.len.result (sym c.in_default.ensures.value) in
     omega (arith, at, within, past)
+
+pub returns-clause-restricted : goal.returns-clause-restricted
+returns-clause-restricted c = restricted_alike c.args.grammar.now c.rows.table c.rows.numbers.items c.rows.invariant.kept

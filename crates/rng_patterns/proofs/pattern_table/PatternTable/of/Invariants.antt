@@ -1,4 +1,5 @@
 use Rattle.std.proofs.Common.{◌≤◌, ◌-◌, length}
+use Rattle.rng_patterns.specs.Kept.{AreKept}
 use Rattle.rng_patterns.specs.Taking.{AreTaken}
 use Rattle.rng_patterns.proofs.pattern_table.PatternTable.of.Given as goal
 
@@ -6,6 +7,7 @@ abbrev pub invariant-rows : goal.invariant-rows
 invariant-rows l = record {
   within : length l.numbers.items ≤ length l.grammar.patterns;
   taken : AreTaken l.grammar l.table l.numbers.items;
+  kept : AreKept l.grammar l.table l.numbers.items;
 }
 
 abbrev pub decreases-rows : goal.decreases-rows
