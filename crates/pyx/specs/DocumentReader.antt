@@ -64,10 +64,14 @@ followed turn f = go_on turn.0 turn.1 f
 
 -- ---- what ends at a line
 
+-- the element of the tag is open
+abbrev pub opened_by : Tag → State → State
+opened_by t s = record s { tag = None; opened = record { name = t.name; declared = t.declared } ∷ s.opened }
+
 abbrev pub tag_closed : Result Element ℕ → Tag → State → Turn State
 tag_closed (Err clause) t s = fault clause s.count
 tag_closed (Ok e) t s = (
-  Ok (record s { tag = None; opened = record { name = t.name; declared = t.declared } ∷ s.opened }),
+  Ok (opened_by t s),
   record { line = s.count + 1; kind = a_start e.name e.attrs } ∷ [],
 )
 

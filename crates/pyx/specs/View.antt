@@ -1,5 +1,5 @@
 -- What the values of the code are, and what a call that may run out of memory answers.
-use Rattle.std.specs.Prelude.{◌≡◌, ℕ, List, [], ◌∷◌, ◌++◌, map, reverse, option_map, Result, Ok, Err, Option, Some, None, IfSome, true, string_bytes}
+use Rattle.std.specs.Prelude.{◌≡◌, ℕ, List, [], ◌∷◌, ◌++◌, map, reverse, if◌then◌else◌, Result, Ok, Err, Option, Some, None, IfSome, true, string_bytes}
 use Rattle.std.specs.List.{list_all}
 use Rattle.std.specs.Str.{chars}
 use Rattle.rng_model.specs.Characters.{is_xml_char}
@@ -91,7 +91,7 @@ tag_of t = record {
 
 abbrev pub state_of : State → reader.State
 state_of s = record {
-  tag = option_map tag_of s.tag;
+  tag = if s.in_tag then Some (tag_of s.tag) else None;
   opened = stack_of s.opened.items;
   joined = string_bytes s.joined;
   root = s.root;

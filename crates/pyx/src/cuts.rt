@@ -7,11 +7,14 @@ use memchr::memchr;
 
 /// What stands after this character in front.
 #[inline(always)]
-pub fn behind(kind: char, text: &str) -> Option<&str>
+pub fn behind(kind: u8, text: &str) -> Option<&str>
     requires { kind < 128 }
     ensures { option_map (λ x. x.now) result ≡ behind kind text.now }
 {
-    text.strip_prefix(kind)
+    match text.as_bytes() {
+        [first, ..] if *first == kind => Some(&text[1..]),
+        _ => None,
+    }
 }
 
 /// What stands before the first of this character, and after it.

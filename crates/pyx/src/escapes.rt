@@ -47,13 +47,13 @@ impl<'a> Unescaped<'a> {
 fn escape(text: &str) -> Option<(char, &str)>
     ensures { option_map (λ x. (x.0, x.1.now)) result ≡ escape_of text.now }
 {
-    if let Some(rest) = behind('n', text) {
+    if let Some(rest) = behind(b'n', text) {
         return Some(('\n', rest));
     }
-    if let Some(rest) = behind('t', text) {
+    if let Some(rest) = behind(b't', text) {
         return Some(('\t', rest));
     }
-    if let Some(rest) = behind('\\', text) {
+    if let Some(rest) = behind(b'\\', text) {
         return Some(('\\', rest));
     }
     None

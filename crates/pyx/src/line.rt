@@ -81,25 +81,25 @@ fn attribute(alloc: Global, text: &str) -> Result<Said<'_>, LineFault>
 fn kind(alloc: Global, line: &str) -> Result<Said<'_>, LineFault>
     ensures { Gives clause_of said_view result (kind_of line.now) }
 {
-    if let Some(name) = behind('(', line) {
+    if let Some(name) = behind(b'(', line) {
         if !is_name(name) {
             return Err(LineFault::Clause(6));
         }
         return Ok(Said::Start(name));
     }
-    if let Some(rest) = behind('A', line) {
+    if let Some(rest) = behind(b'A', line) {
         return attribute(alloc, rest);
     }
-    if let Some(text) = behind('-', line) {
+    if let Some(text) = behind(b'-', line) {
         return Ok(Said::Text(unescape(alloc, text)?));
     }
-    if let Some(name) = behind(')', line) {
+    if let Some(name) = behind(b')', line) {
         if !is_name(name) {
             return Err(LineFault::Clause(6));
         }
         return Ok(Said::End(name));
     }
-    if behind('?', line).is_some() {
+    if behind(b'?', line).is_some() {
         return Ok(Said::Instruction);
     }
     Err(LineFault::Clause(4))

@@ -28,33 +28,13 @@ pub struct Pieces {
     begun: Vec<u8>,
 }
 
-/// How many bytes stand before the first line feed.
-fn line_len(bytes: &[u8]) -> usize
-    ensures { result ≡ prefix_len is_within bytes.now }
-{
-    match memchr(b'\n', bytes) {
-        Some(len) => len,
-        None => bytes.len(),
-    }
-}
-
-fn first_and_rest(bytes: &[u8]) -> Option<(u8, &[u8])>
-    ensures { MatchOption result (bytes.now ≡ []) (λ x. bytes.now ≡ x.0 ∷ x.1.now) }
-{
-    match bytes {
-        [first, rest @ ..] => Some((*first, rest)),
-        [] => None,
-    }
-}
-
 /// The bytes before the first line feed, and those behind it.
 fn first_line(bytes: &[u8]) -> Option<(&[u8], &[u8])>
     ensures parts { option_map (λ x. (x.0.now, x.1.now)) result ≡ at_byte 10 bytes.now }
     ensures shorter { IfSome result (λ x. length x.0.now + length x.1.now < length bytes.now) }
 {
-    let (front, rest) = bytes.split_at(line_len(bytes));
-    match first_and_rest(rest) {
-        Some((_, after)) => Some((front, after)),
+    match memchr(b'\n', bytes) {
+        Some(at) => Some((&bytes[..at], &bytes[at + 1..])),
         None => None,
     }
 }

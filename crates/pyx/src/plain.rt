@@ -51,7 +51,7 @@ fn may_begin(byte: u8) -> bool
 fn may_follow(byte: u8) -> bool
     ensures { result ≡ may_follow byte }
 {
-    matches!(byte, b'-'..=b'.' | b'0'..=b'9' | b'A'..=b'Z' | b'_' | b'a'..=b'z')
+    (byte >= b'a' && byte <= b'z') || matches!(byte, b'-'..=b'.' | b'0'..=b'9' | b'A'..=b'Z' | b'_')
 }
 
 /// They may all stand in a name after its first.

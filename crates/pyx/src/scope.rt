@@ -18,6 +18,7 @@ use crate::written::{
 };
 use rng_model::{Attr, Name};
 use std::alloc::Global;
+use std::mem;
 
 /// An element whose end was not read.
 #[derive(Drop)]
@@ -103,6 +104,17 @@ fn outer_namespace<'a>(opened: &'a [OpenElement], prefix: Option<&str>) -> Optio
     }
 }
 
+/// Makes a name this one, in the buffers that it has.
+fn set_name(name: &mut Name, uri: &str, local: &str) -> Result<(), LineFault>
+    ensures { Gives clause_of (λ _. name_of name.new) result (Ok (record { ns = uri.now; local = local.now })) }
+{
+    name.ns.clear();
+    name.ns.push_str(uri)?;
+    name.local.clear();
+    name.local.push_str(local)?;
+    Ok(())
+}
+
 /// An expanded name.
 fn expanded_name(
     alloc: Global,
@@ -132,20 +144,15 @@ impl<'a> Scope<'a> {
 
     /// The expanded name of an element. A prefix that is not declared breaks P11.
     #[tactic(auto, unfolding(crate::specs::TagReader::element_name, crate::specs::LineReader::written_of))]
-    pub fn element_name(
-        self,
-        alloc: Global,
-        spares: &mut Spares,
-        name: &str,
-    ) -> Result<Name, LineFault>
-        ensures { Gives clause_of name_of result (resolved (element_name (scope_of self.entry) (written_of name.now))) }
+    pub fn element_name(self, written: &str, name: &mut Name) -> Result<(), LineFault>
+        ensures { Gives clause_of (λ _. name_of name.new) result (resolved (element_name (scope_of self.entry) (written_of written.now))) }
     {
-        let (prefix, local) = match cut_at(b':', name) {
+        let (prefix, local) = match cut_at(b':', written) {
             Some((prefix, local)) => (Some(prefix), local),
-            None => (None, name),
+            None => (None, written),
         };
         match self.namespace(prefix) {
-            Some(uri) => expanded_name(alloc, spares, uri, local),
+            Some(uri) => set_name(name, uri, local),
             None => Err(LineFault::Clause(11)),
         }
     }
@@ -169,16 +176,21 @@ impl<'a> Scope<'a> {
         }
     }
 
-    /// The attributes with their expanded names.
+    /// The attributes with their expanded names, in place of those before.
     pub fn attributes(
         self,
         alloc: Global,
         spares: &mut Spares,
-        others: Vec<WrittenAttribute>,
-    ) -> Result<Vec<Attr>, LineFault>
-        ensures { Gives clause_of (λ attrs. map attribute_of attrs.items) result (resolved (expanded (scope_of self.entry) (map written_attribute others.items))) }
+        others: &mut Vec<WrittenAttribute>,
+        attrs: &mut Vec<Attr>,
+    ) -> Result<(), LineFault>
+        ensures { Gives clause_of (λ _. map attribute_of attrs.new.items) result (resolved (expanded (scope_of self.entry) (map written_attribute others.old.items))) }
     {
-        let mut attrs = Vec::new(alloc);
+        spares.keep_all(attrs);
+        if others.as_slice().is_empty() {
+            return Ok(());
+        }
+        let others = mem::replace(others, Vec::new(alloc));
         'others: for attribute in others {
             let name = self.attribute_name(alloc, spares, attribute.name.as_str())?;
             spares.keep(attribute.name);
@@ -187,7 +199,7 @@ impl<'a> Scope<'a> {
                 value: attribute.value,
             })?;
         }
-        Ok(attrs)
+        Ok(())
     }
 }
 
@@ -227,7 +239,7 @@ pub struct Element {
     pub attrs: Vec<Attr>,
 }
 
-/// The element of a tag with this name, these declarations and these other `A` lines, inside the elements that are open.
+/// Makes an element that of a tag with this name, these declarations and these other `A` lines, inside the elements that are open.
 ///
 /// P11 is broken where a declaration is not allowed or a prefix is not declared, else P12 where two of its `A` lines
 /// have one name or two attributes one expanded name. Namespaces in XML 1.0, sections 3 to 6.
@@ -237,17 +249,18 @@ pub fn expand_element(
     scope: Scope<'_>,
     spares: &mut Spares,
     name: &str,
-    others: Vec<WrittenAttribute>,
-) -> Result<Element, LineFault>
-    ensures { Gives clause_of element_of result (tag_read (declared_in (stack_of scope.entry.opened.now)) (written_of name.now) (map written_attribute scope.entry.declarations.now) (map written_attribute others.items)) }
+    others: &mut Vec<WrittenAttribute>,
+    element: &mut Element,
+) -> Result<(), LineFault>
+    ensures { Gives clause_of (λ _. element_of element.new) result (tag_read (declared_in (stack_of scope.entry.opened.now)) (written_of name.now) (map written_attribute scope.entry.declarations.now) (map written_attribute others.old.items)) }
 {
     if any_forbidden(scope.declarations) {
         return Err(LineFault::Clause(11));
     }
-    let name = scope.element_name(alloc, spares, name)?;
-    let attrs = scope.attributes(alloc, spares, others)?;
-    if is_written_twice(scope.declarations) || is_named_twice(attrs.as_slice()) {
+    scope.element_name(name, &mut element.name)?;
+    scope.attributes(alloc, spares, others, &mut element.attrs)?;
+    if is_written_twice(scope.declarations) || is_named_twice(element.attrs.as_slice()) {
         return Err(LineFault::Clause(12));
     }
-    Ok(Element { name, attrs })
+    Ok(())
 }

@@ -1,8 +1,7 @@
 // Buffers that are used again.
-ghost use Rattle.std.specs.Prelude.{◌≡◌, IfOk, string_bytes};
+ghost use Rattle.std.specs.Prelude.{◌≡◌, [], IfOk, string_bytes};
 
-use crate::scope::Element;
-use rng_model::OutOfMemory;
+use rng_model::{Attr, OutOfMemory};
 use std::alloc::Global;
 
 /// How many buffers are kept, and how many bytes each may hold.
@@ -48,12 +47,11 @@ impl Spares {
         }
     }
 
-    /// Keeps the buffers of an element.
-    pub fn keep_element(&mut self, element: Element) {
-        let Element { name, attrs } = element;
-        self.keep(name.ns);
-        self.keep(name.local);
-        for attr in attrs {
+    /// Takes all attributes away, and keeps their buffers.
+    pub fn keep_all(&mut self, attrs: &mut Vec<Attr>)
+        ensures { attrs.new.items ≡ [] }
+    {
+        'attributes: while let Some(attr) = attrs.pop() {
             self.keep(attr.name.ns);
             self.keep(attr.name.local);
             self.keep(attr.value);

@@ -1,20 +1,21 @@
 // A document line by line.
-ghost use Rattle.std.specs.Prelude.{◌≡◌, ◌+◌, ◌<◌, ◌^◌, length, option_map};
+ghost use Rattle.std.specs.Prelude.{◌≡◌, ◌+◌, ◌<◌, ◌^◌, length, is_some, OnOk};
 ghost use Rattle.pyx.specs.DocumentReader as reader;
 ghost use Rattle.pyx.specs.DocumentReader.{declared_in};
 ghost use Rattle.pyx.specs.Held.{state_held};
 ghost use Rattle.pyx.specs.LineReader.{written_of};
-ghost use Rattle.pyx.specs.TagReader.{tag_read};
-ghost use Rattle.pyx.specs.View.{Adds, EndsBy, Hands, IsFault, IsKnown, Takes, tag_of, line_of, said_view, state_of, stack_of, value_of, open_of};
+ghost use Rattle.pyx.specs.TagReader.{declared_by, tag_read};
+ghost use Rattle.pyx.specs.View.{Adds, EndsBy, Hands, IsFault, IsKnown, Takes, tag_of, line_of, said_view, state_of, stack_of, value_of, open_of, written_attribute};
 
 use crate::escapes::Unescaped;
 use crate::fault::{LineFault, PyxFault};
 use crate::line::{Line, Said, said_of};
-use crate::scope::{OpenElement, Scope, expand_element, innermost, opened_len};
+use crate::scope::{Element, OpenElement, Scope, expand_element, innermost, opened_len};
 use crate::spares::Spares;
 use crate::written::{WrittenAttribute, declared_by, is_same};
-use rng_model::{Event, EventKind, Events};
+use rng_model::{Event, EventKind, Events, Name, OutOfMemory};
 use std::alloc::Global;
+use std::mem;
 
 /// How many `A` lines a tag may have.
 const ATTRIBUTE_LIMIT: usize = 256;
@@ -40,8 +41,12 @@ pub struct Tag {
 #[derive(Drop)]
 pub struct State {
     alloc: Global,
-    /// The tag that the last line belongs to.
-    tag: Option<Tag>,
+    /// The last line belongs to a tag.
+    in_tag: bool,
+    /// This tag, or buffers for the next.
+    tag: Tag,
+    /// Buffers for the start that a tag is.
+    element: Element,
     /// The elements that are open, the innermost last, without that of the tag.
     opened: Vec<OpenElement>,
     /// The text since the last tag.
@@ -52,13 +57,25 @@ pub struct State {
     spares: Spares,
 }
 
-/// How many bytes the lines of the tag have.
-fn tag_len(tag: &Option<Tag>) -> u64
-    ensures { result ≡ reader.tag_bytes (option_map tag_of tag.now) }
-{
-    match tag {
-        Some(tag) => tag.bytes,
-        None => 0,
+impl Tag {
+    /// One more `A` line, of so many bytes, which declares something or does not.
+    fn add(
+        &mut self,
+        bytes: u64,
+        declares: bool,
+        attribute: WrittenAttribute,
+    ) -> Result<(), OutOfMemory>
+        requires room { self.old.bytes + bytes < 2 ^ 64 }
+        requires declares { declares ≡ is_some (declared_by (written_attribute attribute).name) }
+        ensures { OnOk result (tag_of self.new ≡ reader.with_attribute bytes (written_attribute attribute) (tag_of self.old)) }
+    {
+        self.bytes += bytes;
+        if declares {
+            self.declarations.push(attribute)?;
+        } else {
+            self.others.push(attribute)?;
+        }
+        Ok(())
     }
 }
 
@@ -79,7 +96,20 @@ impl State {
     {
         State {
             alloc,
-            tag: None,
+            in_tag: false,
+            tag: Tag {
+                name: String::new(alloc),
+                declarations: Vec::new(alloc),
+                others: Vec::new(alloc),
+                bytes: 0,
+            },
+            element: Element {
+                name: Name {
+                    ns: String::new(alloc),
+                    local: String::new(alloc),
+                },
+                attrs: Vec::new(alloc),
+            },
             opened: Vec::new(alloc),
             joined: String::new(alloc),
             root: false,
@@ -93,8 +123,8 @@ impl State {
         ensures { result ≡ state_held (state_of self.now) }
     {
         let opened = opened_len(self.opened.as_slice());
-        tag_len(&self.tag)
-            .saturating_add(opened)
+        let tag = if self.in_tag { self.tag.bytes } else { 0 };
+        tag.saturating_add(opened)
             .saturating_add(self.joined.len() as u64)
     }
 
@@ -108,36 +138,48 @@ impl State {
         }
     }
 
+    /// The element of the tag is open.
+    fn open_tag(&mut self) -> Result<(), OutOfMemory>
+        ensures { OnOk result (state_of self.new ≡ reader.opened_by (tag_of self.old.tag) (state_of self.old)) }
+    {
+        let name = mem::replace(&mut self.tag.name, String::new(self.alloc));
+        let declarations = mem::replace(&mut self.tag.declarations, Vec::new(self.alloc));
+        self.opened.push(OpenElement { name, declarations })?;
+        self.in_tag = false;
+        Ok(())
+    }
+
     /// Hands out the start of the tag that was read, if there is one.
     fn close_tag<E: Events>(&mut self, events: &mut E) -> Result<(), PyxFault>
         requires { self.old.lines + 1 < 2 ^ 64 }
         ensures { Takes result (state_of self.new) (Hands E.stands events.old events.new) (reader.close_tag (state_of self.old).tag (state_of self.old)) }
     {
-        let Some(tag) = self.tag.take() else {
+        if !self.in_tag {
             return Ok(());
-        };
-        let Tag {
-            name,
-            declarations,
-            others,
-            ..
-        } = tag;
+        }
         let scope = Scope {
-            declarations: declarations.as_slice(),
+            declarations: self.tag.declarations.as_slice(),
             opened: self.opened.as_slice(),
         };
-        match expand_element(self.alloc, scope, &mut self.spares, name.as_str(), others) {
-            Ok(element) => {
+        let name = self.tag.name.as_str();
+        match expand_element(
+            self.alloc,
+            scope,
+            &mut self.spares,
+            name,
+            &mut self.tag.others,
+            &mut self.element,
+        ) {
+            Ok(()) => {
                 let kind = EventKind::Start {
-                    name: &element.name,
-                    attrs: element.attrs.as_slice(),
+                    name: &self.element.name,
+                    attrs: self.element.attrs.as_slice(),
                 };
                 events.event(Event {
                     line: self.lines + 1,
                     kind,
                 })?;
-                self.spares.keep_element(element);
-                self.opened.push(OpenElement { name, declarations })?;
+                self.open_tag()?;
                 Ok(())
             }
             Err(LineFault::Clause(clause)) => Err(self.fault(clause)),
@@ -185,12 +227,11 @@ impl State {
             return Err(self.fault(10));
         }
         self.end_text(events)?;
-        self.tag = Some(Tag {
-            name: self.spares.copy(self.alloc, name)?,
-            declarations: Vec::new(self.alloc),
-            others: Vec::new(self.alloc),
-            bytes,
-        });
+        self.tag.name = self.spares.copy(self.alloc, name)?;
+        self.tag.declarations.clear();
+        self.tag.others.clear();
+        self.tag.bytes = bytes;
+        self.in_tag = true;
         self.root = true;
         Ok(())
     }
@@ -201,23 +242,17 @@ impl State {
         requires { reader.tag_bytes (state_of self.old).tag + bytes < 2 ^ 64 }
         ensures { Adds result (state_of self.new) (reader.attributed bytes (record { name = written_of name.now; content = value_of value.entry }) (state_of self.old)) }
     {
-        let Some(mut tag) = self.tag.take() else {
+        if !self.in_tag {
             return Err(self.fault(7));
-        };
-        if tag.declarations.len() + tag.others.len() >= ATTRIBUTE_LIMIT {
+        }
+        if self.tag.declarations.len() + self.tag.others.len() >= ATTRIBUTE_LIMIT {
             return Err(self.fault(10));
         }
         let attribute = WrittenAttribute {
             name: self.spares.copy(self.alloc, name)?,
             value: value.into_string(self.alloc, &mut self.spares)?,
         };
-        if declared_by(name).is_some() {
-            tag.declarations.push(attribute)?;
-        } else {
-            tag.others.push(attribute)?;
-        }
-        tag.bytes += bytes;
-        self.tag = Some(tag);
+        self.tag.add(bytes, declared_by(name).is_some(), attribute)?;
         Ok(())
     }
 
@@ -302,21 +337,25 @@ impl State {
     {
         let State {
             alloc,
+            in_tag,
             tag,
+            element,
             opened,
             root,
             lines,
-            mut spares,
+            spares,
             ..
         } = self;
-        match tag {
-            Some(tag) => Err(unfinished(alloc, opened.as_slice(), &mut spares, tag, lines)),
-            None if root && opened.is_empty() => Ok(()),
-            None => Err(PyxFault::At {
-                clause: 13,
-                line: lines,
-            }),
+        if in_tag {
+            return Err(unfinished(alloc, opened.as_slice(), spares, tag, element, lines));
         }
+        if root && opened.is_empty() {
+            return Ok(());
+        }
+        Err(PyxFault::At {
+            clause: 13,
+            line: lines,
+        })
     }
 }
 
@@ -324,8 +363,9 @@ impl State {
 fn unfinished(
     alloc: Global,
     opened: &[OpenElement],
-    spares: &mut Spares,
+    mut spares: Spares,
     tag: Tag,
+    mut element: Element,
     line: u64,
 ) -> PyxFault
     ensures { IsFault result (reader.unfinished line (tag_read (declared_in (stack_of opened.now)) (tag_of tag).name (tag_of tag).declared (tag_of tag).others)) }
@@ -333,16 +373,17 @@ fn unfinished(
     let Tag {
         name,
         declarations,
-        others,
+        mut others,
         ..
     } = tag;
     let scope = Scope {
         declarations: declarations.as_slice(),
         opened,
     };
-    match expand_element(alloc, scope, spares, name.as_str(), others) {
+    let name = name.as_str();
+    match expand_element(alloc, scope, &mut spares, name, &mut others, &mut element) {
         Err(LineFault::Clause(clause)) => PyxFault::At { clause, line },
         Err(LineFault::Memory) => PyxFault::Memory,
-        Ok(_) => PyxFault::At { clause: 13, line },
+        Ok(()) => PyxFault::At { clause: 13, line },
     }
 }
