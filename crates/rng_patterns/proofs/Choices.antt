@@ -147,6 +147,13 @@ module _ (g : Reading) where
     λ d. let f = found_in (tree d.0.0) xs ns d.2 in by_alternative p f.tree xs ns ((has f.tree).1 (d.0, d.1, f.among)) f.takes,
   )
 
+  -- patterns whose alternatives are among those of others take no more
+  pub takes_within : (tree : ℕ → Simple ℕ) (ms ks : List PatternNumber) → ((s : Simple ℕ) → IsAlternativeOf tree ms s → IsAlternativeOf tree ks s)
+      → (xs : List Attribute) (ns : List Item) → SomeTakes g tree ms xs ns → SomeTakes g tree ks xs ns
+  takes_within tree ms ks within xs ns d =
+      let f = found_in (tree d.0.0) xs ns d.2 in
+      let a = within f.tree (d.0, d.1, f.among) in (a.0, a.1, by_alternative (tree a.0.0) f.tree xs ns a.2 f.takes)
+
 pub if_ok : {X E : Type 0} (r : Result X E) (P Q : X → Type 0) → ((x : X) → P x → Q x) → IfOk r P → IfOk r Q
 if_ok (Ok x) P Q f h = f x h
 if_ok (Err e) P Q f h = tt

@@ -5,6 +5,7 @@ mod Rows
 mod PatternKinds
 pub mod Choices
 pub mod Alternatives
+mod Absorbing
 mod Contents
 mod Keeping
 pub mod Taking

@@ -1,11 +1,14 @@
 -- The alternatives that patterns have among them.
-use Rattle.std.specs.Prelude.{ℕ, List}
+use Rattle.std.specs.Prelude.{ℕ, ◌<◌, List}
 use Rattle.std.specs.List.{Contains}
 use Rattle.rng_model.specs.Tree.{Simple}
 use Rattle.rng_model.specs.Document.{Attribute, Item}
+use Rattle.rng_model.specs.Table.{Table}
 use Rattle.rng_matching.specs.Reading.{Reading}
 use Rattle.rng_matching.specs.Taking.{Takes}
+use Rattle.rng_patterns.specs.Node.{Node}
 use Rattle.rng_patterns.specs.Reduced.{HasAlternative}
+use Rattle.rng_patterns.specs.Trees.{tree_of}
 use Rattle.rng_patterns.specs.declared.pattern.PatternNumber.{PatternNumber}
 
 -- the tree is an alternative of one of these patterns
@@ -15,3 +18,8 @@ IsAlternativeOf tree ms s = (m : PatternNumber) × Contains ms m × HasAlternati
 -- one of these patterns takes the attributes with the items
 abbrev pub SomeTakes : Reading → (ℕ → Simple ℕ) → List PatternNumber → List Attribute → List Item → Type 0
 SomeTakes g tree ms xs ns = (m : PatternNumber) × Contains ms m × Takes g (tree m.0) xs ns
+
+-- the second pattern stands above the first and takes all that it takes
+pub record IsAbsorbedBy (ns : List Node) (number other : PatternNumber) : Type 0 where
+  pub above : number.0 < other.0
+  pub takes : (t : Table) (g : Reading) (xs : List Attribute) (is : List Item) → Takes g (tree_of t ns number.0) xs is → Takes g (tree_of t ns other.0) xs is

@@ -1,5 +1,6 @@
 // Choices of patterns, as sets.
-ghost use Rattle.std.specs.Prelude.{◌≡◌, ◌⊎◌, ◌<◌, ◌↔◌, All, IfOk, OnOk, ℕ, List, length, map};
+ghost use Rattle.std.specs.Prelude.{◌≡◌, ◌⊎◌, ◌<◌, ◌↔◌, All, IfOk, IfSome, IsTrue, OnOk, ℕ, List, length, map, nat_eq};
+ghost use Rattle.std.specs.HashSet.{contains};
 ghost use Rattle.std.specs.List.{Contains};
 ghost use Rattle.std.specs.List.Sorted.{IsStrictlyIncreasing};
 ghost use Rattle.rng_model.specs.Document.{Attribute, Item};
@@ -8,7 +9,7 @@ ghost use Rattle.rng_model.specs.Tree.{Simple, s_not_allowed};
 ghost use Rattle.rng_matching.specs.Restricted.{IsRestricted, IsTyped};
 ghost use Rattle.rng_matching.specs.Reading.{Reading};
 ghost use Rattle.rng_matching.specs.Taking.{Takes};
-ghost use Rattle.rng_patterns.specs.Choices.{IsAlternativeOf, SomeTakes};
+ghost use Rattle.rng_patterns.specs.Choices.{IsAbsorbedBy, IsAlternativeOf, SomeTakes};
 ghost use Rattle.rng_patterns.specs.PatternTable.{Longer};
 ghost use Rattle.rng_patterns.specs.Reduced.{HasAlternative, IsReducedChoice, MayBeMember};
 ghost use Rattle.rng_patterns.specs.Trees.{tree_of};
@@ -18,10 +19,11 @@ use crate::pattern::{Pattern, PatternNumber};
 use crate::pattern_table::PatternTable;
 use rng_model::OutOfMemory;
 use std::alloc::Global;
+use std::collections::HashSet;
 
 impl PatternTable {
     /// A choice of the members; of none it is notAllowed, and of one that one. The order of members, and how often each
-    /// is there, make no difference.
+    /// is there, make no difference. `q` beside `p, q` is left out where `p` may be left out.
     ///
     /// RELAX NG Specification, sections 6.2.1 and 4.20. It obeys the restrictions of section 7 where all members do. The
     /// error is want of memory. Costs a sort of all alternatives.
@@ -34,7 +36,7 @@ impl PatternTable {
         ensures longer { Longer self.old self.new }
         ensures inside { IfOk result (λ n. n.0 < length self.new) }
         ensures alternatives { IfOk result (λ n. (t : Table) (s : Simple ℕ)
-            → HasAlternative (tree_of t self.new n.0) s ↔ IsAlternativeOf (tree_of t self.old) members.now s) }
+            → HasAlternative (tree_of t self.new n.0) s → IsAlternativeOf (tree_of t self.old) members.now s) }
         ensures matches { IfOk result (λ n. (t : Table) (g : Reading) (xs : List Attribute) (ns : List Item)
             → Takes g (tree_of t self.new n.0) xs ns ↔ SomeTakes g (tree_of t self.old) members.now xs ns) }
         ensures reduced { IfOk result (λ n. (t : Table) → IsReducedChoice (tree_of t self.new n.0)) }
@@ -46,6 +48,7 @@ impl PatternTable {
             → IsTyped (tree_of t self.new n.0)) }
     {
         let mut alternatives = self.alternatives(alloc, members)?;
+        self.remove_absorbed(alloc, &mut alternatives)?;
         put_in_order(&mut alternatives);
         self.choice_of(alternatives)
     }
@@ -88,6 +91,52 @@ impl PatternTable {
             _ => all.push(member)?,
         }
         Ok(())
+    }
+
+    /// Takes those away that another absorbs. The time is linear.
+    fn remove_absorbed(
+        &self,
+        alloc: Global,
+        alternatives: &mut Vec<PatternNumber>,
+    ) -> Result<(), OutOfMemory>
+        requires { All (λ m. m.0 < length self.now) alternatives.old.items }
+        ensures within { OnOk result ((m : PatternNumber) → Contains alternatives.new.items m → Contains alternatives.old.items m) }
+        ensures takes { OnOk result ((t : Table) (g : Reading) (xs : List Attribute) (ns : List Item)
+            → SomeTakes g (tree_of t self.now) alternatives.old.items xs ns → SomeTakes g (tree_of t self.now) alternatives.new.items xs ns) }
+    {
+        let absorbed = self.absorbed(alloc, alternatives.as_slice())?;
+        alternatives.retain(|alternative| !absorbed.contains(&alternative.0));
+        Ok(())
+    }
+
+    /// The numbers of patterns that one of the alternatives absorbs.
+    fn absorbed(
+        &self,
+        alloc: Global,
+        alternatives: &[PatternNumber],
+    ) -> Result<HashSet<usize>, OutOfMemory>
+        requires { All (λ m. m.0 < length self.now) alternatives.now }
+        ensures { IfOk result (λ absorbed. (m : PatternNumber) → IsTrue (contains nat_eq absorbed m.0)
+            → (other : PatternNumber) × Contains alternatives.now other × IsAbsorbedBy self.now m other) }
+    {
+        let mut absorbed = HashSet::new(alloc);
+        'alternatives: for alternative in alternatives {
+            if let Some(number) = self.absorbed_by(*alternative) {
+                absorbed.insert(number.0)?;
+            }
+        }
+        Ok(absorbed)
+    }
+
+    /// A pattern that this one absorbs: what stands behind a side that may be left out.
+    fn absorbed_by(&self, pattern: PatternNumber) -> Option<PatternNumber>
+        requires { pattern.0 < length self.now }
+        ensures { IfSome result (λ m. IsAbsorbedBy self.now m pattern) }
+    {
+        match self.pattern(pattern) {
+            Pattern::Group(first, second) if self.facts(*first).nullable => Some(*second),
+            _ => None,
+        }
     }
 
     /// A choice of alternatives.

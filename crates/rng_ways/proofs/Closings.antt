@@ -103,7 +103,7 @@ pub choice_closed : (old before new : List Node) (number rest : PatternNumber) (
     ↔ Takes g (choice_all (map (λ (m : PatternNumber). closed (tree_of t old m.0)) ms)) xs ns)
     → ((t : Table) → All (λ (m : PatternNumber). HasTexts MayBeListed (tree_of t old m.0)) ms → All
     (λ (m : PatternNumber). IsBareOfAttributes (tree_of t before m.0)) closes)
-    → ((t : Table) (s : Simple ℕ) → HasAlternative (tree_of t new rest.0) s ↔ IsAlternativeOf (tree_of t before) closes s)
+    → ((t : Table) (s : Simple ℕ) → HasAlternative (tree_of t new rest.0) s → IsAlternativeOf (tree_of t before) closes s)
     → ((t : Table) (g : Reading) (xs : List Attribute) (ns : List Item) → Takes g (tree_of t new rest.0) xs ns ↔ SomeTakes g (tree_of t before) closes xs ns)
     → IsClosed old new number rest
 choice_closed old before new number rest ms closes is inside takes bare alternatives matches = record {
@@ -124,7 +124,7 @@ choice_closed old before new number rest ms closes is inside takes bare alternat
       subst (λ k. HasTexts MayBeListed (tree_of t old k)) (get_or-map (λ (m : PatternNumber). m.0) ms i d)
       (member_has (HasTexts MayBeListed) (HasTexts-hereditary MayBeListed) (tree_of t old) numbers whole i d.0 (omega (arith, long, h))) in
       let all = bare t each in
-      choice_has IsBareOfAttributes bare_hereditary (tree_of t before) closes (tree_of t new rest.0) (λ s. (alternatives t s).0)
+      choice_has IsBareOfAttributes bare_hereditary (tree_of t before) closes (tree_of t new rest.0) (alternatives t)
       (λ m c. let At : PatternNumber → Type 0 = λ k. IsBareOfAttributes (tree_of t before k.0) in contained At closes m all c);
 }
   where

@@ -32,4 +32,4 @@ returns-clause-ways c =
     (joined_stands old new out.0 out.1 c.in-Some.other way c.in_ok-rest.rest c.in_ok-rest.ensures.longer all_inside c.requires.way taken.0
     c.in_ok-rest.ensures.inside
     (λ t g. choice_of_two g (tree_of t old) c.in-Some.other.rest way.rest (tree_of t new c.in_ok-rest.rest.0) (λ xs ns. c.in_ok-rest.ensures.matches t g xs ns))
-    (λ t s. (c.in_ok-rest.ensures.alternatives t s).0)))
+    c.in_ok-rest.ensures.alternatives))

@@ -276,7 +276,7 @@ ways_of_copies-returns-clause-ways t c =
     subst (λ q. AreWaysOf t0 n4 c.args.kind q c.add_filled.new.all.items) (sym c.requires.copies)
     (copies_made t0 n3 n4 c.args.kind more p c.as_slice.result.now c.new-all.result.items c.add_filled.new.all.items c.new-all.ensures.items same
     (λ place o. choice_has (Obeys place) (Obeys-hereditary place) (tree_of t0 n2) (c.args.number ∷ c.in_ok-empty.empty ∷ []) (tree_of t0 n3 more.0)
-    (λ s. (c.in_ok-more.ensures.alternatives t0 s).0)
+    (c.in_ok-more.ensures.alternatives t0)
     (λ m k. either_member (λ n. Obeys place (tree_of t0 n2 n.0)) c.args.number c.in_ok-empty.empty m (subst (Obeys place) (sym number_is) o)
     (subst (Obeys place) (sym empty_is) (Obeys-hereditary place).of_empty) k))
     (subst (AreWaysOf t0 n3 c.args.kind p) (sym c.as_slice.ensures.value) a) c.in_ok-add_filled.ensures.ways)

@@ -9,18 +9,19 @@ use Rattle.rng_patterns.specs.Choices.{IsAlternativeOf, SomeTakes}
 use Rattle.rng_patterns.specs.Reduced.{HasAlternative, MayBeMember}
 use Rattle.rng_patterns.specs.Trees.{tree_of}
 use Rattle.rng_patterns.proofs.Alternatives.{choice_restricted, choice_typed, no_alternatives}
-use Rattle.rng_patterns.proofs.Choices.{all_within, as_sets, if_ok, takes_some}
+use Rattle.rng_patterns.proofs.Choices.{all_within, as_sets, if_ok, takes_some, takes_within}
 use Rattle.rng_patterns.proofs.pattern_table.PatternTable.choice.Goals as goal
 
+-- what is put in order was an alternative before
 pub choice_of-requires-clause-inside : goal.choice_of-requires-clause-inside
 choice_of-requires-clause-inside c =
     all_within (λ m. m.0 < length c.args.self.now) c.in_ok-alternatives.alternatives.items c.put_in_order.new.numbers.items
-    (λ m. (c.put_in_order.ensures.same m).0) c.in_ok-alternatives.ensures.inside
+    (λ m h. c.in_ok-remove_absorbed.ensures.within m ((c.put_in_order.ensures.same m).0 h)) c.in_ok-alternatives.ensures.inside
 
 pub choice_of-requires-clause-members : goal.choice_of-requires-clause-members
 choice_of-requires-clause-members c = λ t.
     all_within (λ m. MayBeMember (tree_of t c.args.self.now m.0)) c.in_ok-alternatives.alternatives.items c.put_in_order.new.numbers.items
-    (λ m. (c.put_in_order.ensures.same m).0) (c.in_ok-alternatives.ensures.members t)
+    (λ m h. c.in_ok-remove_absorbed.ensures.within m ((c.put_in_order.ensures.same m).0 h)) (c.in_ok-alternatives.ensures.members t)
 
 pub returns-clause-alternatives : goal.returns-clause-alternatives
 returns-clause-alternatives c =
@@ -29,23 +30,33 @@ returns-clause-alternatives c =
     let ordered = c.put_in_order.new.numbers.items in
     if_ok c.choice_of.result
     (λ n. (t : Table) (s : Simple ℕ) → HasAlternative (tree_of t c.choice_of.new.self n.0) s ↔ IsAlternativeOf (tree_of t ns) ordered s)
-    (λ n. (t : Table) (s : Simple ℕ) → HasAlternative (tree_of t c.choice_of.new.self n.0) s ↔ IsAlternativeOf (tree_of t ns) c.args.members.now s)
-    (λ n has t s.
-    let same = c.in_ok-alternatives.ensures.same t s in (
-      λ h. same.0 (as_sets (tree_of t ns) ordered all s (λ m. (c.put_in_order.ensures.same m).0) ((has t s).0 h)),
-      λ h. (has t s).1 (as_sets (tree_of t ns) all ordered s (λ m. (c.put_in_order.ensures.same m).1) (same.1 h)),
-    ))
+    (λ n. (t : Table) (s : Simple ℕ) → HasAlternative (tree_of t c.choice_of.new.self n.0) s → IsAlternativeOf (tree_of t ns) c.args.members.now s)
+    (λ n has t s h.
+    (c.in_ok-alternatives.ensures.same t s).0
+    (as_sets (tree_of t ns) ordered all s (λ m i. c.in_ok-remove_absorbed.ensures.within m ((c.put_in_order.ensures.same m).0 i)) ((has t s).0 h)))
     c.choice_of.ensures.same
 
 pub returns-clause-matches : goal.returns-clause-matches
 returns-clause-matches c =
     let ns = c.args.self.now in
+    let all = c.in_ok-alternatives.alternatives.items in
+    let left = c.remove_absorbed.new.alternatives.items in
+    let ordered = c.put_in_order.new.numbers.items in
+    let members = c.args.members.now in
     if_ok c.choice_of.result
-    (λ n. (t : Table) (s : Simple ℕ) → HasAlternative (tree_of t c.choice_of.new.self n.0) s ↔ IsAlternativeOf (tree_of t ns) c.args.members.now s)
+    (λ n. (t : Table) (s : Simple ℕ) → HasAlternative (tree_of t c.choice_of.new.self n.0) s ↔ IsAlternativeOf (tree_of t ns) ordered s)
     (λ n. (t : Table) (g : Reading) (xs : List Attribute) (ks : List Item)
-    → Takes g (tree_of t c.choice_of.new.self n.0) xs ks ↔ SomeTakes g (tree_of t ns) c.args.members.now xs ks)
-    (λ n has t g xs ks. takes_some g (tree_of t ns) c.args.members.now (tree_of t c.choice_of.new.self n.0) (has t) xs ks)
-    (returns-clause-alternatives c)
+    → Takes g (tree_of t c.choice_of.new.self n.0) xs ks ↔ SomeTakes g (tree_of t ns) members xs ks)
+    (λ n has t g xs ks.
+    let made = takes_some g (tree_of t ns) ordered (tree_of t c.choice_of.new.self n.0) (has t) xs ks in (
+      λ d. let o = made.0 d in
+          takes_within g (tree_of t ns) all members (λ s. (c.in_ok-alternatives.ensures.same t s).0) xs ks
+          (o.0, c.in_ok-remove_absorbed.ensures.within o.0 ((c.put_in_order.ensures.same o.0).0 o.1), o.2),
+      λ d. let l = c.in_ok-remove_absorbed.ensures.takes t g xs ks
+          (takes_within g (tree_of t ns) members all (λ s. (c.in_ok-alternatives.ensures.same t s).1) xs ks d) in
+          made.1 (l.0, (c.put_in_order.ensures.same l.0).1 l.1, l.2),
+    ))
+    c.choice_of.ensures.same
 
 both_ok : {X E : Type 0} (r : Result X E) (P Q R : X → Type 0) → ((x : X) → P x → Q x → R x) → IfOk r P → IfOk r Q → IfOk r R
 both_ok (Ok x) P Q R f h k = f x h k
@@ -56,7 +67,7 @@ returns-clause-none c =
     let ns = c.args.self.now in
     both_ok c.choice_of.result _ _
     (λ n. (t : Table) → ((s : Simple ℕ) → IsAlternativeOf (tree_of t ns) c.args.members.now s → ⊥) → tree_of t c.choice_of.new.self n.0 ≡ s_not_allowed)
-    (λ n has reduced t. no_alternatives (tree_of t ns) c.args.members.now (tree_of t c.choice_of.new.self n.0) (reduced t) (λ s. (has t s).0))
+    (λ n has reduced t. no_alternatives (tree_of t ns) c.args.members.now (tree_of t c.choice_of.new.self n.0) (reduced t) (has t))
     (returns-clause-alternatives c) c.choice_of.ensures.reduced
 
 pub returns-clause-restricted : goal.returns-clause-restricted
@@ -64,7 +75,7 @@ returns-clause-restricted c =
     let ns = c.args.self.now in
     both_ok c.choice_of.result _ _
     (λ n. (t : Table) → All (λ m. IsRestricted (tree_of t ns m.0)) c.args.members.now → IsRestricted (tree_of t c.choice_of.new.self n.0))
-    (λ n has reduced t. choice_restricted (tree_of t ns) c.args.members.now (tree_of t c.choice_of.new.self n.0) (reduced t) (λ s. (has t s).0))
+    (λ n has reduced t. choice_restricted (tree_of t ns) c.args.members.now (tree_of t c.choice_of.new.self n.0) (reduced t) (has t))
     (returns-clause-alternatives c) c.choice_of.ensures.reduced
 
 pub returns-clause-typed : goal.returns-clause-typed
@@ -72,5 +83,5 @@ returns-clause-typed c =
     let ns = c.args.self.now in
     both_ok c.choice_of.result _ _
     (λ n. (t : Table) → All (λ m. IsTyped (tree_of t ns m.0)) c.args.members.now → IsTyped (tree_of t c.choice_of.new.self n.0))
-    (λ n has reduced t. choice_typed (tree_of t ns) c.args.members.now (tree_of t c.choice_of.new.self n.0) (reduced t) (λ s. (has t s).0))
+    (λ n has reduced t. choice_typed (tree_of t ns) c.args.members.now (tree_of t c.choice_of.new.self n.0) (reduced t) (has t))
     (returns-clause-alternatives c) c.choice_of.ensures.reduced
