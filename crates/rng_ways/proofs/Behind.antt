@@ -206,14 +206,13 @@ module _ (t : Table) (old before new : List Node) (first : First) (ws : List num
 
 pub left_behind : (t : Table) (old n1 n2 new : List Node) (first : First) (number rest : PatternNumber) (ways : List numbered.Way)
     (rests : List PatternNumber) → AreWaysFor t n1 first (tree_of t old number.0) ways → AreRests t n1 n2 first ways rests → rest.0 < length new
-    → ((s : Simple ℕ) → HasAlternative (tree_of t new rest.0) s ↔ IsAlternativeOf (tree_of t n2) rests s)
+    → ((s : Simple ℕ) → HasAlternative (tree_of t new rest.0) s → IsAlternativeOf (tree_of t n2) rests s)
     → ((xs : List Attribute) (ns : List Item) → Takes (reading_of t) (tree_of t new rest.0) xs ns ↔ SomeTakes (reading_of t) (tree_of t n2) rests xs ns)
     → IsLeft t old new first number rest
 left_behind t old n1 n2 new first number rest ways rests all some inside alternatives matches = record {
   inside = inside;
   law = λ o. those_same (reading_of t) first (tree_of t old number.0) _ _
       (λ xs ns. let e = matches xs ns in let f = some.takes (all.kept o) xs ns in (λ h. f.0 (e.0 h), λ h. e.1 (f.1 h))) (all.law o);
-  kept = λ o. choice_has (Obeys (place_of first)) (Obeys-hereditary (place_of first)) (tree_of t n2) rests (tree_of t new rest.0)
-      (λ s. (alternatives s).0)
+  kept = λ o. choice_has (Obeys (place_of first)) (Obeys-hereditary (place_of first)) (tree_of t n2) rests (tree_of t new rest.0) alternatives
       (λ m c. let P : PatternNumber → Type 0 = λ m. Obeys (place_of first) (tree_of t n2 m.0) in contained P rests m (some.kept (all.kept o)) c);
 }
