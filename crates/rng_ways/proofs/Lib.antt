@@ -1,15 +1,15 @@
 mod Offers
-mod Kept
+pub mod Kept
 mod Standing
 mod Adding
 mod Nodes
-mod Rows
+pub mod Rows
 mod WaysOfLeaves
 mod Composing
 mod Weights
 mod Bareness
 mod Closings
-mod Starts
+pub mod Starts
 mod KnownTexts
 mod Behind
 mod Telling

@@ -1,0 +1,19 @@
+use Rattle.std.proofs.Common.{sym}
+use Rattle.rng_ways.specs.Kinds.{reading_of}
+use Rattle.rng_derivatives.proofs.Served.{choice_added, seen_there, served_longer, there_served}
+use Rattle.rng_derivatives.proofs.grammar_derivatives.GrammarDerivativesDerivatives.choice.Goals as goal
+
+pub invariant_of-self-2 : goal.invariant_of-self-2
+invariant_of-self-2 c =
+    let t = c.self.inside.grammar.now in
+    let numbers = c.self.inside.numbers.items in
+    served_longer t c.in-Some.table c.choice.new.self numbers c.choice.ensures.longer
+    (there_served t c.self.inside.table c.in-Some.table numbers (sym c.in-Some.ensures.value) c.self.invariant)
+
+pub returns-clause-choice : goal.returns-clause-choice
+returns-clause-choice c =
+    let t = c.self.inside.grammar.now in
+    let old = c.in-Some.table in
+    let now = c.in_ok-number.ensures in
+    choice_added t old c.choice.new.self c.args.self.now (seen_there t c.self.inside.table old c.args.self.now (sym c.in-Some.ensures.value) c.self.view_is)
+    c.choice.ensures.longer c.args.members.now c.in_ok-number.number now.inside (now.matches t (reading_of t)) (now.restricted t) c.requires

@@ -1,0 +1,152 @@
+// What is left of the patterns of a grammar.
+ghost use Rattle.std.specs.Prelude.{◌≡◌, IfOk};
+ghost use Rattle.rng_model.specs.Table.{grammar_of, tree_at};
+ghost use Rattle.rng_matching.specs.Laws.{BreaksNone};
+ghost use Rattle.rng_matching.specs.Taking.{Same};
+ghost use Rattle.rng_matcher.specs.Numbers.{IsInside, tree_of};
+ghost use Rattle.rng_patterns.specs.Trees.{trees};
+ghost use Rattle.rng_ways.specs.Kinds.{reading_of};
+
+use crate::starts::allowed_ways;
+use rng_matcher::{Derivatives, Way};
+use rng_model::{Attr, Name, OutOfMemory, SimpleGrammar};
+use rng_patterns::{PatternNumber, PatternTable};
+use rng_ways::{after_tag, after_text, start};
+use std::alloc::Global;
+use std::marker::Model;
+
+/// The patterns of a grammar that obeys the restrictions, and what is left of them, by number.
+///
+/// RELAX NG Specification, sections 6.2 and 7. After want of memory there is no pattern any more.
+#[derive(Drop)]
+pub struct GrammarDerivatives<'a> {
+    grammar: &'a SimpleGrammar,
+    /// Those of the grammar's patterns, by position.
+    numbers: Vec<PatternNumber>,
+    /// `None` after want of memory.
+    table: Option<PatternTable>,
+}
+
+impl<'a> Model for GrammarDerivatives<'a> {
+    ghost use Rattle.std.specs.Prelude.{List};
+    ghost use Rattle.rng_model.specs.Table.{Table};
+    ghost use Rattle.rng_patterns.specs.Node.{Node};
+    ghost use Rattle.rng_derivatives.specs.Serving.{IsServedBy, nodes_in};
+
+    ghost Value = { Table × List Node };
+
+    ghost use Rattle.rng_model.specs.contracts.name.NameClass as classes;
+    ghost use Rattle.std.specs.Coded.{codes};
+
+    ghost coded = { Prim.hlevel (codes, classes.the_row.coded) };
+
+    ghost view = { λ d. (d.grammar.now, nodes_in d.table) };
+
+    ghost invariant = { λ d. IsServedBy d.grammar.now d.table d.numbers.items };
+}
+
+impl<'a> GrammarDerivatives<'a> {
+    /// The patterns of a grammar, and the number of its start.
+    ///
+    /// The error is want of memory. Costs a look-up for each pattern, and the sorts of choices.
+    pub fn new(
+        alloc: Global,
+        grammar: &'a SimpleGrammar,
+    ) -> Result<(Self, PatternNumber), OutOfMemory>
+        requires { BreaksNone (grammar_of grammar.now) }
+        ensures grammar { IfOk result (λ r. r.0.0 ≡ grammar.now) }
+        ensures inside { IfOk result (λ r. IsInside (trees grammar.now r.0.1) r.1) }
+        ensures start { IfOk result (λ r. Same (reading_of grammar.now) (tree_of (trees grammar.now r.0.1) r.1)
+            (tree_at grammar.now.patterns grammar.now.start)) }
+    {
+        let (table, numbers) = PatternTable::of(alloc, grammar)?;
+        let start = numbers[grammar.start().0];
+        Ok((
+            GrammarDerivatives {
+                grammar,
+                numbers,
+                table: Some(table),
+            },
+            start,
+        ))
+    }
+}
+
+impl Derivatives for GrammarDerivatives<'_> {
+    ghost reading = { λ d. reading_of d.0 };
+
+    ghost trees = { λ d. trees d.0 d.1 };
+
+    fn is_nullable(&self, pattern: PatternNumber) -> bool {
+        match &self.table {
+            Some(table) => table.facts(pattern).nullable,
+            None => false,
+        }
+    }
+
+    fn is_not_allowed(&self, pattern: PatternNumber) -> bool {
+        match &self.table {
+            Some(table) => table.is_not_allowed(pattern),
+            None => true,
+        }
+    }
+
+    fn choice(
+        &mut self,
+        alloc: Global,
+        members: &[PatternNumber],
+    ) -> Result<PatternNumber, OutOfMemory> {
+        let Some(mut table) = self.table.take() else {
+            return Err(OutOfMemory);
+        };
+        let number = table.choice(alloc, members)?;
+        self.table = Some(table);
+        Ok(number)
+    }
+
+    fn after_text(
+        &mut self,
+        alloc: Global,
+        pattern: PatternNumber,
+        text: &str,
+    ) -> Result<PatternNumber, OutOfMemory> {
+        let Some(mut table) = self.table.take() else {
+            return Err(OutOfMemory);
+        };
+        let numbers = self.numbers.as_slice();
+        let number = after_text(alloc, self.grammar, &mut table, numbers, pattern, text)?;
+        self.table = Some(table);
+        Ok(number)
+    }
+
+    fn after_tag(
+        &mut self,
+        alloc: Global,
+        body: PatternNumber,
+        attrs: &[Attr],
+    ) -> Result<PatternNumber, OutOfMemory> {
+        let Some(mut table) = self.table.take() else {
+            return Err(OutOfMemory);
+        };
+        let numbers = self.numbers.as_slice();
+        let number = after_tag(alloc, self.grammar, &mut table, numbers, body, attrs)?;
+        self.table = Some(table);
+        Ok(number)
+    }
+
+    fn starts(
+        &mut self,
+        alloc: Global,
+        pattern: PatternNumber,
+        name: &Name,
+    ) -> Result<Vec<Way>, OutOfMemory> {
+        let Some(mut table) = self.table.take() else {
+            return Err(OutOfMemory);
+        };
+        let numbers = self.numbers.as_slice();
+        let ways = start(alloc, self.grammar, &mut table, numbers, pattern, name)?;
+        let starts = allowed_ways(alloc, &table, ways.as_slice())?;
+        self.table = Some(table);
+        Ok(starts)
+    }
+}
