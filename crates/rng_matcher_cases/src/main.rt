@@ -1,0 +1,129 @@
+//! Prints what the matcher answers for each row of `cases.txt`; then for each document of `documents.txt` a line with a letter
+//! for each schema of `schemas.txt`, V for valid and I for invalid.
+//!
+//! A row of `cases.txt` has a schema and a document, perhaps in pieces, each followed by how often it stands there. The
+//! schemas of `schemas.txt`, the documents and their letters come from a second program, `tools/all_splits`.
+#![tactic(auto)]
+
+ghost use Rattle.std.specs.Prelude.{All, IfOk};
+ghost use Rattle.rng_matching.specs.Laws.{BreaksNone};
+ghost use Rattle.rng_model.specs.Table.{grammar_of};
+
+use case_rows::{Row, rows};
+use pyx::Reader;
+use rng_derivatives::matcher;
+use rng_load::load;
+use rng_matcher::Outcome;
+use rng_model::{SchemaFault, SimpleGrammar};
+use rng_rules::restrict;
+use rng_simple::simplify_schema;
+use std::alloc::Global;
+use std::io;
+
+/// How many bytes a document has at most.
+const DOCUMENT_LIMIT: usize = 1 << 30;
+
+fn main(rt: HostRuntime) -> io::Result<()> {
+    for row in rows(&rt, "cases.txt")? {
+        print_case(&rt, &row)?;
+    }
+    let grammars = grammars_of(rt.alloc(), rows(&rt, "schemas.txt")?.as_slice())?;
+    for document in rows(&rt, "documents.txt")? {
+        let letters = letters_of(rt.alloc(), grammars.as_slice(), document.bytes(0)?)?;
+        println!(rt; "{letters}")?;
+    }
+    Ok(())
+}
+
+/// Prints what is answered of a row: `valid`, or `invalid line N`.
+fn print_case(rt: &(impl Print + AllocGlobal), row: &Row) -> io::Result<()> {
+    let grammar = grammar_of_schema(rt.alloc(), row.bytes(0)?)?;
+    let document = joined(rt.alloc(), row)?;
+    match judged(rt.alloc(), &grammar, document.as_slice())? {
+        Outcome::Valid => println!(rt; "valid"),
+        Outcome::Invalid(line) => println!(rt; "invalid line {line}"),
+    }
+}
+
+/// The pieces from the second field on, each as often as the next field says.
+fn joined(alloc: Global, row: &Row) -> io::Result<Vec<u8>> {
+    let mut all = Vec::new(alloc);
+    for field in (1..row.field_count()).step_by(2) {
+        let times = match row.text(field.wrapping_add(1)) {
+            Ok(number) => number.parse::<u32>().unwrap_or(1),
+            Err(_) => 1,
+        };
+        for _ in 0..times {
+            all.extend_from_slice(row.bytes(field)?)?;
+        }
+    }
+    Ok(all)
+}
+
+/// The simple grammar of a schema of one file.
+fn grammar_of_schema(alloc: Global, schema: &[u8]) -> io::Result<SimpleGrammar>
+    ensures { IfOk result (λ g. BreaksNone (grammar_of g)) }
+{
+    let name = String::from_str(alloc, "s.rnc")?;
+    let bytes = Vec::from_slice(alloc, schema)?;
+    match compiled(alloc, &[(name, bytes)]) {
+        Ok(grammar) => Ok(grammar),
+        Err(_) => Err(io::Error::from(io::ErrorKind::InvalidData)),
+    }
+}
+
+/// The simple grammar of files that break no clause.
+fn compiled(alloc: Global, files: &[(String, Vec<u8>)]) -> Result<SimpleGrammar, SchemaFault>
+    ensures { IfOk result (λ g. BreaksNone (grammar_of g)) }
+{
+    let schema = load(alloc, files, "s.rnc")?;
+    let grammar = simplify_schema(alloc, &schema)?;
+    restrict(alloc, &grammar)?;
+    Ok(grammar)
+}
+
+/// The simple grammars of schemas.
+fn grammars_of(alloc: Global, schemas: &[Row]) -> io::Result<Vec<SimpleGrammar>>
+    ensures { IfOk result (λ gs. All (λ g. BreaksNone (grammar_of g)) gs.items) }
+{
+    let mut grammars = Vec::new(alloc);
+    'schemas: for schema in schemas {
+        grammars.push(grammar_of_schema(alloc, schema.bytes(0)?)?)?;
+    }
+    Ok(grammars)
+}
+
+/// What is answered of a document.
+fn judged(alloc: Global, grammar: &SimpleGrammar, document: &[u8]) -> io::Result<Outcome>
+    requires { BreaksNone (grammar_of grammar.now) }
+{
+    let bad = io::ErrorKind::InvalidData;
+    let Ok(mut matcher) = matcher(alloc, grammar) else {
+        return Err(io::Error::from(io::ErrorKind::OutOfMemory));
+    };
+    let mut reader = Reader::new(alloc);
+    if document.len() > DOCUMENT_LIMIT || reader.feed(document, &mut matcher).is_err() {
+        return Err(io::Error::from(bad));
+    }
+    if reader.finish(&mut matcher).is_err() {
+        return Err(io::Error::from(bad));
+    }
+    match matcher.finish() {
+        Ok(outcome) => Ok(outcome),
+        Err(_) => Err(io::Error::from(io::ErrorKind::OutOfMemory)),
+    }
+}
+
+/// A letter for each grammar.
+fn letters_of(alloc: Global, grammars: &[SimpleGrammar], document: &[u8]) -> io::Result<String>
+    requires { All (λ g. BreaksNone (grammar_of g)) grammars.now }
+{
+    let mut letters = String::new(alloc);
+    'grammars: for grammar in grammars {
+        letters.push(match judged(alloc, grammar, document)? {
+            Outcome::Valid => 'V',
+            Outcome::Invalid(_) => 'I',
+        })?;
+    }
+    Ok(letters)
+}
