@@ -176,7 +176,7 @@ closed_has_none (s_joined group p q) o = group_of-keeps HasNoAttribute none_here
 closed_has_none (s_joined interleave p q) o =
     interleave_of-keeps HasNoAttribute none_hereditary (closed p) (closed q) (closed_has_none p o.0) (closed_has_none q o.1)
 
-none_is_ungrouped : (p : Simple ℕ) → HasNoAttribute p → HasNoneGrouped p
+pub none_is_ungrouped : (p : Simple ℕ) → HasNoAttribute p → HasNoneGrouped p
 none_is_ungrouped s_not_allowed o = tt
 none_is_ungrouped s_empty o = tt
 none_is_ungrouped s_text o = tt

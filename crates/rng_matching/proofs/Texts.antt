@@ -93,7 +93,7 @@ module _ (g : Reading) (Ok : Simple ℕ → Type 0) (lists : Simple ℕ → List
 
 -- ---- the pieces of a list
 
-no_lists : (p : Simple ℕ) → MayBeListed p → HasTexts (λ p. ⊥) p
+pub no_lists : (p : Simple ℕ) → MayBeListed p → HasTexts (λ p. ⊥) p
 no_lists s_not_allowed o = tt
 no_lists s_empty o = tt
 no_lists s_text o = tt

@@ -12,8 +12,10 @@ use Rattle.rng_model.specs.declared.simple.PatternId.{PatternId}
 use Rattle.rng_model.specs.declared.simple.Simple as rows
 use Rattle.rng_model.specs.declared.simple.Simple.TheVariants as simple
 use Rattle.rng_matching.specs.Derivatives.{is_empty, is_not_allowed, joined_of, repeat_of}
-use Rattle.rng_matching.specs.Restricted.{HasNoAttribute, HasNoneGrouped, RepeatsWell, HasTexts, MayBeListed, content_type, type_of_both, type_of_choice, IsTyped}
-use Rattle.rng_patterns.specs.Kept.{AreKept, AreRestrictedAlike, HasContentWithin, IsChoiceOf, IsMadeOver, KeepsRestrictions}
+use Rattle.rng_matching.specs.Restricted.{HasNoAttribute, HasNoneGrouped, RepeatsWell, HasTexts, MayBeListed, content_type, type_of_both, type_of_choice}
+use Rattle.rng_matching.specs.Restricted.{IsTyped}
+use Rattle.rng_matching.proofs.Hereditary.{none_is_ungrouped}
+use Rattle.rng_patterns.specs.Kept.{AreKept, AreRestrictedAlike, HasContentWithin, HasNoLists, IsChoiceOf, IsMadeOver, KeepsRestrictions}
 use Rattle.rng_patterns.specs.Node.{Node}
 use Rattle.rng_patterns.specs.PatternTable.{Longer}
 use Rattle.rng_patterns.specs.Taking.{AreTaken, tree_by}
@@ -22,26 +24,12 @@ use Rattle.rng_patterns.specs.declared.pattern.PatternNumber.{PatternNumber}
 use Rattle.rng_patterns.proofs.Trees.{tree_stays}
 use Rattle.rng_patterns.specs.Reduced.{HasAlternative}
 use Rattle.rng_patterns.proofs.Alternatives.{IsOfChoices, alternative_has, has_of_alternatives}
-use Rattle.rng_patterns.proofs.Contents.{both_have, both_members, both_within, greater_itself, less_together, some_is, together_greater, within_first, within_second}
+use Rattle.rng_patterns.proofs.Contents.{both_have, both_members, both_within, greater_itself, less_together, some_is, together_greater, within_first}
+use Rattle.rng_patterns.proofs.Contents.{within_second}
 
 either_one : (Q : Simple ℕ → Type 0) (b : Bool) (p q : Simple ℕ) → Q p → Q q → Q (cond b p q)
 either_one Q true p q h k = h
 either_one Q false p q h k = k
-
-ungrouped_if_bare : (p : Simple ℕ) → HasNoAttribute p → HasNoneGrouped p
-ungrouped_if_bare s_not_allowed o = tt
-ungrouped_if_bare s_empty o = tt
-ungrouped_if_bare s_text o = tt
-ungrouped_if_bare (s_leaf k) o = tt
-ungrouped_if_bare (s_attribute c p) o = absurd o
-ungrouped_if_bare (s_list p) o = ungrouped_if_bare p o
-ungrouped_if_bare (s_data d) o = tt
-ungrouped_if_bare (s_data_except d p) o = ungrouped_if_bare p o
-ungrouped_if_bare (s_value d v) o = tt
-ungrouped_if_bare (s_one_or_more p) o = ungrouped_if_bare p o
-ungrouped_if_bare (s_joined choice p q) o = (ungrouped_if_bare p o.0, ungrouped_if_bare q o.1)
-ungrouped_if_bare (s_joined group p q) o = o
-ungrouped_if_bare (s_joined interleave p q) o = o
 
 -- a pattern that is taken as it is
 pub kept_same : (p : Simple ℕ) → KeepsRestrictions p p
@@ -50,6 +38,7 @@ kept_same p = record {
   ungrouped = λ h. h;
   repeats = λ h. h;
   texts = λ h. h;
+  unlisted = λ h. h;
   content = λ c e. inl (c, e, greater_itself c);
   not_allowed = λ e. e;
 }
@@ -110,9 +99,10 @@ group_kept : (p q made other : Simple ℕ) → KeepsRestrictions p made → Keep
 group_kept p q made other h i = record {
   bare = λ o. joined_has HasNoAttribute group made other tt (h.bare o.0) (i.bare o.1) (h.bare o.0, i.bare o.1);
   ungrouped = λ o.
-      joined_has HasNoneGrouped group made other tt (ungrouped_if_bare made (h.bare o.0)) (ungrouped_if_bare other (i.bare o.1)) (h.bare o.0, i.bare o.1);
+      joined_has HasNoneGrouped group made other tt (none_is_ungrouped made (h.bare o.0)) (none_is_ungrouped other (i.bare o.1)) (h.bare o.0, i.bare o.1);
   repeats = λ o. joined_has RepeatsWell group made other tt (h.repeats o.0) (i.repeats o.1) (h.repeats o.0, i.repeats o.1);
   texts = λ o. joined_has (HasTexts MayBeListed) group made other tt (h.texts o.0) (i.texts o.1) (h.texts o.0, i.texts o.1);
+  unlisted = λ o. joined_has HasNoLists group made other tt (h.unlisted o.0) (i.unlisted o.1) (h.unlisted o.0, i.unlisted o.1);
   content = λ c e.
       let b = both_have (content_type p) (content_type q) c e in
       joined_content group made other b.0 b.1 c refl b.4 (h.content b.0 b.2) (i.content b.1 b.3);
@@ -124,9 +114,10 @@ interleave_kept : (p q made other : Simple ℕ) → KeepsRestrictions p made →
 interleave_kept p q made other h i = record {
   bare = λ o. joined_has HasNoAttribute interleave made other tt (h.bare o.0) (i.bare o.1) (h.bare o.0, i.bare o.1);
   ungrouped = λ o.
-      joined_has HasNoneGrouped interleave made other tt (ungrouped_if_bare made (h.bare o.0)) (ungrouped_if_bare other (i.bare o.1)) (h.bare o.0, i.bare o.1);
+      joined_has HasNoneGrouped interleave made other tt (none_is_ungrouped made (h.bare o.0)) (none_is_ungrouped other (i.bare o.1)) (h.bare o.0, i.bare o.1);
   repeats = λ o. joined_has RepeatsWell interleave made other tt (h.repeats o.0) (i.repeats o.1) (h.repeats o.0, i.repeats o.1);
   texts = λ o. joined_has (HasTexts MayBeListed) interleave made other tt (h.texts o.0) (i.texts o.1) (h.texts o.0, i.texts o.1);
+  unlisted = λ o. joined_has HasNoLists interleave made other tt (h.unlisted o.0) (i.unlisted o.1) (h.unlisted o.0, i.unlisted o.1);
   content = λ c e.
       let b = both_have (content_type p) (content_type q) c e in
       joined_content interleave made other b.0 b.1 c refl b.4 (h.content b.0 b.2) (i.content b.1 b.3);
@@ -139,6 +130,7 @@ repeat_kept p made h = record {
   ungrouped = λ o. repeat_has HasNoneGrouped made tt tt (h.ungrouped o);
   repeats = λ o. repeat_has RepeatsWell made tt tt (h.ungrouped o.0, h.repeats o.1);
   texts = λ o. repeat_has (HasTexts MayBeListed) made tt tt (h.texts o);
+  unlisted = λ o. repeat_has HasNoLists made tt tt (h.unlisted o);
   content = λ c e.
       let b = both_have (content_type p) (content_type p) c e in
       let one : b.1 ≡ b.0 = some_is b.1 b.0 (sym b.3 ∙ b.2) in
@@ -197,6 +189,8 @@ choice_kept p q made other whole h i is = record {
   repeats = λ o. choice_has RepeatsWell (record { of_both = λ p q h i. (h, i); sides = λ p q h. h }) made other whole tt is (h.repeats o.0) (i.repeats o.1);
   texts = λ o.
       choice_has (HasTexts MayBeListed) (record { of_both = λ p q h i. (h, i); sides = λ p q h. h }) made other whole tt is (h.texts o.0) (i.texts o.1);
+  unlisted = λ o.
+      choice_has HasNoLists (record { of_both = λ p q h i. (h, i); sides = λ p q h. h }) made other whole tt is (h.unlisted o.0) (i.unlisted o.1);
   content = λ c e.
       let b = both_members (content_type p) (content_type q) c e in
       choice_content made other whole c is
@@ -253,5 +247,6 @@ typed_kept p made h typed = ⊎_elim
 pub restricted_alike : (t : Table) (ns : List Node) (numbers : List PatternNumber) → AreKept t ns numbers → AreRestrictedAlike t ns numbers
 restricted_alike t ns numbers kept = record {
   restricted = λ id h o. let k = kept id.0 h in record { repeats = k.repeats o.repeats; texts = k.texts o.texts };
+  unlisted = λ id h o. (kept id.0 h).unlisted o;
   typed = λ id h o. typed_kept _ _ (kept id.0 h) o;
 }

@@ -38,12 +38,17 @@ IsMadeOver t of (simple.Choice a b) p = IsChoiceOf (of a) (of b) p
 abbrev pub HasContentWithin : ContentType → tree.Simple ℕ → Type 0
 HasContentWithin most p = ((c : ContentType) × (content_type p ≡ Some c) × (greater c most ≡ most)) ⊎ (p ≡ tree.s_not_allowed)
 
+-- no list stands in the pattern, as in the body of a list (section 7.1.3)
+abbrev pub HasNoLists : tree.Simple ℕ → Type 0
+HasNoLists p = HasTexts (λ q. ⊥) p
+
 -- the second pattern obeys the restrictions that the first obeys
 pub record KeepsRestrictions (p made : tree.Simple ℕ) : Type 0 where
   pub bare : HasNoAttribute p → HasNoAttribute made
   pub ungrouped : HasNoneGrouped p → HasNoneGrouped made
   pub repeats : RepeatsWell p → RepeatsWell made
   pub texts : HasTexts MayBeListed p → HasTexts MayBeListed made
+  pub unlisted : HasNoLists p → HasNoLists made
   pub content : (c : ContentType) → content_type p ≡ Some c → HasContentWithin c made
   pub not_allowed : p ≡ tree.s_not_allowed → made ≡ tree.s_not_allowed
 
@@ -51,7 +56,8 @@ pub record KeepsRestrictions (p made : tree.Simple ℕ) : Type 0 where
 abbrev pub AreKept : Table → List Node → List PatternNumber → Type 0
 AreKept t ns numbers = (i : ℕ) → i < length numbers → KeepsRestrictions (tree_at t.patterns (record { 0 = i })) (tree_by t ns numbers (record { 0 = i }))
 
--- the patterns of the table are restricted, and typed, where those of the grammar are
+-- the patterns of the table are restricted, without lists, and typed where those of the grammar are
 pub record AreRestrictedAlike (t : Table) (ns : List Node) (numbers : List PatternNumber) : Type 0 where
   pub restricted : (id : PatternId) → id.0 < length numbers → IsRestricted (tree_at t.patterns id) → IsRestricted (tree_by t ns numbers id)
+  pub unlisted : (id : PatternId) → id.0 < length numbers → HasNoLists (tree_at t.patterns id) → HasNoLists (tree_by t ns numbers id)
   pub typed : (id : PatternId) → id.0 < length numbers → IsTyped (tree_at t.patterns id) → IsTyped (tree_by t ns numbers id)

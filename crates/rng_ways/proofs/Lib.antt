@@ -11,3 +11,7 @@ mod Bareness
 mod Closings
 mod Starts
 mod KnownTexts
+mod Behind
+mod Telling
+mod Pieces
+mod Tags

@@ -187,7 +187,7 @@ choice_compound t f [] i h = absurd (omega (arith, h.0))
 choice_compound t f (m ∷ []) i h = absurd (omega (arith, h.0))
 choice_compound t f (m ∷ n ∷ ms) i h = tt
 
-compound_over : (t : Table) (f : ℕ → Simple ℕ) (p : Pattern) (i : ℕ) → ArePartsBelow i (node_of p) → IsCompound p → IsNoLeaf (tree_over t f (node_of p))
+pub compound_over : (t : Table) (f : ℕ → Simple ℕ) (p : Pattern) (i : ℕ) → ArePartsBelow i (node_of p) → IsCompound p → IsNoLeaf (tree_over t f (node_of p))
 compound_over t f pattern.NotAllowed i h k = tt
 compound_over t f pattern.Empty i h k = tt
 compound_over t f pattern.Text i h k = absurd k

@@ -19,8 +19,8 @@ use Rattle.rng_matching.proofs.Starts.{bodies_in, bodies_out}
 use Rattle.rng_patterns.specs.PatternTable.{Longer}
 use Rattle.rng_patterns.specs.declared.pattern.PatternNumber.{PatternNumber}
 use Rattle.rng_patterns.proofs.Trees.{Longer-length, tree_stays}
-use Rattle.rng_ways.specs.Kinds.{IsElementNamed, reading_of}
-use Rattle.rng_ways.specs.Starting.{AreBodies, AreStarts, IsBodyOf, IsReady}
+use Rattle.rng_ways.specs.Kinds.{IsElementNamed, Obeys, reading_of}
+use Rattle.rng_ways.specs.Starting.{AreBodies, AreStarts, HasRestrictedBodies, IsBodyOf, IsReady, IsRestrictedBodyNamed}
 use Rattle.rng_ways.specs.Ways.{AreInside, IsInside, way_by, ways_by}
 use Rattle.rng_ways.specs.declared.way.Way as numbered
 use Rattle.rng_ways.proofs.Adding.{one_inside}
@@ -226,8 +226,8 @@ module _ (t : Table) (ns : List Node) (numbers : List PatternNumber) (q : Name) 
         kept = λ bodies each.
             let parts = subst (EachWay (λ p. Unit {0}) IsRestricted) cut each in
             let last = each_second (λ p. Unit {0}) IsRestricted (ways_by f (take i ways)) (way_by f w ∷ []) parts in
-            subst (EachWay IsRestrictedBody IsRestricted) (sym long)
-            (each_both IsRestrictedBody IsRestricted (ways_by f starts) (way_by f one ∷ [])
+            subst (EachWay (IsRestrictedBodyNamed g q) IsRestricted) (sym long)
+            (each_both (IsRestrictedBodyNamed g q) IsRestricted (ways_by f starts) (way_by f one ∷ [])
             (was.kept bodies (each_first (λ p. Unit {0}) IsRestricted (ways_by f (take i ways)) (way_by f w ∷ []) parts))
             ((body.1.3 bodies, last.0.1), tt));
       }
@@ -267,4 +267,12 @@ ready_longer t old new numbers longer ready = record {
     same = λ i h g. subst (λ p. Same g p (tree_at t.patterns (record { 0 = i }))) (sym (tree_stays t old new _ longer (ready.taken.inside i h)))
         (ready.taken.same i h g);
   };
+  kept = λ place id h o. subst (Obeys place) (sym (tree_stays t old new _ longer (ready.taken.inside id.0 h))) (ready.kept place id h o);
 }
+
+pub bodies_longer : (t : Table) (old new : List Node) (numbers : List PatternNumber) → Longer old new → IsReady t old numbers
+    → HasRestrictedBodies t old numbers → HasRestrictedBodies t new numbers
+bodies_longer t old new numbers longer ready bodies k e found =
+    let long = ready.long in
+    let there = body_inside t k e ready.grammar found in
+    subst IsRestrictedBody (sym (tree_stays t old new _ longer (ready.taken.inside e.1.0 (omega (arith, there, long))))) (bodies k e found)

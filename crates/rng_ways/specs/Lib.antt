@@ -2,3 +2,4 @@ pub mod Kinds
 pub mod Ways
 pub mod Closing
 pub mod Starting
+pub mod After

@@ -5,6 +5,7 @@
 //! restrictions of section 7.
 #![tactic(auto)]
 
+mod after;
 mod closing;
 mod filling;
 mod leaves;
@@ -13,6 +14,7 @@ mod texts;
 mod way;
 mod ways;
 
+pub use after::{after_tag, after_text};
 pub use closing::close;
 pub use starting::start;
 pub use way::Way;

@@ -60,7 +60,7 @@ fn body(
 }
 
 /// The number of the grammar's pattern at a position.
-fn number_at(numbers: &[PatternNumber], position: PatternId) -> PatternNumber
+pub fn number_at(numbers: &[PatternNumber], position: PatternId) -> PatternNumber
     requires { position.0 < length numbers.now }
     ensures { result ≡ slice_index_or numbers.now position.0 (record { 0 = 0 }) }
 {

@@ -1,5 +1,5 @@
 // Ways to begin.
-use rng_model::Name;
+use rng_model::{Attr, Name};
 use rng_patterns::PatternNumber;
 
 /// A leaf of a pattern that may take what comes first, and the pattern of what may follow then.
@@ -25,6 +25,14 @@ pub enum Kind<'a> {
 pub enum Place {
     Content,
     List,
+}
+
+/// What comes first, with what it says.
+#[derive(Clone, Copy)]
+pub enum First<'a> {
+    /// A string, asked at this place.
+    Text(Place, &'a str),
+    Attribute(&'a Attr),
 }
 
 /// How two patterns are joined.

@@ -1,12 +1,12 @@
 use Rattle.std.proofs.Common.{◌∙◌, ◌<◌, length, sym, subst, arith}
 use Rattle.rng_model.specs.View.{name_of}
 use Rattle.rng_matching.specs.Reading.{body_of}
-use Rattle.rng_matching.specs.Restricted.{IsRestrictedBody}
 use Rattle.rng_matching.specs.Taking.{Same}
 use Rattle.rng_patterns.specs.Taking.{tree_by}
 use Rattle.rng_patterns.specs.Trees.{tree_of}
 use Rattle.rng_patterns.specs.declared.pattern.PatternNumber.{PatternNumber}
 use Rattle.rng_ways.specs.Kinds.{reading_of}
+use Rattle.rng_ways.specs.Starting.{IsRestrictedBodyNamed}
 use Rattle.rng_ways.proofs.Nodes.{is_over}
 use Rattle.rng_ways.proofs.Rows.{body_there, no_class_there}
 use Rattle.rng_ways.proofs.Starts.{body_inside, leaf_not_started, leaf_started, other_not_started}
@@ -45,15 +45,18 @@ returns-in-Some c =
     let is = sym c.number_at.ensures in
     let At : PatternNumber → Type 0 = λ b. b.0 < length ns in
     let Takes : PatternNumber → Type 0 = λ b. Same g (tree_of t ns b.0) (body_of g k) in
-    let Obeys : PatternNumber → Type 0 = λ b. IsRestrictedBody (tree_of t ns b.0) in (
+    let Obeys : PatternNumber → Type 0 = λ b. IsRestrictedBodyNamed g (name_of c.args.name.now) (tree_of t ns b.0) in
+    let has = sym c.element_takes.ensures ∙ c.if-not-element_takes.false in (
       subst At is (c.requires.ready.taken.inside e.1.0 there),
       (
         k,
         leaf_started g (name_of c.args.name.now) (tree_of t ns c.args.leaf.0) k
             (is_over t ns c.args.leaf.0 c.pattern.result.now _ c.pattern.ensures.table c.pattern.ensures.found c.in-Element.is)
-            (sym c.element_takes.ensures ∙ c.if-not-element_takes.false),
+            has,
         subst Takes is (subst (λ p. Same g (tree_by t ns c.args.numbers.now e.1) p) (sym (body_there t k e found)) (c.requires.ready.taken.same e.1.0 there g)),
-        λ bodies. subst Obeys is (bodies k e found),
+        λ bodies.
+            let b = bodies k e found in
+            subst Obeys is (record { restricted = b.restricted; body = record { typed = b.typed; element = k; named = has } }),
       ),
     )
 

@@ -1,0 +1,6 @@
+use Rattle.std.proofs.Common.{drop}
+use Rattle.rng_ways.proofs.Tags.{IsBehindSome}
+use Rattle.rng_ways.proofs.after.after_tag.Given as goal
+
+abbrev pub invariant-attrs : goal.invariant-attrs
+invariant-attrs l = IsBehindSome l.grammar l.fn.table l.table l.attrs (drop l.attr-index l.attrs) l.fn.number l.rest
