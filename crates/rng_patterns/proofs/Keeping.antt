@@ -4,8 +4,8 @@ use Rattle.std.proofs.Common.{List, [], ◌∷◌, ◌++◌, length, get_or, ari
 use Rattle.std.proofs.lemmas.Bool.{cases_lt}
 use Rattle.std.proofs.lemmas.List.{get_or_append_left}
 use Rattle.std.proofs.Math.Seq.{get_or-append_seam}
-use Rattle.rng_model.specs.Tree.{Simple, Connector, choice, group, interleave, s_not_allowed, s_empty, s_text, s_leaf, s_attribute, s_list, s_data}
-use Rattle.rng_model.specs.Tree.{s_data_except, s_value, s_one_or_more, s_joined}
+use Rattle.rng_model.specs.Tree.{Simple, Connector, choice, group, interleave, s_not_allowed, s_empty}
+use Rattle.rng_model.specs.Tree.{s_one_or_more, s_joined}
 use Rattle.rng_model.specs.Restrictions.{ContentType, empty_content, greater}
 use Rattle.rng_model.specs.Table.{AreChildrenBelow, Table, tree_at, tree_over}
 use Rattle.rng_model.specs.declared.simple.PatternId.{PatternId}
