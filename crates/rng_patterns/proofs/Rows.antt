@@ -57,8 +57,8 @@ falls_pushed ns n kept below i m e = ⊎_elim
     (λ h. let new = found_new ns n i m e h in subst (ArePartsBelow i) new.1 (rw new.0 below))
     (cases_lt i (length ns))
 
-reduced_pushed : (ns : List Node) (n : Node) → IsPatternTable ns → ArePartsBelow (length ns) n → ((t : Table) → AreReduced (tree_of t ns) n) → (t : Table) (i : ℕ)
-    (m : Node) → slice_get (ns ++ n ∷ []) i ≡ Some m → AreReduced (tree_of t (ns ++ n ∷ [])) m
+reduced_pushed : (ns : List Node) (n : Node) → IsPatternTable ns → ArePartsBelow (length ns) n → ((t : Table) → AreReduced (tree_of t ns) n)
+    → (t : Table) (i : ℕ) (m : Node) → slice_get (ns ++ n ∷ []) i ≡ Some m → AreReduced (tree_of t (ns ++ n ∷ [])) m
 reduced_pushed ns n kept below own t i m e = ⊎_elim
     (λ h. let found = found_old ns n i m e h in
     reduced_reads m i _ _ (kept.falls i m found) (λ k l. stays k (omega (arith, l, h))) (kept.reduced t i m found))
@@ -84,13 +84,18 @@ apart_pushed ns n kept fresh i j m e f = ⊎_elim
 -- a table with one more pattern, that is none of those and whose parts are there
 pub one_more : (rows : List (Pattern × Facts)) (p : Pattern) (f : Facts) → IsPatternTable (nodes_of rows) × AreExact rows
     → ArePartsBelow (length (nodes_of rows)) (node_of p)
-    → ((t : Table) → AreReduced (tree_of t (nodes_of rows)) (node_of p)) → IsNew (nodes_of rows) (node_of p) → ((t : Table) → f ≡ facts_of (tree_over t (tree_of t (nodes_of rows)) (node_of p)))
+    → ((t : Table) → AreReduced (tree_of t (nodes_of rows)) (node_of p)) → IsNew (nodes_of rows) (node_of p)
+    → ((t : Table) → f ≡ facts_of (tree_over t (tree_of t (nodes_of rows)) (node_of p)))
     → IsPatternTable (nodes_of (rows ++ (p, f) ∷ [])) × AreExact (rows ++ (p, f) ∷ [])
 one_more rows p f kept below reduced fresh exact =
     let ns = nodes_of rows in
     let n = node_of p in
     let longer : nodes_of (rows ++ (p, f) ∷ []) ≡ ns ++ n ∷ [] = map-append (λ r. node_of r.0) rows ((p, f) ∷ []) in (
-      subst IsPatternTable (sym longer) (record { falls = falls_pushed ns n kept.0 below; reduced = reduced_pushed ns n kept.0 below reduced; apart = apart_pushed ns n kept.0 fresh }),
+      subst IsPatternTable (sym longer) (record {
+        falls = falls_pushed ns n kept.0 below;
+        reduced = reduced_pushed ns n kept.0 below reduced;
+        apart = apart_pushed ns n kept.0 fresh;
+      }),
       λ t. map-append (λ r. r.1) rows ((p, f) ∷ []) ∙ ap₂ (λ xs x. xs ++ x ∷ []) (kept.1 t) (exact t)
           ∙ sym (map-append facts_of (trees t ns) (tree_over t (tree_of t ns) n ∷ []))
           ∙ ap (map facts_of) (sym (trees_pushed t ns n) ∙ ap (trees t) (sym longer)),

@@ -52,7 +52,8 @@ impl PatternTable {
         requires first { first.0 < length self.now }
         requires second { second.0 < length self.now }
         ensures inside { IfSome result (λ n. n.0 < length self.now) }
-        ensures is { IfSome result (λ n. (k : Connector) (t : Table) → tree_of t self.now n.0 ≡ joined_of k (tree_of t self.now first.0) (tree_of t self.now second.0)) }
+        ensures is { IfSome result (λ n. (k : Connector) (t : Table)
+            → tree_of t self.now n.0 ≡ joined_of k (tree_of t self.now first.0) (tree_of t self.now second.0)) }
         ensures sides { IfNone result ((t : Table) → MayBeSide (tree_of t self.now first.0) × MayBeSide (tree_of t self.now second.0)) }
         ensures none { IfNone result ((k : Connector) (t : Table) → s_joined k (tree_of t self.now first.0) (tree_of t self.now second.0)
             ≡ joined_of k (tree_of t self.now first.0) (tree_of t self.now second.0)) }

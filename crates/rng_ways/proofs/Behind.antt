@@ -213,6 +213,7 @@ left_behind t old n1 n2 new first number rest ways rests all some inside alterna
   inside = inside;
   law = λ o. those_same (reading_of t) first (tree_of t old number.0) _ _
       (λ xs ns. let e = matches xs ns in let f = some.takes (all.kept o) xs ns in (λ h. f.0 (e.0 h), λ h. e.1 (f.1 h))) (all.law o);
-  kept = λ o. choice_has (Obeys (place_of first)) (Obeys-hereditary (place_of first)) (tree_of t n2) rests (tree_of t new rest.0) alternatives
+  kept = λ o. choice_has (Obeys (place_of first)) (Obeys-hereditary (place_of first)) (tree_of t n2) rests (tree_of t new rest.0)
+      alternatives
       (λ m c. let P : PatternNumber → Type 0 = λ m. Obeys (place_of first) (tree_of t n2 m.0) in contained P rests m (some.kept (all.kept o)) c);
 }

@@ -54,10 +54,12 @@ returns-in_ok-push-in_default c =
     let ns = c.args.self.now in
     let all = c.args.all.now.items in
     let own : (P : PatternNumber → Type 0) → P c.args.member → All P all → All P c.push.new.self.items =
-    λ P h old. subst (All P) (sym c.in_ok-push-in_default.ensures.items) (All-append P all (c.args.member ∷ []) old (All-cons P c.args.member [] h (All-nil P))) in
+    λ P h old. subst (All P) (sym c.in_ok-push-in_default.ensures.items)
+    (All-append P all (c.args.member ∷ []) old (All-cons P c.args.member [] h (All-nil P))) in
     record {
       inside = own (λ m. m.0 < length ns) c.requires;
       members = λ t. own (λ m. MayBeMember (tree_of t ns m.0))
-          (may_be_member t ns c.args.member.0 c.pattern.result.now c.pattern.ensures.table c.pattern.ensures.found c.in_default.not-NotAllowed c.in_default.not-Choice);
+          (may_be_member t ns c.args.member.0 c.pattern.result.now c.pattern.ensures.table c.pattern.ensures.found
+          c.in_default.not-NotAllowed c.in_default.not-Choice);
       joined = λ t s. one_added (tree_of t ns) all c.push.new.self.items c.args.member s c.in_ok-push-in_default.ensures.items;
     }
