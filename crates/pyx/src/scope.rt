@@ -1,5 +1,5 @@
 // What names stand for inside the tags that are open.
-ghost use Rattle.std.specs.Prelude.{◌≡◌, ◌<◌, ◌≤◌, ℕ, List, Option, [], ◌∷◌, MatchOption, IfSome, Ok, map, length};
+ghost use Rattle.std.specs.Prelude.{◌≡◌, ◌<◌, ◌≤◌, ℕ, List, Option, [], ◌∷◌, MatchOption, IfSome, Ok, map, length, string_bytes};
 ghost use Rattle.std.specs.Option.{option_map};
 ghost use Rattle.rng_model.specs.Answers.{Gives};
 ghost use Rattle.rng_model.specs.View.{name_of, attribute_of};
@@ -72,6 +72,7 @@ pub fn opened_len(opened: &[OpenElement]) -> u64
 }
 
 /// These elements without the innermost ones that declare nothing.
+#[inline(always)]
 fn declaring(opened: &[OpenElement]) -> &[OpenElement]
     ensures same { (prefix : Option (List ℕ)) → namespace_of (declared_in (stack_of result.now)) prefix
         ≡ namespace_of (declared_in (stack_of opened.now)) prefix }
@@ -89,18 +90,20 @@ fn declaring(opened: &[OpenElement]) -> &[OpenElement]
 
 /// The namespace of a prefix, or the default one, inside these elements.
 #[tactic(auto, unfolding(crate::specs::TagReader::namespace_of))]
+#[inline(always)]
 fn outer_namespace<'a>(opened: &'a [OpenElement], prefix: Option<&str>) -> Option<&'a str>
     ensures { option_map (λ x. x.now) result ≡ namespace_of (declared_in (stack_of opened.now)) (option_map (λ x. x.now) prefix.entry) }
 {
-    match innermost(declaring(opened)) {
-        Some((element, outer)) => match found_in(prefix, element.declarations.as_slice()) {
-            Some(uri) => Some(uri),
-            None => outer_namespace(outer, prefix),
-        },
-        None => match beforehand(prefix) {
-            Some(uri) => Some(uri),
-            None => None,
-        },
+    let mut rest = declaring(opened);
+    'elements: while let Some((element, outer)) = innermost(rest) {
+        if let Some(uri) = found_in(prefix, element.declarations.as_slice()) {
+            return Some(uri);
+        }
+        rest = declaring(outer);
+    }
+    match beforehand(prefix) {
+        Some(uri) => Some(uri),
+        None => None,
     }
 }
 
@@ -132,10 +135,14 @@ fn expanded_name(
 
 impl<'a> Scope<'a> {
     /// The namespace of a prefix, or the default one.
-    #[tactic(auto, unfolding(crate::specs::TagReader::namespace_of))]
+    #[tactic(auto, unfolding(crate::specs::TagReader::namespace_of, crate::specs::TagReader::found_in))]
+    #[inline(always)]
     fn namespace(self, prefix: Option<&str>) -> Option<&'a str>
         ensures { option_map (λ x. x.now) result ≡ namespace_of (scope_of self.entry) (option_map (λ x. x.now) prefix.entry) }
     {
+        if self.declarations.is_empty() {
+            return outer_namespace(self.opened, prefix);
+        }
         match found_in(prefix, self.declarations) {
             Some(uri) => Some(uri),
             None => outer_namespace(self.opened, prefix),
@@ -163,16 +170,19 @@ impl<'a> Scope<'a> {
         self,
         alloc: Global,
         spares: &mut Spares,
-        name: &str,
+        name: String,
     ) -> Result<Name, LineFault>
-        ensures { Gives clause_of name_of result (resolved (attribute_name (scope_of self.entry) (written_of name.now))) }
+        ensures { Gives clause_of name_of result (resolved (attribute_name (scope_of self.entry) (written_of (string_bytes name)))) }
     {
-        match cut_at(b':', name) {
+        match cut_at(b':', name.as_str()) {
             Some((prefix, local)) => match self.namespace(Some(prefix)) {
                 Some(uri) => expanded_name(alloc, spares, uri, local),
                 None => Err(LineFault::Clause(11)),
             },
-            None => expanded_name(alloc, spares, "", name),
+            None => Ok(Name {
+                ns: String::new(alloc),
+                local: name,
+            }),
         }
     }
 
@@ -192,8 +202,7 @@ impl<'a> Scope<'a> {
         }
         let others = mem::replace(others, Vec::new(alloc));
         'others: for attribute in others {
-            let name = self.attribute_name(alloc, spares, attribute.name.as_str())?;
-            spares.keep(attribute.name);
+            let name = self.attribute_name(alloc, spares, attribute.name)?;
             attrs.push(Attr {
                 name,
                 value: attribute.value,
