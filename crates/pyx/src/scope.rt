@@ -108,6 +108,7 @@ fn outer_namespace<'a>(opened: &'a [OpenElement], prefix: Option<&str>) -> Optio
 }
 
 /// Makes a name this one, in the buffers that it has.
+#[inline(always)]
 fn set_name(name: &mut Name, uri: &str, local: &str) -> Result<(), LineFault>
     ensures { Gives clause_of (λ _. name_of name.new) result (Ok (record { ns = uri.now; local = local.now })) }
 {
@@ -116,21 +117,6 @@ fn set_name(name: &mut Name, uri: &str, local: &str) -> Result<(), LineFault>
     name.local.clear();
     name.local.push_str(local)?;
     Ok(())
-}
-
-/// An expanded name.
-fn expanded_name(
-    alloc: Global,
-    spares: &mut Spares,
-    uri: &str,
-    local: &str,
-) -> Result<Name, LineFault>
-    ensures { Gives clause_of name_of result (Ok (record { ns = uri.now; local = local.now })) }
-{
-    Ok(Name {
-        ns: spares.copy(alloc, uri)?,
-        local: spares.copy(alloc, local)?,
-    })
 }
 
 impl<'a> Scope<'a> {
@@ -151,7 +137,8 @@ impl<'a> Scope<'a> {
 
     /// The expanded name of an element. A prefix that is not declared breaks P11.
     #[tactic(auto, unfolding(crate::specs::TagReader::element_name, crate::specs::LineReader::written_of))]
-    pub fn element_name(self, written: &str, name: &mut Name) -> Result<(), LineFault>
+    #[inline(always)]
+    fn element_name(self, written: &str, name: &mut Name) -> Result<(), LineFault>
         ensures { Gives clause_of (λ _. name_of name.new) result (resolved (element_name (scope_of self.entry) (written_of written.now))) }
     {
         let (prefix, local) = match cut_at(b':', written) {
@@ -176,7 +163,10 @@ impl<'a> Scope<'a> {
     {
         match cut_at(b':', name.as_str()) {
             Some((prefix, local)) => match self.namespace(Some(prefix)) {
-                Some(uri) => expanded_name(alloc, spares, uri, local),
+                Some(uri) => Ok(Name {
+                    ns: spares.copy(alloc, uri)?,
+                    local: spares.copy(alloc, local)?,
+                }),
                 None => Err(LineFault::Clause(11)),
             },
             None => Ok(Name {
@@ -186,8 +176,31 @@ impl<'a> Scope<'a> {
         }
     }
 
+    /// Puts the attributes with their expanded names where none are.
+    #[inline(never)]
+    fn fill(
+        self,
+        alloc: Global,
+        spares: &mut Spares,
+        others: Vec<WrittenAttribute>,
+        attrs: &mut Vec<Attr>,
+    ) -> Result<(), LineFault>
+        requires { attrs.old.items ≡ [] }
+        ensures { Gives clause_of (λ _. map attribute_of attrs.new.items) result (resolved (expanded (scope_of self.entry) (map written_attribute others.items))) }
+    {
+        'others: for attribute in others {
+            let name = self.attribute_name(alloc, spares, attribute.name)?;
+            attrs.push(Attr {
+                name,
+                value: attribute.value,
+            })?;
+        }
+        Ok(())
+    }
+
     /// The attributes with their expanded names, in place of those before.
-    pub fn attributes(
+    #[inline(always)]
+    fn attributes(
         self,
         alloc: Global,
         spares: &mut Spares,
@@ -200,15 +213,7 @@ impl<'a> Scope<'a> {
         if others.as_slice().is_empty() {
             return Ok(());
         }
-        let others = mem::replace(others, Vec::new(alloc));
-        'others: for attribute in others {
-            let name = self.attribute_name(alloc, spares, attribute.name)?;
-            attrs.push(Attr {
-                name,
-                value: attribute.value,
-            })?;
-        }
-        Ok(())
+        self.fill(alloc, spares, mem::replace(others, Vec::new(alloc)), attrs)
     }
 }
 
@@ -253,6 +258,7 @@ pub struct Element {
 /// P11 is broken where a declaration is not allowed or a prefix is not declared, else P12 where two of its `A` lines
 /// have one name or two attributes one expanded name. Namespaces in XML 1.0, sections 3 to 6.
 #[tactic(auto, unfolding(crate::specs::TagReader::tag_read))]
+#[inline(always)]
 pub fn expand_element(
     alloc: Global,
     scope: Scope<'_>,
