@@ -186,7 +186,8 @@ impl<'a> Scope<'a> {
         attrs: &mut Vec<Attr>,
     ) -> Result<(), LineFault>
         requires { attrs.old.items ≡ [] }
-        ensures { Gives clause_of (λ _. map attribute_of attrs.new.items) result (resolved (expanded (scope_of self.entry) (map written_attribute others.items))) }
+        ensures { Gives clause_of (λ _. map attribute_of attrs.new.items) result
+            (resolved (expanded (scope_of self.entry) (map written_attribute others.items))) }
     {
         'others: for attribute in others {
             let name = self.attribute_name(alloc, spares, attribute.name)?;
@@ -207,7 +208,8 @@ impl<'a> Scope<'a> {
         others: &mut Vec<WrittenAttribute>,
         attrs: &mut Vec<Attr>,
     ) -> Result<(), LineFault>
-        ensures { Gives clause_of (λ _. map attribute_of attrs.new.items) result (resolved (expanded (scope_of self.entry) (map written_attribute others.old.items))) }
+        ensures { Gives clause_of (λ _. map attribute_of attrs.new.items) result
+            (resolved (expanded (scope_of self.entry) (map written_attribute others.old.items))) }
     {
         spares.keep_all(attrs);
         if others.as_slice().is_empty() {
@@ -267,7 +269,9 @@ pub fn expand_element(
     others: &mut Vec<WrittenAttribute>,
     element: &mut Element,
 ) -> Result<(), LineFault>
-    ensures { Gives clause_of (λ _. element_of element.new) result (tag_read (declared_in (stack_of scope.entry.opened.now)) (written_of name.now) (map written_attribute scope.entry.declarations.now) (map written_attribute others.old.items)) }
+    ensures { Gives clause_of (λ _. element_of element.new) result
+        (tag_read (declared_in (stack_of scope.entry.opened.now)) (written_of name.now)
+        (map written_attribute scope.entry.declarations.now) (map written_attribute others.old.items)) }
 {
     if any_forbidden(scope.declarations) {
         return Err(LineFault::Clause(11));

@@ -1,4 +1,4 @@
-use Rattle.std.proofs.Common.{◌≡◌, ◌<◌, arith, sym, ap, ◌∙◌, length, slice_index_or, subst}
+use Rattle.std.proofs.Common.{◌<◌, arith, sym, ap, ◌∙◌, length, slice_index_or, subst}
 use Rattle.std.proofs.lemmas.Str.{IsCharBoundary-after_ascii}
 use Rattle.pyx.proofs.cuts.behind.Goals as goal
 

@@ -7,5 +7,6 @@ use Rattle.pyx.proofs.scope.Scope.attributes.Goals as goal
 pub returns-then-is_empty : goal.returns-then-is_empty
 unfolding expanded
 returns-then-is_empty c =
-    let none : c.args.others.now.items ≡ [] = sym c.as_slice.ensures.value ∙ nil_from_length _ (eqb-true _ 0 (sym c.is_empty.ensures ∙ c.if-is_empty.true)) in
+    let none : c.args.others.now.items ≡ [] =
+    sym c.as_slice.ensures.value ∙ nil_from_length _ (eqb-true _ 0 (sym c.is_empty.ensures ∙ c.if-is_empty.true)) in
     rw (none, c.keep_all.ensures) refl
