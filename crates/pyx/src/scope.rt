@@ -163,10 +163,14 @@ impl<'a> Scope<'a> {
     {
         match cut_at(b':', name.as_str()) {
             Some((prefix, local)) => match self.namespace(Some(prefix)) {
-                Some(uri) => Ok(Name {
-                    ns: spares.copy(alloc, uri)?,
-                    local: spares.copy(alloc, local)?,
-                }),
+                Some(uri) => {
+                    let expanded = Name {
+                        ns: spares.copy(alloc, uri)?,
+                        local: spares.copy(alloc, local)?,
+                    };
+                    spares.keep(name);
+                    Ok(expanded)
+                }
                 None => Err(LineFault::Clause(11)),
             },
             None => Ok(Name {
@@ -211,7 +215,7 @@ impl<'a> Scope<'a> {
         ensures { Gives clause_of (λ _. map attribute_of attrs.new.items) result
             (resolved (expanded (scope_of self.entry) (map written_attribute others.old.items))) }
     {
-        spares.keep_all(attrs);
+        attrs.clear();
         if others.as_slice().is_empty() {
             return Ok(());
         }

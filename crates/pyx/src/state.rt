@@ -139,10 +139,11 @@ impl State {
         }
     }
 
-    /// The element of the tag is open.
+    /// The element of the tag is open, and its start is no longer in use.
     fn open_tag(&mut self) -> Result<(), OutOfMemory>
         ensures { OnOk result (state_of self.new ≡ reader.opened_by (tag_of self.old.tag) (state_of self.old)) }
     {
+        self.spares.keep_all(&mut self.element.attrs);
         let name = mem::replace(&mut self.tag.name, String::new(self.alloc));
         let declarations = mem::replace(&mut self.tag.declarations, Vec::new(self.alloc));
         self.opened.push(OpenElement { name, declarations })?;

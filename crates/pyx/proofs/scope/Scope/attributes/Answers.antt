@@ -9,4 +9,4 @@ unfolding expanded
 returns-then-is_empty c =
     let none : c.args.others.now.items ≡ [] =
     sym c.as_slice.ensures.value ∙ nil_from_length _ (eqb-true _ 0 (sym c.is_empty.ensures ∙ c.if-is_empty.true)) in
-    rw (none, c.keep_all.ensures) refl
+    rw (none, c.clear.ensures.items) refl
