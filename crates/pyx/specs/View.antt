@@ -1,5 +1,6 @@
 -- What the values of the code are, and what a call that may run out of memory answers.
-use Rattle.std.specs.Prelude.{◌≡◌, ℕ, List, [], ◌∷◌, ◌++◌, map, reverse, if◌then◌else◌, Result, Ok, Err, Option, Some, None, IfSome, true, string_bytes}
+use Rattle.std.specs.Prelude.{◌≡◌, ℕ, List, [], ◌∷◌, ◌++◌, map, reverse, if◌then◌else◌}
+use Rattle.std.specs.Prelude.{Result, Ok, Err, Option, Some, None, IfSome, true, string_bytes}
 use Rattle.std.specs.List.{list_all}
 use Rattle.std.specs.Str.{chars}
 use Rattle.rng_model.specs.Characters.{is_xml_char}

@@ -45,13 +45,19 @@ pub fn plain_text(bytes: &[u8]) -> Option<&str>
 fn may_begin(byte: u8) -> bool
     ensures { result ≡ may_begin byte }
 {
-    matches!(byte, b'A'..=b'Z' | b'_' | b'a'..=b'z')
+    if byte >= b'a' {
+        return byte <= b'z';
+    }
+    matches!(byte, b'A'..=b'Z' | b'_')
 }
 
 fn may_follow(byte: u8) -> bool
     ensures { result ≡ may_follow byte }
 {
-    (byte >= b'a' && byte <= b'z') || matches!(byte, b'-'..=b'.' | b'0'..=b'9' | b'A'..=b'Z' | b'_')
+    if byte >= b'a' {
+        return byte <= b'z';
+    }
+    matches!(byte, b'-'..=b'.' | b'0'..=b'9' | b'A'..=b'Z' | b'_')
 }
 
 /// They may all stand in a name after its first.

@@ -1,5 +1,5 @@
 // What names stand for inside the tags that are open.
-ghost use Rattle.std.specs.Prelude.{◌≡◌, ◌<◌, ◌≤◌, ℕ, List, Option, [], ◌∷◌, MatchOption, IfSome, Ok, map, length};
+ghost use Rattle.std.specs.Prelude.{◌≡◌, ◌<◌, ◌≤◌, ℕ, List, Option, [], ◌∷◌, MatchOption, IfSome, Ok, map, length, string_bytes};
 ghost use Rattle.std.specs.Option.{option_map};
 ghost use Rattle.rng_model.specs.Answers.{Gives};
 ghost use Rattle.rng_model.specs.View.{name_of, attribute_of};
@@ -72,6 +72,7 @@ pub fn opened_len(opened: &[OpenElement]) -> u64
 }
 
 /// These elements without the innermost ones that declare nothing.
+#[inline(always)]
 fn declaring(opened: &[OpenElement]) -> &[OpenElement]
     ensures same { (prefix : Option (List ℕ)) → namespace_of (declared_in (stack_of result.now)) prefix
         ≡ namespace_of (declared_in (stack_of opened.now)) prefix }
@@ -89,22 +90,25 @@ fn declaring(opened: &[OpenElement]) -> &[OpenElement]
 
 /// The namespace of a prefix, or the default one, inside these elements.
 #[tactic(auto, unfolding(crate::specs::TagReader::namespace_of))]
+#[inline(always)]
 fn outer_namespace<'a>(opened: &'a [OpenElement], prefix: Option<&str>) -> Option<&'a str>
     ensures { option_map (λ x. x.now) result ≡ namespace_of (declared_in (stack_of opened.now)) (option_map (λ x. x.now) prefix.entry) }
 {
-    match innermost(declaring(opened)) {
-        Some((element, outer)) => match found_in(prefix, element.declarations.as_slice()) {
-            Some(uri) => Some(uri),
-            None => outer_namespace(outer, prefix),
-        },
-        None => match beforehand(prefix) {
-            Some(uri) => Some(uri),
-            None => None,
-        },
+    let mut rest = declaring(opened);
+    'elements: while let Some((element, outer)) = innermost(rest) {
+        if let Some(uri) = found_in(prefix, element.declarations.as_slice()) {
+            return Some(uri);
+        }
+        rest = declaring(outer);
+    }
+    match beforehand(prefix) {
+        Some(uri) => Some(uri),
+        None => None,
     }
 }
 
 /// Makes a name this one, in the buffers that it has.
+#[inline(always)]
 fn set_name(name: &mut Name, uri: &str, local: &str) -> Result<(), LineFault>
     ensures { Gives clause_of (λ _. name_of name.new) result (Ok (record { ns = uri.now; local = local.now })) }
 {
@@ -115,27 +119,16 @@ fn set_name(name: &mut Name, uri: &str, local: &str) -> Result<(), LineFault>
     Ok(())
 }
 
-/// An expanded name.
-fn expanded_name(
-    alloc: Global,
-    spares: &mut Spares,
-    uri: &str,
-    local: &str,
-) -> Result<Name, LineFault>
-    ensures { Gives clause_of name_of result (Ok (record { ns = uri.now; local = local.now })) }
-{
-    Ok(Name {
-        ns: spares.copy(alloc, uri)?,
-        local: spares.copy(alloc, local)?,
-    })
-}
-
 impl<'a> Scope<'a> {
     /// The namespace of a prefix, or the default one.
-    #[tactic(auto, unfolding(crate::specs::TagReader::namespace_of))]
+    #[tactic(auto, unfolding(crate::specs::TagReader::namespace_of, crate::specs::TagReader::found_in))]
+    #[inline(always)]
     fn namespace(self, prefix: Option<&str>) -> Option<&'a str>
         ensures { option_map (λ x. x.now) result ≡ namespace_of (scope_of self.entry) (option_map (λ x. x.now) prefix.entry) }
     {
+        if self.declarations.is_empty() {
+            return outer_namespace(self.opened, prefix);
+        }
         match found_in(prefix, self.declarations) {
             Some(uri) => Some(uri),
             None => outer_namespace(self.opened, prefix),
@@ -144,7 +137,8 @@ impl<'a> Scope<'a> {
 
     /// The expanded name of an element. A prefix that is not declared breaks P11.
     #[tactic(auto, unfolding(crate::specs::TagReader::element_name, crate::specs::LineReader::written_of))]
-    pub fn element_name(self, written: &str, name: &mut Name) -> Result<(), LineFault>
+    #[inline(always)]
+    fn element_name(self, written: &str, name: &mut Name) -> Result<(), LineFault>
         ensures { Gives clause_of (λ _. name_of name.new) result (resolved (element_name (scope_of self.entry) (written_of written.now))) }
     {
         let (prefix, local) = match cut_at(b':', written) {
@@ -163,43 +157,69 @@ impl<'a> Scope<'a> {
         self,
         alloc: Global,
         spares: &mut Spares,
-        name: &str,
+        name: String,
     ) -> Result<Name, LineFault>
-        ensures { Gives clause_of name_of result (resolved (attribute_name (scope_of self.entry) (written_of name.now))) }
+        ensures { Gives clause_of name_of result (resolved (attribute_name (scope_of self.entry) (written_of (string_bytes name)))) }
     {
-        match cut_at(b':', name) {
+        match cut_at(b':', name.as_str()) {
             Some((prefix, local)) => match self.namespace(Some(prefix)) {
-                Some(uri) => expanded_name(alloc, spares, uri, local),
+                Some(uri) => {
+                    let expanded = Name {
+                        ns: spares.copy(alloc, uri)?,
+                        local: spares.copy(alloc, local)?,
+                    };
+                    spares.keep(name);
+                    Ok(expanded)
+                }
                 None => Err(LineFault::Clause(11)),
             },
-            None => expanded_name(alloc, spares, "", name),
+            None => Ok(Name {
+                ns: String::new(alloc),
+                local: name,
+            }),
         }
     }
 
-    /// The attributes with their expanded names, in place of those before.
-    pub fn attributes(
+    /// Puts the attributes with their expanded names where none are.
+    #[inline(never)]
+    fn fill(
         self,
         alloc: Global,
         spares: &mut Spares,
-        others: &mut Vec<WrittenAttribute>,
+        others: Vec<WrittenAttribute>,
         attrs: &mut Vec<Attr>,
     ) -> Result<(), LineFault>
-        ensures { Gives clause_of (λ _. map attribute_of attrs.new.items) result (resolved (expanded (scope_of self.entry) (map written_attribute others.old.items))) }
+        requires { attrs.old.items ≡ [] }
+        ensures { Gives clause_of (λ _. map attribute_of attrs.new.items) result
+            (resolved (expanded (scope_of self.entry) (map written_attribute others.items))) }
     {
-        spares.keep_all(attrs);
-        if others.as_slice().is_empty() {
-            return Ok(());
-        }
-        let others = mem::replace(others, Vec::new(alloc));
         'others: for attribute in others {
-            let name = self.attribute_name(alloc, spares, attribute.name.as_str())?;
-            spares.keep(attribute.name);
+            let name = self.attribute_name(alloc, spares, attribute.name)?;
             attrs.push(Attr {
                 name,
                 value: attribute.value,
             })?;
         }
         Ok(())
+    }
+
+    /// The attributes with their expanded names, in place of those before.
+    #[inline(always)]
+    fn attributes(
+        self,
+        alloc: Global,
+        spares: &mut Spares,
+        others: &mut Vec<WrittenAttribute>,
+        attrs: &mut Vec<Attr>,
+    ) -> Result<(), LineFault>
+        ensures { Gives clause_of (λ _. map attribute_of attrs.new.items) result
+            (resolved (expanded (scope_of self.entry) (map written_attribute others.old.items))) }
+    {
+        attrs.clear();
+        if others.as_slice().is_empty() {
+            return Ok(());
+        }
+        self.fill(alloc, spares, mem::replace(others, Vec::new(alloc)), attrs)
     }
 }
 
@@ -244,6 +264,7 @@ pub struct Element {
 /// P11 is broken where a declaration is not allowed or a prefix is not declared, else P12 where two of its `A` lines
 /// have one name or two attributes one expanded name. Namespaces in XML 1.0, sections 3 to 6.
 #[tactic(auto, unfolding(crate::specs::TagReader::tag_read))]
+#[inline(always)]
 pub fn expand_element(
     alloc: Global,
     scope: Scope<'_>,
@@ -252,7 +273,9 @@ pub fn expand_element(
     others: &mut Vec<WrittenAttribute>,
     element: &mut Element,
 ) -> Result<(), LineFault>
-    ensures { Gives clause_of (λ _. element_of element.new) result (tag_read (declared_in (stack_of scope.entry.opened.now)) (written_of name.now) (map written_attribute scope.entry.declarations.now) (map written_attribute others.old.items)) }
+    ensures { Gives clause_of (λ _. element_of element.new) result
+        (tag_read (declared_in (stack_of scope.entry.opened.now)) (written_of name.now)
+        (map written_attribute scope.entry.declarations.now) (map written_attribute others.old.items)) }
 {
     if any_forbidden(scope.declarations) {
         return Err(LineFault::Clause(11));

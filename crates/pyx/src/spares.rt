@@ -24,6 +24,7 @@ impl Spares {
     }
 
     /// The text as one's own, in a spare buffer where there is one.
+    #[inline(always)]
     pub fn copy(&mut self, alloc: Global, text: &str) -> Result<String, OutOfMemory>
         ensures { IfOk result (λ s. string_bytes s ≡ text.now) }
     {

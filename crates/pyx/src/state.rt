@@ -5,7 +5,8 @@ ghost use Rattle.pyx.specs.DocumentReader.{declared_in};
 ghost use Rattle.pyx.specs.Held.{state_held};
 ghost use Rattle.pyx.specs.LineReader.{written_of};
 ghost use Rattle.pyx.specs.TagReader.{declared_by, tag_read};
-ghost use Rattle.pyx.specs.View.{Adds, EndsBy, Hands, IsFault, IsKnown, Takes, tag_of, line_of, said_view, state_of, stack_of, value_of, open_of, written_attribute};
+ghost use Rattle.pyx.specs.View.{Adds, EndsBy, Hands, IsFault, IsKnown, Takes};
+ghost use Rattle.pyx.specs.View.{tag_of, line_of, said_view, state_of, stack_of, value_of, open_of, written_attribute};
 
 use crate::escapes::Unescaped;
 use crate::fault::{LineFault, PyxFault};
@@ -138,10 +139,11 @@ impl State {
         }
     }
 
-    /// The element of the tag is open.
+    /// The element of the tag is open, and its start is no longer in use.
     fn open_tag(&mut self) -> Result<(), OutOfMemory>
         ensures { OnOk result (state_of self.new ≡ reader.opened_by (tag_of self.old.tag) (state_of self.old)) }
     {
+        self.spares.keep_all(&mut self.element.attrs);
         let name = mem::replace(&mut self.tag.name, String::new(self.alloc));
         let declarations = mem::replace(&mut self.tag.declarations, Vec::new(self.alloc));
         self.opened.push(OpenElement { name, declarations })?;
@@ -240,7 +242,8 @@ impl State {
     #[tactic(auto, unfolding(crate::specs::DocumentReader::attributed))]
     fn attribute(&mut self, bytes: u64, name: &str, value: Unescaped<'_>) -> Result<(), PyxFault>
         requires { reader.tag_bytes (state_of self.old).tag + bytes < 2 ^ 64 }
-        ensures { Adds result (state_of self.new) (reader.attributed bytes (record { name = written_of name.now; content = value_of value.entry }) (state_of self.old)) }
+        ensures { Adds result (state_of self.new)
+            (reader.attributed bytes (record { name = written_of name.now; content = value_of value.entry }) (state_of self.old)) }
     {
         if !self.in_tag {
             return Err(self.fault(7));
@@ -368,7 +371,8 @@ fn unfinished(
     mut element: Element,
     line: u64,
 ) -> PyxFault
-    ensures { IsFault result (reader.unfinished line (tag_read (declared_in (stack_of opened.now)) (tag_of tag).name (tag_of tag).declared (tag_of tag).others)) }
+    ensures { IsFault result (reader.unfinished line
+        (tag_read (declared_in (stack_of opened.now)) (tag_of tag).name (tag_of tag).declared (tag_of tag).others)) }
 {
     let Tag {
         name,

@@ -3,7 +3,7 @@ use Rattle.std.specs.Vec.Iter.{into_iter_items}
 use Rattle.rng_model.specs.View.{attribute_of}
 use Rattle.pyx.specs.TagReader.{expanded}
 use Rattle.pyx.specs.View.{scope_of, written_attribute}
-use Rattle.pyx.proofs.scope.Scope.attributes.Given as goal
+use Rattle.pyx.proofs.scope.Scope.fill.Given as goal
 
 abbrev pub invariant-others : goal.invariant-others
 invariant-others l = record {
