@@ -21,10 +21,11 @@ use Rattle.rng_patterns.specs.PatternTable.{Longer}
 use Rattle.rng_patterns.specs.Taking.{AreTaken}
 use Rattle.rng_patterns.specs.Trees.{trees, tree_of, tree_over, tree_in, with_tree}
 use Rattle.rng_patterns.specs.declared.pattern.PatternNumber.{PatternNumber}
-use Rattle.rng_patterns.proofs.Trees.{length-trees}
+use Rattle.rng_patterns.proofs.Trees.{length-trees, Longer-trans}
 use Rattle.rng_ways.specs.After.{IsLeftOfTag}
 use Rattle.rng_ways.specs.Kinds.{Obeys, reading_of}
 use Rattle.rng_ways.specs.Starting as starting
+use Rattle.rng_ways.specs.Ways.{ways_by}
 use Rattle.rng_ways.specs.declared.way.Place.{Place}
 use Rattle.rng_ways.specs.declared.way.Place.TheVariants as places
 use Rattle.rng_ways.specs.declared.way.Way as numbered
@@ -34,8 +35,8 @@ use Rattle.rng_matcher.specs.Numbers as numbers
 use Rattle.rng_matcher.specs.Numbers.{Adds, AddsStarts, IsChoiceOf, IsInside}
 use Rattle.rng_matcher.specs.declared.derivatives.Way.{Way}
 use Rattle.rng_derivatives.specs.Serving.{IsServed, IsServedBy, nodes_in}
-use Rattle.rng_derivatives.specs.Starts.{AreAllowed}
-use Rattle.rng_derivatives.proofs.Allowed.{allowed_inside, allowed_starts}
+use Rattle.rng_derivatives.specs.Starts.{OpensLike}
+use Rattle.rng_derivatives.proofs.Joining.{starts_are, starts_inside}
 
 -- ---- a table that grows
 
@@ -166,17 +167,19 @@ module _ (t : Table) (old new : List Node) (seen : Table × List Node) (view : (
         is = left.law inside.restricted;
       }) is
 
-  pub starts_added : (ns : List PatternNumber) (q : Name) (p : PatternNumber) (ways : List numbered.Way) (starts : List Way) → IsServed t old ns
-      → starting.AreStarts t new ns (tree_of t old p.0) q ways → AreAllowed t new ways starts → IsInside (trees seen.0 seen.1) p
-      → AddsStarts (reading_of seen.0) q (trees seen.0 seen.1) (trees t new) (numbers.tree_of (trees seen.0 seen.1) p) starts
-  starts_added ns q p ways starts served law allowed is =
-      let P : Table × List Node → Type 0 = λ v. IsInside (trees v.0 v.1) p
-      → AddsStarts (reading_of v.0) q (trees v.0 v.1) (trees t new) (numbers.tree_of (trees v.0 v.1) p) starts in
-      subst P view (λ inside.
-      let o = inside.restricted in
-      let each = law.kept o (served_longer t old new ns longer served).bodies in
-      record {
-        longer = trees_longer t old new longer;
-        inside = allowed_inside t new ns (tree_of t old p.0) q ways starts o law allowed each (length-trees t new);
-        starts = allowed_starts t new ns (tree_of t old p.0) q ways starts o law allowed each;
-      }) is
+pub starts_added : (t : Table) (old middle new : List Node) (seen : Table × List Node) (view : (t, old) ≡ seen) (ns : List PatternNumber) (q : Name)
+    (p : PatternNumber) (ways : List numbered.Way) (starts : List Way) → Longer old middle → Longer middle new → IsServed t old ns
+    → starting.AreStarts t middle ns (tree_of t old p.0) q ways → OpensLike t new (ways_by (tree_of t middle) ways) starts
+    → IsInside (trees seen.0 seen.1) p
+    → AddsStarts (reading_of seen.0) q (trees seen.0 seen.1) (trees t new) (numbers.tree_of (trees seen.0 seen.1) p) starts
+starts_added t old middle new seen view ns q p ways starts longer more served law joined is =
+    let P : Table × List Node → Type 0 = λ v. IsInside (trees v.0 v.1) p
+    → AddsStarts (reading_of v.0) q (trees v.0 v.1) (trees t new) (numbers.tree_of (trees v.0 v.1) p) starts in
+    subst P view (λ inside.
+    let o = inside.restricted in
+    let each = law.kept o (served_longer t old middle ns longer served).bodies in
+    record {
+      longer = trees_longer t old new (Longer-trans old middle new longer more);
+      inside = starts_inside t middle new ns (tree_of t old p.0) q ways starts o law joined each (length-trees t new);
+      starts = starts_are t middle new ns (tree_of t old p.0) q ways starts o law joined each;
+    }) is

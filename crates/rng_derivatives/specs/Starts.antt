@@ -1,8 +1,9 @@
 -- Ways of a start that something may match.
-use Rattle.std.specs.Prelude.{◌↔◌, ◌<◌, List, length, map, All}
+use Rattle.std.specs.Prelude.{◌↔◌, ◌<◌, List, [], ◌∷◌, ◌++◌, length, map, All}
 use Rattle.rng_model.specs.Names.{Name}
 use Rattle.rng_model.specs.Document.{Attribute, Item}
 use Rattle.rng_model.specs.Table.{Table}
+use Rattle.rng_matching.specs.Derivatives as tree
 use Rattle.rng_matching.specs.Restricted.{IsRestricted}
 use Rattle.rng_matching.specs.Ways.{EachWay, Opens}
 use Rattle.rng_matcher.specs.Numbers.{way_of}
@@ -11,17 +12,21 @@ use Rattle.rng_patterns.specs.Node.{Node}
 use Rattle.rng_patterns.specs.Trees.{trees, tree_of}
 use Rattle.rng_ways.specs.Kinds.{reading_of}
 use Rattle.rng_ways.specs.Starting.{IsRestrictedBodyNamed}
-use Rattle.rng_ways.specs.Ways.{ways_by}
+use Rattle.rng_ways.specs.Ways.{way_by}
 use Rattle.rng_ways.specs.declared.way.Way as numbered
 
 -- the numbers of the way are numbers of the table
 abbrev pub IsWayInside : List Node → Way → Type 0
 IsWayInside ns w = (w.body.0 < length ns) × (w.rest.0 < length ns)
 
--- what these ways open those do, and they keep what those keep
-pub record AreAllowed (t : Table) (ns : List Node) (ways : List numbered.Way) (allowed : List Way) : Type 0 where
-  pub inside : All (IsWayInside ns) allowed
-  pub opens : (xs : List Attribute) (kids ms : List Item) → Opens (reading_of t) xs kids ms (map (way_of (trees t ns)) allowed)
-      ↔ Opens (reading_of t) xs kids ms (ways_by (tree_of t ns) ways)
-  pub kept : (q : Name) → EachWay (IsRestrictedBodyNamed (reading_of t) q) IsRestricted (ways_by (tree_of t ns) ways)
-      → EachWay (IsRestrictedBodyNamed (reading_of t) q) IsRestricted (map (way_of (trees t ns)) allowed)
+-- what these ways open those do, and these are restricted where those are
+pub record OpensLike (t : Table) (ns : List Node) (those : List tree.Way) (these : List Way) : Type 0 where
+  pub inside : All (IsWayInside ns) these
+  pub opens : (xs : List Attribute) (kids ms : List Item) → Opens (reading_of t) xs kids ms (map (way_of (trees t ns)) these)
+      ↔ Opens (reading_of t) xs kids ms those
+  pub kept : (q : Name) → EachWay (IsRestrictedBodyNamed (reading_of t) q) IsRestricted those
+      → EachWay (IsRestrictedBodyNamed (reading_of t) q) IsRestricted (map (way_of (trees t ns)) these)
+
+-- some ways, and one more
+abbrev pub with_way : Table → List Node → List Way → numbered.Way → List tree.Way
+with_way t ns before w = map (way_of (trees t ns)) before ++ way_by (tree_of t ns) w ∷ []

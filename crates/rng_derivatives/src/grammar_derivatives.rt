@@ -7,7 +7,7 @@ ghost use Rattle.rng_matcher.specs.Numbers.{IsInside, tree_of};
 ghost use Rattle.rng_patterns.specs.Trees.{trees};
 ghost use Rattle.rng_ways.specs.Kinds.{reading_of};
 
-use crate::starts::allowed_ways;
+use crate::starts::joined_ways;
 use rng_matcher::{Derivatives, Way};
 use rng_model::{Attr, Name, OutOfMemory, SimpleGrammar};
 use rng_patterns::{PatternNumber, PatternTable};
@@ -145,7 +145,7 @@ impl Derivatives for GrammarDerivatives<'_> {
         };
         let numbers = self.numbers.as_slice();
         let ways = start(alloc, self.grammar, &mut table, numbers, pattern, name)?;
-        let starts = allowed_ways(alloc, &table, ways.as_slice())?;
+        let starts = joined_ways(alloc, &mut table, ways.as_slice())?;
         self.table = Some(table);
         Ok(starts)
     }

@@ -45,12 +45,12 @@ none_is (s_one_or_more p) e = absurd (cc)
 none_is (s_joined k p q) e = absurd (cc)
 
 -- what stands at a place, taken out
-pub taken_out : (ws new : List numbered.Way) (i : ℕ) (w : numbered.Way) → slice_get ws i ≡ Some w → new ≡ take i ws ++ drop (suc i) ws → IsTakenOut ws new w
-taken_out ws new i w found e =
-    let inside = slice_get_within ws i w found in (
-      take i ws,
-      drop (suc i) ws,
-      sym (take-append-drop i ws) ∙ ap (λ xs. take i ws ++ xs) (drop-cons ws i w inside ∙ ap (λ x. x ∷ drop (suc i) ws) (get_or_from_slice_get ws i w w found)),
+pub taken_out : {A : Type 0} (xs new : List A) (i : ℕ) (x : A) → slice_get xs i ≡ Some x → new ≡ take i xs ++ drop (suc i) xs → IsTakenOut xs new x
+taken_out xs new i x found e =
+    let inside = slice_get_within xs i x found in (
+      take i xs,
+      drop (suc i) xs,
+      sym (take-append-drop i xs) ∙ ap (λ ys. take i xs ++ ys) (drop-cons xs i x inside ∙ ap (λ y. y ∷ drop (suc i) xs) (get_or_from_slice_get xs i x x found)),
       e,
     )
 

@@ -1,7 +1,7 @@
 mod Offers
 pub mod Kept
 mod Standing
-mod Adding
+pub mod Adding
 mod Nodes
 pub mod Rows
 mod WaysOfLeaves

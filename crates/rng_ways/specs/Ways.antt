@@ -35,9 +35,9 @@ IsInside ns w = (w.leaf.0 < length ns) × (w.rest.0 < length ns)
 abbrev pub AreInside : List Node → List Way → Type 0
 AreInside ns ws = All (IsInside ns) ws
 
--- the way was taken out of a list
-abbrev pub IsTakenOut : List Way → List Way → Way → Type 0
-IsTakenOut old new w = (front : List Way) × (back : List Way) × (old ≡ front ++ w ∷ back) × (new ≡ front ++ back)
+-- it was taken out of a list
+abbrev pub IsTakenOut : {A : Type 0} → List A → List A → A → Type 0
+IsTakenOut {A} old new x = (front : List A) × (back : List A) × (old ≡ front ++ x ∷ back) × (new ≡ front ++ back)
 
 -- the rest of the whole, of that of a side
 abbrev pub filled : (ℕ → Simple ℕ) → Hole → Simple ℕ → Simple ℕ
