@@ -15,6 +15,7 @@ TOKEN = re.compile(rf"""(?P<blank>(?:[ \t\r\n]|\#[^\r\n]*)+)
                       | (?P<nsname>{NCNAME}:\*) | (?P<cname>{NCNAME}:{NCNAME}) | (?P<quoted>\\{NCNAME}) | (?P<word>{NCNAME})
                       | (?P<sign>>>|\|=|&=|[]=,|&?*+{{}}()[~-])""", re.S | re.X)
 ESCAPE = re.compile(r"\\(x+)\{([0-9A-Fa-f]+)\}")
+BAD_ESCAPE = re.compile(r"\\x+\{(?![0-9A-Fa-f]+\})")
 LINE_END = re.compile("\r\n|\r|\n")
 # What an escaped line feed and carriage return are while tokens are cut: they end no line. No character of XML is one of these two.
 ESCAPED_ENDS = {"\n": "\ufffe", "\r": "\uffff"}
@@ -54,7 +55,7 @@ class Escape:
 
 
 class NoToken(Exception):
-    """At `offset` neither a blank, a comment nor a token begins, or a character is none of XML."""
+    """At `offset` neither a blank, a comment nor a token begins, or a character or an escape is a bad one."""
 
     def __init__(self, offset, what):
         super().__init__(what)
@@ -123,6 +124,9 @@ def tokens(text):
     bad = re.search(NOT_XML, text)
     if bad:
         raise NoToken(bad.start(), f"the character {ord(bad[0]):X} is none of XML")
+    bad = BAD_ESCAPE.search(text)
+    if bad:
+        raise NoToken(bad.start(), "a bad escape begins here")
     shown, offsets, escapes = unescaped(text)
     found, at = [], 0
     while at < len(shown):

@@ -3,6 +3,7 @@
 No full parser: of each word it is known whether it stands in a name class, where a pattern is due, or where a component may begin, and that is enough.
 """
 import dataclasses
+import itertools
 
 from compact_tokens import KEYWORDS
 from profile_types import BOTH, SAME, TURNED, XSD, Param, TypeUse, judged
@@ -60,7 +61,7 @@ class Reader:
         self.except_due = False
         self.libraries = dict(LIBRARIES)
         self.findings, self.edits, self.mentions, self.uses = [], [], [], []
-        self.lists = self.excepts = self.except_refs = self.too_deep = False
+        self.lists = self.excepts = self.except_refs = False
 
     def at(self, offset=0):
         """The token that many after the next one, or none."""
@@ -72,10 +73,18 @@ class Reader:
         return token is not None and token.is_sign(*signs)
 
     def read(self):
+        self.nesting()
         self.declarations()
         while self.at():
             self.step()
         return self
+
+    def nesting(self):
+        """Finds the first brace or parenthesis that is too deep."""
+        depths = itertools.accumulate(token.is_sign("{", "(") - token.is_sign("}", ")") for token in self.tokens)
+        deep = next((token for token, depth in zip(self.tokens, depths) if depth > NESTING), None)
+        if deep:
+            self.findings.append(Finding(deep.start, f"braces and parentheses nest more than {NESTING} deep"))
 
     def step(self):
         """Reads what begins at the next token."""
@@ -151,9 +160,6 @@ class Reader:
         self.in_class = self.in_class and token.text == "("
         self.open.append((holds, self.takes_except()))
         self.due = holds != "components"
-        if len(self.open) > NESTING and not self.too_deep:
-            self.too_deep = True
-            self.findings.append(Finding(token.start, f"braces and parentheses nest more than {NESTING} deep"))
 
     def takes_except(self):
         """If what stands here is in the except of a datatype, of which this is the first token or which is around it."""

@@ -6,11 +6,13 @@ import subprocess
 import sys
 import tempfile
 import unittest
+from urllib.parse import unquote_to_bytes
 
 HERE, PROGRAM = pathlib.Path(sys.argv[1]), pathlib.Path(sys.argv[2])
 TOP = HERE.parents[1]
 sys.path.insert(0, str(HERE))
-from compact_tokens import NoToken, tokens  # noqa: E402
+from compact_tokens import NoToken, decoded, tokens  # noqa: E402
+from profile_reader import Reader  # noqa: E402
 
 # Of each kind of finding: the main file's bytes, and the lines that it gives with --write, without the file's name.
 SERVED = [
@@ -86,6 +88,7 @@ LEFT = [
     ("xml", b"<grammar/>", ["1:1: the XML syntax of RELAX NG is not served (trang writes the compact one)"]),
     ("no token", b'element a {\n "x }', ["2:2: no token begins here: the file is not read further"]),
     ("no character", b"element a\x01 { empty }", ["1:10: the character 1 is none of XML: the file is not read further"]),
+    ("no escape", b"element a\\x{4G} { empty }", ["1:10: a bad escape begins here: the file is not read further"]),
     ("no escaped character", b"element \\x{D800} { empty }", ["1:9: the character D800 is none of XML: the file is not read further"]),
 ]
 
@@ -226,6 +229,52 @@ class Tokens(unittest.TestCase):
     def test_longest_token(self):
         kinds = [token.kind for token in tokens(r"p:* p:a p * \element |= >>")[0]]
         self.assertEqual(kinds, ["nsname", "cname", "word", "sign", "quoted", "sign", "sign"])
+
+
+class Sentences(unittest.TestCase):
+    """The texts of `rnc_grammar_cases` and `rnc_text_cases`, with the trees and the clauses that stand beside them."""
+
+    @staticmethod
+    def rows(crate, *names):
+        """The bytes of each row and what is printed of it."""
+        folder = TOP / "crates" / crate
+        lines = [line for name in names for line in (folder / "data" / name).read_text(encoding="utf-8").split("\n") if line and line[0] != "#"]
+        answers = (folder / "stdout").read_text(encoding="utf-8").split("\n")
+        return [(unquote_to_bytes(line), answer) for line, answer in zip(lines, answers)]
+
+    def test_sentences_have_the_datatypes_and_files_of_their_trees(self):
+        served = 0
+        for data, answer in self.rows("rnc_grammar_cases", "worked.txt", "sentences.txt"):
+            if answer.startswith("clause"):
+                continue
+            reader = Reader(tokens(data.decode())[0]).read()
+            tree = answer.split(" is a grammar of")[0]
+            self.assertEqual(reader.findings, [], data)
+            types = re.findall(r'DatatypeName \{ library: "([^"]+)", name: "([^"]+)" \}', tree)
+            self.assertEqual([(use.library, use.name) for use, _, _ in reader.uses if use.library], types, data)
+            names = re.findall(r'Mention \{ href: "((?:[^"\\]|\\.)*)"', tree)
+            self.assertEqual([mention.href.replace('"', '\\"') for mention in reader.mentions], names, data)
+            self.assertEqual((reader.lists, reader.excepts), ("List(" in tree, "except: Some" in tree), data)
+            served += 1
+        self.assertGreater(served, 600)
+
+    def test_texts_break_the_same_clauses(self):
+        for row, answer in self.rows("rnc_text_cases", "cases.txt"):
+            call, _, data = row.partition(b"\t")
+            reading = decoded(data)
+            wanted = (re.match(r"([345]) at \d+$", answer) or "  ")[1].strip()
+            if b">>" not in data and "mark" not in reading.told:
+                self.assertEqual(self.clause(reading, call == b"cut"), wanted, row)
+
+    @staticmethod
+    def clause(reading, cuts):
+        """The clause that a text breaks by itself; S5 only where tokens are asked for."""
+        if reading.told:
+            return "3"
+        try:
+            return "4" if any(escape.shorter for escape in tokens(reading.text)[1]) else ""
+        except NoToken as fault:
+            return "4" if "no token" not in fault.what else "5" if cuts else ""
 
 
 if __name__ == "__main__":
