@@ -24,9 +24,10 @@ UNHIDDEN = str.maketrans({hidden: shown for shown, hidden in ESCAPED_ENDS.items(
 
 @dataclasses.dataclass(frozen=True)
 class Encoding:
-    """How a file's bytes were read. `told` says what is not UTF-8 about them, at the offset `at` of the text."""
+    """How a file's bytes were read. `told` says what is not UTF-8 about them, at the offset `at` of the text, and `change` what UTF-8 has instead."""
     text: str
     told: str = ""
+    change: str = ""
     at: int = 0
     sure: bool = True
 
@@ -62,19 +63,29 @@ class NoToken(Exception):
         self.offset, self.what = offset, what
 
 
+def utf_16(data, name):
+    """The text of UTF-16; what is none has no place in a copy."""
+    try:
+        return Encoding(data.decode(name), "the encoding is UTF-16", "UTF-8")
+    except UnicodeDecodeError as fault:
+        return Encoding(data.decode(name, "replace"), f"the encoding is UTF-16, broken at the byte {fault.start}")
+
+
 def decoded(data):
     """The text of a file's bytes. UTF-16 is told by its mark or its zero bytes; what is no UTF-8 is taken for ISO 8859-1."""
-    if data.startswith(codecs.BOM_UTF8):
-        return Encoding(data[3:].decode("utf-8", "replace"), "a byte order mark stands first")
     for mark, name in ((codecs.BOM_UTF16_LE, "utf-16-le"), (codecs.BOM_UTF16_BE, "utf-16-be")):
         if data.startswith(mark):
-            return Encoding(data[2:].decode(name, "replace"), "the encoding is UTF-16")
+            return utf_16(data[2:], name)
     if b"\0" in data[:2]:
-        return Encoding(data.decode("utf-16-be" if data[0] == 0 else "utf-16-le", "replace"), "the encoding is UTF-16")
+        return utf_16(data, "utf-16-be" if data[0] == 0 else "utf-16-le")
+    marked = data.startswith(codecs.BOM_UTF8)
+    data = data.removeprefix(codecs.BOM_UTF8)
+    mark = "a byte order mark stands first" if marked else ""
     try:
-        return Encoding(data.decode("utf-8"))
+        return Encoding(data.decode("utf-8"), mark, "none" if marked else "")
     except UnicodeDecodeError as fault:
-        return Encoding(data.decode("latin-1"), f"the byte {data[fault.start]:02X} is not UTF-8", fault.start, False)
+        told = f"{mark}{', and ' if marked else ''}the byte {data[fault.start]:02X} is not UTF-8"
+        return Encoding(data.decode("latin-1"), told, "these bytes as ISO 8859-1 in UTF-8", fault.start, False)
 
 
 class Places:

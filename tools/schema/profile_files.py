@@ -5,6 +5,7 @@ import urllib.parse
 
 from compact_tokens import LINE_END, NoToken, Places, decoded, tokens
 from profile_reader import Edit, Finding, Reader, Traits
+from profile_types import SAME
 
 SIZE, COUNT = 1_048_576, 64
 UNSURE = "the same if they were ISO 8859-1"
@@ -15,16 +16,15 @@ class OutsideCopy(Exception):
 
 
 class SchemaFile:
-    """A file of a schema: its text and what is found in it. `path` is how it is named to people."""
+    """A file of a schema: its text and what is found in it. `path` is how it is named to people, `name` what its copy is called."""
 
     def __init__(self, path, data):
-        self.path = path
+        self.path, self.name = path, os.path.basename(path)
         encoding = decoded(data)
         self.text, self.places = encoding.text, Places(encoding.text)
         self.findings, self.edits, self.mentions, self.reader = [], [], [], None
         if encoding.told:
-            self.findings.append(Finding(encoding.at, encoding.told, *(("none",) if "mark" in encoding.told else ("UTF-8",)) if encoding.sure
-                                         else ("these bytes as ISO 8859-1 in UTF-8", UNSURE)))
+            self.findings.append(Finding(encoding.at, encoding.told, encoding.change, SAME if encoding.sure else UNSURE))
         if len(data) > SIZE:
             self.findings.append(Finding(0, f"the file has more than {SIZE:,} bytes"))
         if self.text.lstrip().startswith("<"):
@@ -48,7 +48,10 @@ class SchemaFile:
 
     def resolve(self, href):
         """The path of a mention, beside this file; none for what would have to be fetched."""
-        parts = urllib.parse.urlsplit(href)
+        try:
+            parts = urllib.parse.urlsplit(href)
+        except ValueError:
+            return None
         if parts.scheme not in ("", "file") or parts.netloc not in ("", "localhost"):
             return None
         return os.path.normpath(os.path.join(os.path.dirname(self.path), urllib.parse.unquote(parts.path)))
@@ -93,8 +96,8 @@ def load(schemas):
         asked.add(path)
         try:
             file = files[path] = SchemaFile(path, pathlib.Path(path).read_bytes())
-        except OSError as fault:
-            missing.append(f"{place}: cannot read {path}: {fault.strerror}")
+        except (OSError, ValueError) as fault:
+            missing.append(f"{place}: cannot read {path!r}: {getattr(fault, 'strerror', fault)}")
             continue
         for mention in reversed(file.mentions):
             target = file.resolve(mention.href)

@@ -1,6 +1,7 @@
 """Tests of rncv-profile. See test.sh."""
 import os
 import pathlib
+import random
 import re
 import subprocess
 import sys
@@ -12,7 +13,7 @@ HERE, PROGRAM = pathlib.Path(sys.argv[1]), pathlib.Path(sys.argv[2])
 TOP = HERE.parents[1]
 sys.path.insert(0, str(HERE))
 from compact_tokens import NoToken, decoded, tokens  # noqa: E402
-from profile_reader import Reader  # noqa: E402
+from profile_reader import Reader, Traits  # noqa: E402
 
 # Of each kind of finding: the main file's bytes, and the lines that it gives with --write, without the file's name.
 SERVED = [
@@ -29,6 +30,9 @@ FINDINGS = [
     ("latin-1", b"# \xe9\nelement caf\xe9 { empty }",
      ["1:3: the byte E9 is not UTF-8; the copy has these bytes as ISO 8859-1 in UTF-8, and accepts the same if they were ISO 8859-1"]),
     ("mark", b"\xef\xbb\xbfelement a { empty }", ["1:1: a byte order mark stands first; the copy has none, and accepts the same"]),
+    ("mark and latin-1", b"\xef\xbb\xbfelement caf\xe9 { empty }",
+     ["1:12: a byte order mark stands first, and the byte E9 is not UTF-8; the copy has these bytes as ISO 8859-1 in UTF-8, and accepts "
+      "the same if they were ISO 8859-1"]),
     ("annotation elements", b'a:b [ "x" ] start = element div { empty }\n div { \\start [ ] }',
      ["1:1: an annotation element among components is not served; the copy has nothing there, and accepts the same",
       "2:8: an annotation element among components is not served; the copy has nothing there, and accepts the same"]),
@@ -85,6 +89,7 @@ LEFT = [
     ("size", b"element a { empty }\n" + b"#" * 1_048_576, ["1:1: the file has more than 1,048,576 bytes"]),
     ("nesting", b"element a {\n" + b"(" * 128 + b"empty" + b")" * 128 + b"}", ["2:128: braces and parentheses nest more than 128 deep"]),
     ("uri", b'external "http://example.org/a.rnc"', ["1:10: the file http://example.org/a.rnc would have to be fetched"]),
+    ("no uri", b'external "http://["', ["1:10: the file http://[ would have to be fetched"]),
     ("xml", b"<grammar/>", ["1:1: the XML syntax of RELAX NG is not served (trang writes the compact one)"]),
     ("no token", b'element a {\n "x }', ["2:2: no token begins here: the file is not read further"]),
     ("no character", b"element a\x01 { empty }", ["1:10: the character 1 is none of XML: the file is not read further"]),
@@ -168,9 +173,14 @@ class Profile(unittest.TestCase):
 
     def test_files_that_cannot_be_read(self):
         self.write("s.rnc", b'\nexternal "none.rnc"')
-        self.assertEqual(self.profile("s.rnc"), ("", "s.rnc:2:10: cannot read none.rnc: No such file or directory\n", 4))
-        self.assertEqual(self.profile("none.rnc")[1:], ("none.rnc: cannot read none.rnc: No such file or directory\n", 4))
+        self.assertEqual(self.profile("s.rnc"), ("", "s.rnc:2:10: cannot read 'none.rnc': No such file or directory\n", 4))
+        self.assertEqual(self.profile("none.rnc")[1:], ("none.rnc: cannot read 'none.rnc': No such file or directory\n", 4))
         self.assertEqual(self.profile()[2], 4)
+
+    def test_broken_utf_16(self):
+        self.write("s.rnc", b"\xff\xfe" + "element a { empty }#".encode("utf-16-le") + b"\0\xd8")
+        told = "s.rnc:1:1: the encoding is UTF-16, broken at the byte 40; not brought over"
+        self.assertEqual(self.profile("--write", "copy", "s.rnc")[0].splitlines()[0], told)
 
     def test_no_source_is_written_over(self):
         self.write("s.rnc", b"xsd:date")
@@ -257,6 +267,16 @@ class Sentences(unittest.TestCase):
             self.assertEqual((reader.lists, reader.excepts), ("List(" in tree, "except: Some" in tree), data)
             served += 1
         self.assertGreater(served, 600)
+
+    def test_no_tokens_are_too_odd(self):
+        words = [data.decode().split(" ") for data, _ in self.rows("rnc_grammar_cases", "sentences.txt")]
+        chance = random.Random(1)
+        for _ in range(2000):
+            text = " ".join(chance.choice([*chance.choice(words), ">>", "[", "]", "a:b"]) for _ in range(chance.randrange(20)))
+            try:
+                Reader(tokens(text)[0]).read().judge_types(Traits())
+            except NoToken:
+                pass
 
     def test_texts_break_the_same_clauses(self):
         for row, answer in self.rows("rnc_text_cases", "cases.txt"):
