@@ -1,6 +1,8 @@
 """Tests of xml2pyx and rncv-xml. See test.sh."""
 import io
+import os
 import pathlib
+import re
 import shutil
 import subprocess
 import sys
@@ -85,8 +87,8 @@ class Conversion(unittest.TestCase):
         self.assertLess(sizes[1] - sizes[0], 2_000)
 
 
-class Programs(unittest.TestCase):
-    """The programs, in a fresh folder."""
+class InFolder(unittest.TestCase):
+    """A fresh folder with a schema and documents."""
 
     def setUp(self):
         folder = tempfile.TemporaryDirectory()
@@ -103,6 +105,10 @@ class Programs(unittest.TestCase):
     def run_in(self, *words, given=b""):
         run = subprocess.run([str(word) for word in words], cwd=self.folder, input=given, capture_output=True, timeout=60, check=False)
         return run.stdout.decode(), run.stderr.decode(), run.returncode
+
+
+class Programs(InFolder):
+    """The programs, and what they print."""
 
     def test_xml2pyx(self):
         out, _, status = self.run_in(HERE / "xml2pyx", "good.xml", "--lines", "places")
@@ -142,6 +148,22 @@ class Programs(unittest.TestCase):
         self.write("large.xml", "<a x='1'>" + "<b/>" * 200_000 + "</a>")
         self.assertEqual(self.judge("t.rnc", "--", "large.xml")[1], 3)
 
+        log = "#!/bin/sh\necho \"$1\" >> calls\nexec '" + str(PROGRAM.resolve()) + "' \"$@\"\n"
+        self.write("logged", log)
+        (self.folder / "logged").chmod(0o755)
+        out, _, status = self.run_in(HERE / "rncv-xml", "--rncv", "./logged", "t.rnc", "--", "none.xml", "good.xml")
+        self.assertEqual((out, status), ("refused S6 file t.rnc (docs/LANGUAGE.md)\n", 3))
+        self.assertEqual((self.folder / "calls").read_text(), "check\n")
+
+    def test_no_schema_and_no_program(self):
+        self.assertEqual(self.judge("none.rnc", "--", "good.xml"), ("rncv-xml: rncv: cannot read file none.rnc\n", 4))
+        out, _, status = self.run_in(HERE / "rncv-xml", "--rncv", "./none", "s.rnc", "--", "good.xml")
+        self.assertEqual((out, status), ("rncv-xml: No such file or directory: ./none\n", 4))
+
+    def test_a_program_can_be_required(self):
+        _, errors, status = self.run_in("env", "RNCV_REQUIRED=1", HERE / "test.sh", "./none")
+        self.assertEqual((errors, status), ("test.sh: no program at ./none\n", 1))
+
     def test_many_at_once_in_order(self):
         names = [f"d{number}.xml" for number in range(12)]
         for name in names:
@@ -159,6 +181,77 @@ class Programs(unittest.TestCase):
         ours = self.run_in(HERE / "xml2pyx", "good.xml")[0]
         theirs = self.run_in("sh", "-c", r"xmlstarlet pyx good.xml | sed -e '/^[DC]/d' -e 's/^\[/-/'")[0]
         self.assertEqual(theirs, ours)
+
+
+class Recipes(InFolder):
+    """The recipes of docs/XML.md, as they stand there, in a folder that git keeps."""
+
+    PAGE = (HERE.parents[1] / "docs/XML.md").read_text(encoding="utf-8")
+
+    def setUp(self):
+        super().setUp()
+        if not PROGRAM.exists():
+            self.skipTest(f"no program at {PROGRAM}")
+        self.write("schema.rnc", SCHEMA)
+        (self.folder / "cut.xml").unlink()
+        (self.folder / "bin").mkdir()
+        (self.folder / "bin/rncv").symlink_to(PROGRAM.resolve())
+
+    def recipe(self, heading):
+        """The code under a heading of the page."""
+        return re.search(rf"^##+ {heading}\n.*?^```\n(.*?)^```$", self.PAGE, re.M | re.S)[1]
+
+    def shell(self, script):
+        who = {f"GIT_{role}_{what}": "a@b" for role in ("AUTHOR", "COMMITTER") for what in ("NAME", "EMAIL")}
+        path = os.pathsep.join((str(HERE), str(self.folder / "bin"), os.environ["PATH"]))
+        kept = {name: value for name, value in os.environ.items() if not name.startswith("GIT_")}
+        run = subprocess.run(["sh", "-c", script], cwd=self.folder, capture_output=True, timeout=60, check=False, text=True,
+                             env={**kept, **who, "PATH": path, "RNCV": str(PROGRAM.resolve()), "GIT_CONFIG_GLOBAL": "/dev/null"})
+        return run.stdout + run.stderr, run.returncode
+
+    def wanted(self, *programs):
+        for program in programs:
+            if not shutil.which(program):
+                self.skipTest(f"{program} is not installed")
+
+    def test_makefile(self):
+        self.wanted("make")
+        self.write("Makefile", self.recipe("Makefile"))
+        self.assertEqual(self.shell("make -s good.checked"), ("good.xml: valid\n", 0))
+        self.assertEqual(self.shell("make -s good.checked"), ("", 0))
+        out, status = self.shell("make -s bad.checked")
+        self.assertRegex(out, r"^bad\.xml:\d+:\d+: invalid\n")
+        self.assertNotEqual(status, 0)
+        self.assertEqual(sorted(path.name for path in self.folder.glob("*.checked")), ["good.checked"])
+
+    def test_commit_hook(self):
+        self.wanted("git")
+        self.shell("git init -q")
+        self.write(".git/hooks/pre-commit", self.recipe("Before each commit"))
+        (self.folder / ".git/hooks/pre-commit").chmod(0o755)
+        self.assertEqual(self.shell("git add schema.rnc && git commit -qm 1"), ("", 0))
+        self.assertEqual(self.shell("git add good.xml && git commit -qm 2"), ("good.xml: valid\n", 0))
+        out, status = self.shell("git add bad.xml && git commit -qm 3")
+        self.assertRegex(out, r"^bad\.xml:\d+:\d+: invalid\n$")
+        self.assertEqual((status, self.shell("git log --format=%s")[0]), (1, "2\n1\n"))
+
+    def test_ci_job(self):
+        self.wanted("git", "xargs")
+        script = re.search(r"^ *- (.*xargs.*)$", self.recipe("A CI job"), re.M)[1]
+        self.assertEqual(self.shell(f"git init -q && git add good.xml && {script}"), ("good.xml: valid\n", 0))
+        out, status = self.shell(f"git add bad.xml && {script}")
+        self.assertRegex(out, r"^bad\.xml:\d+:\d+: invalid\ngood\.xml: valid\n$")
+        self.assertEqual(status, 123)
+
+    def test_lines_of_sed(self):
+        # Where xmlstarlet is not installed, what it writes is stood in for.
+        script = self.recipe("With other tools")
+        self.assertIn("xmlstarlet pyx document.xml", script)
+        self.write("document.xml", '<!DOCTYPE a><a x="1"><!-- c --><![CDATA[t]]></a>')
+        self.write("document.pyx", "Da\n(a\nAx 1\nC c \n[t\n)a\n")
+        if not shutil.which("xmlstarlet"):
+            script = script.replace("xmlstarlet pyx document.xml", "cat document.pyx")
+        self.assertEqual(self.shell(script), ("valid\n", 0))
 
 
 if __name__ == "__main__":

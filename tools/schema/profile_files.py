@@ -1,0 +1,162 @@
+"""A schema's files with those that they mention: read, judged by the profile, and copied into it. Nothing here is proved."""
+import os
+import pathlib
+import urllib.parse
+
+from compact_tokens import LINE_END, NoToken, Places, decoded, tokens
+from profile_reader import Edit, Finding, Reader, Traits
+from profile_types import SAME
+
+SIZE, COUNT = 1_048_576, 64
+UNSURE = "the same if they were ISO 8859-1"
+
+
+class OutsideCopy(Exception):
+    """A copy that would stand where a file of the schema does."""
+
+
+class SchemaFile:
+    """A file of a schema: its text and what is found in it. `path` is how it is named to people, `name` what its copy is called."""
+
+    def __init__(self, path, data):
+        self.path, self.name = path, os.path.basename(path)
+        encoding = decoded(data)
+        self.text, self.places = encoding.text, Places(encoding.text)
+        self.findings, self.edits, self.mentions, self.reader = [], [], [], None
+        if encoding.told:
+            self.findings.append(Finding(encoding.at, encoding.told, encoding.change, SAME if encoding.sure else UNSURE))
+        if len(data) > SIZE:
+            self.findings.append(Finding(0, f"the file has more than {SIZE:,} bytes"))
+        if self.text.lstrip().startswith("<"):
+            self.findings.append(Finding(0, "the XML syntax of RELAX NG is not served (trang writes the compact one)"))
+        else:
+            self.read()
+
+    def read(self):
+        """Finds what single tokens show; datatypes wait until all files are read."""
+        try:
+            found, escapes = tokens(self.text)
+        except NoToken as fault:
+            self.findings.append(Finding(fault.offset, f"{fault.what}: the file is not read further"))
+            return
+        for escape in escapes:
+            if escape.shorter:
+                self.findings.append(Finding(escape.start, "an escape with more than one x or more than 6 digits is not served", escape.shorter))
+                self.edits.append(Edit(escape.start, escape.end, escape.shorter))
+        self.reader = Reader(found).read()
+        self.mentions = self.reader.mentions
+
+    def resolve(self, href):
+        """The path of a mention, beside this file; none for what would have to be fetched."""
+        try:
+            parts = urllib.parse.urlsplit(href)
+        except ValueError:
+            return None
+        if parts.scheme not in ("", "file") or parts.netloc not in ("", "localhost"):
+            return None
+        return os.path.normpath(os.path.join(os.path.dirname(self.path), urllib.parse.unquote(parts.path)))
+
+    def collect(self):
+        """Takes over what the reader found."""
+        if self.reader:
+            self.findings += self.reader.findings
+            self.edits += self.reader.edits
+
+    def copy(self):
+        """The text with its edits, of which one that lies in another vanishes."""
+        parts, last = [], 0
+        for edit in sorted(self.edits, key=lambda edit: (edit.start, -edit.end)):
+            if edit.start >= last:
+                before = self.text[last:edit.start]
+                parts += [before, edit.text] if edit.text else self.gap(before, edit)
+                last = edit.end
+        return "".join([*parts, self.text[last:]])
+
+    def gap(self, before, edit):
+        """The text before what is left out, without blanks at a line's end, and what is in its place: its line ends, or a blank between tokens."""
+        after = self.text[edit.end:edit.end + 1]
+        ends = "\n" * len(LINE_END.findall(self.text[edit.start:edit.end]))
+        return [before.rstrip(" \t") if after in ("", "\r", "\n") else before, ends or (" " if after.strip() else "")]
+
+
+def quoted(name):
+    """A literal of the compact syntax; a name with all four quotes is none that files have."""
+    return next((quote + name + quote for quote in ('"', "'", '"""', "'''") if quote not in name), f'"{name}"')
+
+
+def load(schemas):
+    """The files by path, in the order in which they are first named, and a line for each that cannot be read."""
+    files, missing = {}, []
+    waiting = [(os.path.normpath(schema), schema) for schema in reversed(schemas)]
+    asked = set()
+    while waiting:
+        path, place = waiting.pop()
+        if path in asked:
+            continue
+        asked.add(path)
+        try:
+            file = files[path] = SchemaFile(path, pathlib.Path(path).read_bytes())
+        except (OSError, ValueError) as fault:
+            missing.append(f"{place}: cannot read {path!r}: {getattr(fault, 'strerror', fault)}")
+            continue
+        for mention in reversed(file.mentions):
+            target = file.resolve(mention.href)
+            if target is not None:
+                waiting.append((target, ":".join(map(str, (path, *file.places.of(mention.start))))))
+    return files, missing
+
+
+def flat_names(paths):
+    """For each path a name without directories, told from the others by a number."""
+    names, taken = {}, set()
+    for path in paths:
+        stem, end = os.path.splitext(os.path.basename(path))
+        name, number = stem + end, 1
+        while name in taken:
+            number += 1
+            name = f"{stem}-{number}{end}"
+        taken.add(name)
+        names[path] = name
+    return names
+
+
+def judge_mentions(file, names):
+    """A mention has to be the flat name of its file, byte for byte."""
+    for mention in file.mentions:
+        target = file.resolve(mention.href)
+        if target is None:
+            file.findings.append(Finding(mention.start, f"the file {mention.href} would have to be fetched"))
+        elif mention.href != names.get(target, mention.href):
+            text = quoted(names[target])
+            file.findings.append(Finding(mention.start, f"files are named without directories and escapes, not as {mention.href}", text))
+            file.edits.append(Edit(mention.start, mention.end, text))
+
+
+def read_all(schemas):
+    """All files of a schema with what is found in them, and a line for each that cannot be read."""
+    files, missing = load(schemas)
+    names = flat_names(files)
+    traits = Traits()
+    for file in files.values():
+        traits = traits.with_those_of(file.reader.traits()) if file.reader else traits
+    for file in files.values():
+        file.name = names[file.path]
+        if file.reader:
+            file.reader.judge_types(traits)
+        file.collect()
+        judge_mentions(file, names)
+    if len(files) > COUNT:
+        next(iter(files.values())).findings.append(Finding(0, f"the schema has more than {COUNT} files"))
+    return list(files.values()), missing
+
+
+def copied(files, folder):
+    """Writes the copies and answers their paths, that of the main file first. No file of the schema is written over."""
+    folder.mkdir(parents=True, exist_ok=True)
+    targets = [folder / file.name for file in files]
+    for target in targets:
+        if target.exists() and any(os.path.samefile(target, file.path) for file in files):
+            raise OutsideCopy(f"{target} is a file of the schema; copies go to another directory")
+    for file, target in zip(files, targets):
+        target.write_bytes(file.copy().encode("utf-8", "replace"))
+    return [str(target) for target in targets]

@@ -1,0 +1,248 @@
+"""What of datatypes, parameters and values the profile serves, and what stands nearest to the rest (docs/LANGUAGE.md). Nothing here is proved."""
+import dataclasses
+import re
+
+XSD = "http://www.w3.org/2001/XMLSchema-datatypes"
+COMPATIBILITY = "http://relaxng.org/ns/compatibility/datatypes/1.0"
+SAME, MORE, LESS, BOTH = "the same", "more", "less", "more and less"
+TURNED = {SAME: SAME, MORE: LESS, LESS: MORE, BOTH: BOTH}
+
+TEXTS = ("string", "token", "NCName", "NMTOKEN")
+SERVED = (*TEXTS, "boolean", "integer")
+LENGTHS = ("minLength", "maxLength")
+DIGITS, GREATEST = 38, 10 ** 38 - 1
+NAME_CHARACTER = ("-.0-9:A-Z_a-z\xb7\xc0-\xd6\xd8-\xf6\xf8-\u037d\u037f-\u1fff\u200c\u200d\u203f\u2040\u2070-\u218f\u2c00-\u2fef\u3001-\ud7ff"
+                  "\uf900-\ufdcf\ufdf0-\ufffd\U00010000-\U000effff")
+ALLOWED = {"NMTOKEN": rf"[{NAME_CHARACTER}]+", "NCName": rf"(?![-.0-9\xb7\u0300-\u036f\u203f\u2040])(?!.*:)[{NAME_CHARACTER}]+",
+           "boolean": "true|false|1|0", "integer": f"[+-]?[0-9]{{1,{DIGITS}}}"}
+
+
+def signed(bits):
+    return -2 ** (bits - 1), 2 ** (bits - 1) - 1
+
+
+# The integers of XML Schema by their bounds. Where no sign stands before a digit, `integer` accepts one.
+INTEGERS = {"long": signed(64), "int": signed(32), "short": signed(16), "byte": signed(8), "nonNegativeInteger": (0, None), "positiveInteger": (1, None),
+            "nonPositiveInteger": (None, 0), "negativeInteger": (None, -1)}
+UNSIGNED = {"unsignedLong": (0, 2 ** 64 - 1), "unsignedInt": (0, 2 ** 32 - 1), "unsignedShort": (0, 2 ** 16 - 1), "unsignedByte": (0, 2 ** 8 - 1)}
+# Lists by the type of their items.
+LISTS = {"NMTOKENS": "NMTOKEN", "IDREFS": "NCName", "ENTITIES": "NCName"}
+FACETS = frozenset("length minLength maxLength pattern minInclusive maxInclusive minExclusive maxExclusive totalDigits fractionDigits".split())
+
+
+@dataclasses.dataclass(frozen=True)
+class Nearest:
+    """The served type that stands nearest, what a copy with it accepts as data and as a value, and if lengths count the same."""
+    base: str
+    data: str = MORE
+    value: str = SAME
+    lengths: bool = True
+
+
+NEAREST = {"normalizedString": Nearest("string", SAME, LESS), "anyURI": Nearest("token"), "language": Nearest("NMTOKEN"), "Name": Nearest("NMTOKEN"),
+           "ID": Nearest("NCName"), "IDREF": Nearest("NCName"), "ENTITY": Nearest("NCName"),
+           "QName": Nearest("NMTOKEN", MORE, BOTH, False), "NOTATION": Nearest("NMTOKEN", MORE, BOTH, False)}
+NEAREST.update((name, Nearest("token", MORE, LESS, False)) for name in (
+    "decimal float double duration dateTime date time gYear gYearMonth gMonth gMonthDay gDay hexBinary base64Binary").split())
+
+
+@dataclasses.dataclass(frozen=True)
+class Param:
+    """A parameter as it is written; `at` is the offset of its name."""
+    name: str
+    value: str
+    at: int
+
+
+@dataclasses.dataclass(frozen=True)
+class TypeUse:
+    """A datatype as it is written: `name` of `library`, with parameters or with a value. `has_except` says that ` - ` follows."""
+    library: str
+    name: str
+    at: int
+    params: tuple = ()
+    value: str = None
+    has_except: bool = False
+
+
+@dataclasses.dataclass(frozen=True)
+class Told:
+    """What of a datatype is outside the profile. `effect` says what a copy accepts with `change`; without one it is not brought over."""
+    at: int
+    what: str
+    change: str = ""
+    effect: str = ""
+
+
+class NotBroughtOver(Exception):
+    """A parameter, at its place, that no served type stands for."""
+
+    def __init__(self, told):
+        super().__init__(told.what)
+        self.told = told
+
+
+def allows(base, text):
+    """If a served type of XML Schema without parameters allows the text."""
+    return base not in ALLOWED or re.fullmatch(ALLOWED[base], " ".join(re.split("[ \t\r\n]+", text.strip(" \t\r\n")))) is not None
+
+
+def number(param, signed_too):
+    """The number that a parameter says; one that is none breaks the published syntax too."""
+    text = param.value.strip(" \t\r\n")
+    if not re.fullmatch("[+-]?[0-9]+" if signed_too else r"\+?[0-9]+", text):
+        raise NotBroughtOver(Told(param.at, f"the parameter {param.name} is no number: {param.value!r}"))
+    return int(text)
+
+
+def written(name, facets):
+    """A type of XML Schema with its parameters, in the compact syntax."""
+    inside = " ".join(f'{facet} = "{value}"' for facet, value in facets)
+    return f"xsd:{name} {{ {inside} }}" if inside else f"xsd:{name}"
+
+
+def wrong(param, name):
+    return NotBroughtOver(Told(param.at, f"xsd:{name} takes no parameter {param.name}"))
+
+
+def is_length(param):
+    return param.name in LENGTHS and re.fullmatch("[0-9]{1,9}", param.value)
+
+
+def is_bound(param):
+    return param.name in ("minInclusive", "maxInclusive") and allows("integer", param.value)
+
+
+def text_param(param, name, base):
+    """What becomes of a parameter of a type whose texts are characters: its facets, and what is told."""
+    if is_length(param):
+        return [(param.name, param.value)], None
+    if param.name == "pattern":
+        return [], Told(param.at, "the parameter pattern is not served", f"no {param.name}", MORE)
+    if param.name not in (*LENGTHS, "length") or base not in TEXTS:
+        raise wrong(param, name)
+    length = number(param, False)
+    if length > 999_999_999:
+        raise NotBroughtOver(Told(param.at, f"the parameter {param.name} has more than 9 digits"))
+    facets = [(facet, str(length)) for facet in (LENGTHS if param.name == "length" else (param.name,))]
+    what = "is not served" if param.name == "length" else "is not written as 1 to 9 digits"
+    return facets, Told(param.at, f"the parameter {param.name} {what}", " ".join(f'{facet} = "{value}"' for facet, value in facets), SAME)
+
+
+def integer_bounds(param, name):
+    """The bounds that a parameter of an integer says, lower and upper."""
+    if param.name not in FACETS - {"length", *LENGTHS}:
+        raise wrong(param, name)
+    if param.name in ("pattern", "fractionDigits"):
+        return None, None
+    size = number(param, param.name != "totalDigits")
+    return {"minInclusive": (size, None), "minExclusive": (size + 1, None), "maxInclusive": (None, size), "maxExclusive": (None, size - 1),
+            "totalDigits": (1 - 10 ** min(size, DIGITS), 10 ** min(size, DIGITS) - 1)}[param.name]
+
+
+def joined(bounds):
+    """The facets of all bounds together."""
+    lowers, uppers = ([bound for bound in side if bound is not None] for side in zip(*bounds))
+    return [*(("minInclusive", max(lowers)) for _ in lowers[:1]), *(("maxInclusive", min(uppers)) for _ in uppers[:1])]
+
+
+def integer_param_told(param, bounds):
+    """What is told of a parameter of an integer, or none if it is served."""
+    if is_bound(param):
+        return None
+    if param.name in ("pattern", "fractionDigits"):
+        return Told(param.at, f"the parameter {param.name} is not served", f"no {param.name}", MORE if param.name == "pattern" else SAME)
+    if any(bound is not None and abs(bound) > GREATEST for bound in bounds):
+        raise NotBroughtOver(Told(param.at, f"the parameter {param.name} has more than {DIGITS} digits"))
+    return Told(param.at, f"the parameter {param.name} is not served" if param.name not in ("minInclusive", "maxInclusive")
+                else f"the parameter {param.name} has more than {DIGITS} digits", written("integer", joined([bounds])), SAME)
+
+
+def integer_use(use, own):
+    """The facets of an integer with its own bounds, and what is told of its parameters."""
+    bounds = [own, *(integer_bounds(param, use.name) for param in use.params)]
+    told = [integer_param_told(param, bound) for param, bound in zip(use.params, bounds[1:])]
+    return joined(bounds), [each for each in told if each]
+
+
+def text_use(use, base, lengths):
+    """The facets of a type whose texts are characters, and what is told of its parameters."""
+    facets, told = [], []
+    for param in use.params:
+        if param.name in FACETS and not lengths:
+            told.append(Told(param.at, f"the parameter {param.name} is not served", f"no {param.name}", MORE))
+            continue
+        kept, about = text_param(param, use.name, base)
+        facets += kept
+        told += [about] if about else []
+    return facets, told
+
+
+def data_use(use, base, own, lengths):
+    """The text that stands for a type with its parameters, and what is told of these."""
+    names = [param.name for param in use.params if param.name != "pattern"]
+    twice = next((param for param in use.params if names.count(param.name) > 1), None)
+    if twice:
+        raise NotBroughtOver(Told(twice.at, f"the parameter {twice.name} stands twice"))
+    facets, told = integer_use(use, own) if base == "integer" else text_use(use, base, lengths)
+    if len({facet for facet, _ in facets}) < len(facets):
+        raise NotBroughtOver(Told(use.params[0].at, "the parameter length stands beside another length"))
+    return written(base, facets), told
+
+
+def is_within(text, bounds):
+    lower, upper = bounds
+    return (lower is None or lower <= int(text)) and (upper is None or int(text) <= upper)
+
+
+def value_told(use, base, own, effect, known):
+    """What is told of a value, whose type, with bounds of its own, the copy replaces by `base`."""
+    if not allows(base, use.value) or base == "integer" and not is_within(use.value, own):
+        return "", [Told(use.at, f"xsd:{use.name} does not allow the value {use.value!r}")]
+    if known:
+        return "", []
+    return f"xsd:{base}", [Told(use.at, f"the datatype xsd:{use.name} is not served", f"xsd:{base}", effect)]
+
+
+def schema_type(use, lists):
+    """A type of XML Schema: the text that replaces it (none: it stays), and what is told."""
+    name, known = use.name, use.name in SERVED
+    own, base, near = (None, None), name, Nearest(name, SAME, SAME)
+    if name in INTEGERS or name in UNSIGNED:
+        own, base = (INTEGERS | UNSIGNED)[name], "integer"
+        near = Nearest(base, MORE if name in UNSIGNED else SAME)
+    elif name in NEAREST:
+        near, base = NEAREST[name], NEAREST[name].base
+    elif name in LISTS:
+        if lists and use.value is None and not use.params and not use.has_except:
+            text = f"list {{ xsd:{LISTS[name]}+ }}"
+            return text, [Told(use.at, f"the datatype xsd:{name} is not served", text, SAME if name == "NMTOKENS" else MORE)]
+        near, base = Nearest("token", lengths=False), "token"
+    elif not known:
+        return "", [Told(use.at, f"xsd:{name} is no datatype of XML Schema")]
+    if use.value is not None:
+        return value_told(use, base, own, near.value, known)
+    own_told = [] if known else [Told(use.at, f"the datatype xsd:{name} is not served", written(base, joined([own])), near.data)]
+    try:
+        text, told = data_use(use, base, own, near.lengths)
+    except NotBroughtOver as fault:
+        return "", [*(Told(each.at, each.what) for each in own_told), fault.told]
+    return text if told or own_told else "", own_told + told
+
+
+def other_type(use, lists):
+    """A type of another library than that of XML Schema."""
+    if use.library == COMPATIBILITY and use.name in ("ID", "IDREF", "IDREFS"):
+        return schema_type(dataclasses.replace(use, library=XSD), lists)
+    if use.library == "" and use.name in ("string", "token"):
+        told = [Told(param.at, f"{use.name} takes no parameter {param.name}; xsd:{use.name} takes lengths") for param in use.params]
+        return "", told
+    what = f"the datatype library {use.library!r} is not served" if use.library else f"{use.name} is none of the built-in datatypes"
+    if use.value is not None or not use.library:
+        return "", [Told(use.at, what)]
+    return "xsd:string", [Told(use.at, what, "xsd:string", MORE)]
+
+
+def judged(use, lists):
+    """What replaces a datatype as it is written (none: it stays), and what is told of it. `lists` says that a type may become a list pattern."""
+    return schema_type(use, lists) if use.library == XSD else other_type(use, lists)

@@ -1,0 +1,301 @@
+"""Tests of rncv-profile. See test.sh."""
+import os
+import pathlib
+import random
+import re
+import subprocess
+import sys
+import tempfile
+import unittest
+from urllib.parse import unquote_to_bytes
+
+HERE, PROGRAM = pathlib.Path(sys.argv[1]), pathlib.Path(sys.argv[2])
+TOP = HERE.parents[1]
+sys.path.insert(0, str(HERE))
+from compact_tokens import NoToken, decoded, tokens  # noqa: E402
+from profile_reader import Reader, Traits  # noqa: E402
+
+# Of each kind of finding: the main file's bytes, and the lines that it gives with --write, without the file's name.
+SERVED = [
+    b'element a { attribute * { xsd:string { maxLength = "3" } }+, (xsd:token - ("x" | [ b = "c" ] "y")) }',
+    b'namespace n = inherit default namespace = "u" # >> [\n [ n:x = "1" ] element div | n:b { attribute (n:* - n:b) { list { "a"* } }+ | xsd:integer "1" }',
+    b'start = n [ x = "1" ] n = [ a:x [ "y" ~ """z""" [ ] ] ] element \\start { empty } div { [ a = "b" ] n |= element b { text } }',
+    b'datatypes d = "http://www.w3.org/2001/XMLSchema-datatypes" element grammar { d:integer { minInclusive = " -1 " } }',
+    b'start = grammar { start = parent a } a = element list { mixed { b } } b = element b { token { } - string "a" }',
+    b'element \\x{61} { "\\x{22} ~ "a" ~ \'\\x{A}\' }',
+]
+FINDINGS = [
+    ("utf-16", "element a { empty }".encode("utf-16"), ["1:1: the encoding is UTF-16; the copy has UTF-8, and accepts the same"]),
+    ("utf-16 without a mark", "element a { empty }".encode("utf-16-be"), ["1:1: the encoding is UTF-16; the copy has UTF-8, and accepts the same"]),
+    ("latin-1", b"# \xe9\nelement caf\xe9 { empty }",
+     ["1:3: the byte E9 is not UTF-8; the copy has these bytes as ISO 8859-1 in UTF-8, and accepts the same if they were ISO 8859-1"]),
+    ("mark", b"\xef\xbb\xbfelement a { empty }", ["1:1: a byte order mark stands first; the copy has none, and accepts the same"]),
+    ("mark and latin-1", b"\xef\xbb\xbfelement caf\xe9 { empty }",
+     ["1:12: a byte order mark stands first, and the byte E9 is not UTF-8; the copy has these bytes as ISO 8859-1 in UTF-8, and accepts "
+      "the same if they were ISO 8859-1"]),
+    ("annotation elements", b'a:b [ "x" ] start = element div { empty }\n div { \\start [ ] }',
+     ["1:1: an annotation element among components is not served; the copy has nothing there, and accepts the same",
+      "2:8: an annotation element among components is not served; the copy has nothing there, and accepts the same"]),
+    ("follow", b'element a { text >> a:b [ "x" [ ] ] }',
+     ["1:18: annotations that follow (>>) are not served; the copy has nothing there, and accepts the same"]),
+    ("two annotations", b'\n[ a = "1" ] [ a = "2" ] element a { empty }',
+     ["2:1: two annotations in a row are not served; the copy has nothing there, and accepts the same"]),
+    ("annotation of a declaration", b'[ a = "1" ] namespace n = "u" element n:a { empty }',
+     ["1:1: an annotation before a declaration is not served; the copy has nothing there, and accepts the same"]),
+    ("escapes", b'element \\xx{61}b { "\\x{0000061}" }',
+     ["1:9: an escape with more than one x or more than 6 digits is not served; the copy has \\x{61}, and accepts the same",
+      "1:21: an escape with more than one x or more than 6 digits is not served; the copy has \\x{61}, and accepts the same"]),
+    ("integers", b"element a { xsd:byte | xsd:unsignedByte }",
+     ['1:13: the datatype xsd:byte is not served; the copy has xsd:integer { minInclusive = "-128" maxInclusive = "127" }, and accepts the same',
+      '1:24: the datatype xsd:unsignedByte is not served; the copy has xsd:integer { minInclusive = "0" maxInclusive = "255" }, and accepts more']),
+    ("nearest", b'element a { xsd:date | xsd:QName "a:b" | xsd:anyURI { length = "3" } }',
+     ["1:13: the datatype xsd:date is not served; the copy has xsd:token, and accepts more",
+      "1:24: the datatype xsd:QName is not served; the copy has xsd:NMTOKEN, and accepts more and less",
+      "1:42: the datatype xsd:anyURI is not served; the copy has xsd:token, and accepts more",
+      '1:55: the parameter length is not served; the copy has minLength = "3" maxLength = "3", and accepts the same']),
+    ("lists", b"element a { xsd:NMTOKENS }", ["1:13: the datatype xsd:NMTOKENS is not served; the copy has list { xsd:NMTOKEN+ }, and accepts the same"]),
+    ("lists in lists", b"element a { list { xsd:NMTOKENS } }", ["1:20: the datatype xsd:NMTOKENS is not served; the copy has xsd:token, and accepts more"]),
+    ("value", b'element a { xsd:decimal "1.0" }', ["1:13: the datatype xsd:decimal is not served; the copy has xsd:token, and accepts less"]),
+    ("except", b"element a { xsd:token - (xsd:language | xsd:byte) }",
+     ["1:26: the datatype xsd:language is not served; the copy has xsd:NMTOKEN, and accepts less",
+      '1:41: the datatype xsd:byte is not served; the copy has xsd:integer { minInclusive = "-128" maxInclusive = "127" }, and accepts the same']),
+    ("except with a reference", b"start = element a { xsd:token - b } b = xsd:Name",
+     ["1:41: the datatype xsd:Name is not served; the copy has xsd:NMTOKEN, and accepts more and less"]),
+    ("library", b'datatypes d = "u" element a { d:t { p = "1" } }',
+     ["1:31: the datatype library 'u' is not served; the copy has xsd:string, and accepts more"]),
+    ("pattern", b'element a { xsd:NCName { pattern = "a" } }', ["1:26: the parameter pattern is not served; the copy has no pattern, and accepts more"]),
+    ("bounds", b'element a { xsd:integer { minExclusive = "1" maxInclusive = "9" totalDigits = "2" fractionDigits = "0" } }',
+     ['1:27: the parameter minExclusive is not served; the copy has xsd:integer { minInclusive = "2" }, and accepts the same',
+      '1:65: the parameter totalDigits is not served; the copy has xsd:integer { minInclusive = "-99" maxInclusive = "99" }, and accepts the same',
+      "1:83: the parameter fractionDigits is not served; the copy has no fractionDigits, and accepts the same"]),
+    ("length", b'element a { xsd:token { minLength = "0000000001" } }',
+     ['1:25: the parameter minLength is not written as 1 to 9 digits; the copy has minLength = "1", and accepts the same']),
+]
+# What cannot be brought over: the copy has it as it is, and is told of it again.
+LEFT = [
+    ("value not allowed", b'element a { xsd:boolean "yes" }', ["1:13: xsd:boolean does not allow the value 'yes'"]),
+    ("value out of bounds", b'element a { xsd:byte "128" }', ["1:13: xsd:byte does not allow the value '128'"]),
+    ("no type", b"element a { xsd:number }", ["1:13: xsd:number is no datatype of XML Schema"]),
+    ("no built-in", b'datatypes d = "" element a { d:text }', ["1:30: text is none of the built-in datatypes"]),
+    ("value of a library", b'datatypes d = "u" element a { d:t "1" }', ["1:31: the datatype library 'u' is not served"]),
+    ("no parameter", b'element a { xsd:int { minLength = "1" } }',
+     ["1:13: the datatype xsd:int is not served", "1:23: xsd:int takes no parameter minLength"]),
+    ("parameter of token", b'element a { token { maxLength = "1" } }', ["1:21: token takes no parameter maxLength; xsd:token takes lengths"]),
+    ("parameter twice", b'element a { xsd:token { maxLength = "1" maxLength = "2" } }', ["1:25: the parameter maxLength stands twice"]),
+    ("two lengths", b'element a { xsd:token { maxLength = "1" length = "1" } }', ["1:25: the parameter length stands beside another length"]),
+    ("no number", b'element a { xsd:token { maxLength = "x" } }', ["1:25: the parameter maxLength is no number: 'x'"]),
+    ("long bound", b'element a { xsd:integer { maxInclusive = "1' + b"0" * 38 + b'" } }', ["1:27: the parameter maxInclusive has more than 38 digits"]),
+    ("long length", b'element a { xsd:token { maxLength = "1000000000" } }', ["1:25: the parameter maxLength has more than 9 digits"]),
+    ("size", b"element a { empty }\n" + b"#" * 1_048_576, ["1:1: the file has more than 1,048,576 bytes"]),
+    ("nesting", b"element a {\n" + b"(" * 128 + b"empty" + b")" * 128 + b"}", ["2:128: braces and parentheses nest more than 128 deep"]),
+    ("uri", b'external "http://example.org/a.rnc"', ["1:10: the file http://example.org/a.rnc would have to be fetched"]),
+    ("no uri", b'external "http://["', ["1:10: the file http://[ would have to be fetched"]),
+    ("xml", b"<grammar/>", ["1:1: the XML syntax of RELAX NG is not served (trang writes the compact one)"]),
+    ("no token", b'element a {\n "x }', ["2:2: no token begins here: the file is not read further"]),
+    ("no character", b"element a\x01 { empty }", ["1:10: the character 1 is none of XML: the file is not read further"]),
+    ("no escape", b"element a\\x{4G} { empty }", ["1:10: a bad escape begins here: the file is not read further"]),
+    ("no escaped character", b"element \\x{D800} { empty }", ["1:9: the character D800 is none of XML: the file is not read further"]),
+]
+
+
+class Profile(unittest.TestCase):
+    """The program, in a fresh folder."""
+
+    def setUp(self):
+        folder = tempfile.TemporaryDirectory()
+        self.addCleanup(folder.cleanup)
+        self.folder = pathlib.Path(folder.name)
+
+    def write(self, name, data):
+        path = self.folder / name
+        path.parent.mkdir(parents=True, exist_ok=True)
+        path.write_bytes(data)
+
+    def run_in(self, *words):
+        run = subprocess.run([str(word) for word in words], cwd=self.folder, capture_output=True, timeout=60, check=False)
+        return run.stdout.decode(), run.stderr.decode(), run.returncode
+
+    def profile(self, *words):
+        return self.run_in(HERE / "rncv-profile", *words)
+
+    def checked(self, *names):
+        """The copies break no clause, as the program says."""
+        if PROGRAM.exists():
+            self.assertEqual(self.run_in(PROGRAM.resolve(), "check", *names)[::2], ("schema ok\n", 0))
+
+    def test_served(self):
+        for source in SERVED:
+            with self.subTest(source):
+                self.write("s.rnc", source)
+                self.assertEqual(self.profile("s.rnc"), ("", "", 0))
+                self.checked("s.rnc")
+
+    def test_findings_and_their_copies(self):
+        for name, source, lines in FINDINGS:
+            with self.subTest(name):
+                self.write("s.rnc", source)
+                out, errors, status = self.profile("--write", "copy", "s.rnc")
+                self.assertEqual((out.splitlines(), errors, status), ([*(f"s.rnc:{line}" for line in lines), "written: copy/s.rnc"], "", 1))
+                self.assertEqual(self.profile("copy/s.rnc"), ("", "", 0))
+                self.checked("copy/s.rnc")
+
+    def test_what_is_not_brought_over(self):
+        for name, source, lines in LEFT:
+            with self.subTest(name):
+                self.write("s.rnc", source)
+                self.assertEqual(self.profile("--write", "copy", "s.rnc")[0].splitlines()[:-1], [f"s.rnc:{line}; not brought over" for line in lines])
+                self.assertEqual(self.profile("copy/s.rnc")[::2], ("".join(f"copy/s.rnc:{line}\n" for line in lines), 1))
+                if PROGRAM.exists():
+                    self.assertRegex(self.run_in(PROGRAM.resolve(), "check", "s.rnc")[0], "^refused S")
+
+    def test_files_get_flat_names(self):
+        self.write("schema/main.rnc", b'include "./a/x.rnc" { start = element a { n } }\nn = external "b/my%20x.rnc" | external "y.rnc"')
+        self.write("schema/a/x.rnc", b"start = notAllowed")
+        self.write("schema/b/my x.rnc", b'element b { external "x.rnc" }')
+        self.write("schema/b/x.rnc", b"element c { empty }")
+        self.write("schema/y.rnc", b"element y { empty }")
+        out, errors, status = self.profile("--write", "copy", "schema/main.rnc")
+        told = "files are named without directories and escapes, not as"
+        self.assertEqual((errors, status), ("", 1))
+        self.assertEqual(out, f'schema/main.rnc:1:9: {told} ./a/x.rnc; the copy has "x.rnc", and accepts the same\n'
+                              f'schema/main.rnc:2:14: {told} b/my%20x.rnc; the copy has "my x.rnc", and accepts the same\n'
+                              f'schema/b/my x.rnc:1:22: {told} x.rnc; the copy has "x-2.rnc", and accepts the same\n'
+                              "written: copy/main.rnc copy/x.rnc copy/my x.rnc copy/x-2.rnc copy/y.rnc\n")
+        self.assertEqual(self.profile("copy/main.rnc"), ("", "", 0))
+        self.folder /= "copy"
+        self.checked("main.rnc", "x.rnc", "my x.rnc", "x-2.rnc", "y.rnc")
+
+    def test_number_of_files(self):
+        self.write("s.rnc", b"".join(b'include "%d.rnc" ' % number for number in range(64)) + b"start = element a { empty }")
+        for number in range(64):
+            self.write(f"{number}.rnc", b"")
+        self.assertEqual(self.profile("s.rnc"), ("s.rnc:1:1: the schema has more than 64 files\n", "", 1))
+
+    def test_files_that_cannot_be_read(self):
+        self.write("s.rnc", b'\nexternal "none.rnc"')
+        self.assertEqual(self.profile("s.rnc"), ("", "s.rnc:2:10: cannot read 'none.rnc': No such file or directory\n", 4))
+        self.assertEqual(self.profile("none.rnc")[1:], ("none.rnc: cannot read 'none.rnc': No such file or directory\n", 4))
+        self.assertEqual(self.profile()[2], 4)
+
+    def test_broken_utf_16(self):
+        self.write("s.rnc", b"\xff\xfe" + "element a { empty }#".encode("utf-16-le") + b"\0\xd8")
+        told = "s.rnc:1:1: the encoding is UTF-16, broken at the byte 40; not brought over"
+        self.assertEqual(self.profile("--write", "copy", "s.rnc")[0].splitlines()[0], told)
+
+    def test_no_source_is_written_over(self):
+        self.write("s.rnc", b"xsd:date")
+        self.assertEqual(self.profile("--write", ".", "s.rnc")[1:], ("rncv-profile: s.rnc is a file of the schema; copies go to another directory\n", 4))
+        self.assertEqual((self.folder / "s.rnc").read_bytes(), b"xsd:date")
+
+    def test_a_file_that_mentions_itself_ends(self):
+        self.write("s.rnc", b'element a { external "s.rnc" }')
+        self.assertEqual(self.profile("s.rnc"), ("", "", 0))
+
+    def test_dropped_lines_stay_lines(self):
+        self.write("s.rnc", b'a:b [\n"x"\n]\nstart = element a { xsd:date }')
+        self.profile("--write", "copy", "s.rnc")
+        self.assertEqual((self.folder / "copy/s.rnc").read_bytes(), b"\n\n\nstart = element a { xsd:token }")
+
+    def test_examples_of_the_repository(self):
+        for folder in sorted(path for path in (TOP / "examples").iterdir() if path.name != "broken"):
+            with self.subTest(folder.name):
+                self.assertEqual(self.profile(*sorted(folder.glob("*.rnc"))), ("", "", 0))
+
+    def test_transcripts_of_the_page(self):
+        page = (TOP / "docs/MIGRATING.md").read_text(encoding="utf-8")
+        for name, text in re.findall(r"^```rnc (\S+)\n(.*?)^```$", page, re.M | re.S):
+            self.write(name, text.encode())
+        transcripts = re.findall(r"^```transcript\n(.*?)^```$", page, re.M | re.S)
+        self.assertTrue(transcripts)
+        if PROGRAM.exists():
+            self.write("bin/rncv", f'#!/bin/sh\nexec "{PROGRAM.resolve()}" "$@"\n'.encode())
+            (self.folder / "bin/rncv").chmod(0o755)
+        path = f"{HERE}:{self.folder / 'bin'}:{os.environ['PATH']}"
+        for command, wanted in re.findall(r"^\$ (.*)\n((?:(?!\$ ).*\n)*)", "".join(transcripts), re.M):
+            if "rncv check" in command and not PROGRAM.exists():
+                continue
+            with self.subTest(command):
+                run = subprocess.run(["sh", "-c", command], cwd=self.folder, env={**os.environ, "PATH": path}, capture_output=True, check=False)
+                self.assertEqual((run.stdout + run.stderr).decode(), wanted)
+
+
+class Tokens(unittest.TestCase):
+    """Bytes, escapes and tokens, beyond what the findings show."""
+
+    def test_literals(self):
+        found, _ = tokens("\"a\" '' \"\"\"x\n\"y\"\"\" ''''''")
+        self.assertEqual([token.text for token in found], ["a", "", 'x\n"y', ""])
+
+    def test_escapes_count_as_characters(self):
+        found, escapes = tokens(r"\x{65}mpty # \x{A} x" + "\n" + r"\\x{61}")
+        self.assertEqual([(token.kind, token.text, token.start, token.end) for token in found], [("word", "empty", 0, 10), ("quoted", "a", 21, 28)])
+        self.assertEqual(len(escapes), 3)
+
+    def test_an_escaped_line_feed_ends_no_line(self):
+        self.assertEqual(tokens(r'"a\x{A}b"')[0][0].text, "a\nb")
+        with self.assertRaises(NoToken):
+            tokens(r"a \x{A} b")
+
+    def test_longest_token(self):
+        kinds = [token.kind for token in tokens(r"p:* p:a p * \element |= >>")[0]]
+        self.assertEqual(kinds, ["nsname", "cname", "word", "sign", "quoted", "sign", "sign"])
+
+
+class Sentences(unittest.TestCase):
+    """The texts of `rnc_grammar_cases` and `rnc_text_cases`, with the trees and the clauses that stand beside them."""
+
+    @staticmethod
+    def rows(crate, *names):
+        """The bytes of each row and what is printed of it."""
+        folder = TOP / "crates" / crate
+        lines = [line for name in names for line in (folder / "data" / name).read_text(encoding="utf-8").split("\n") if line and line[0] != "#"]
+        answers = (folder / "stdout").read_text(encoding="utf-8").split("\n")
+        return [(unquote_to_bytes(line), answer) for line, answer in zip(lines, answers)]
+
+    def test_sentences_have_the_datatypes_and_files_of_their_trees(self):
+        served = 0
+        for data, answer in self.rows("rnc_grammar_cases", "worked.txt", "sentences.txt"):
+            if answer.startswith("clause"):
+                continue
+            reader = Reader(tokens(data.decode())[0]).read()
+            tree = answer.split(" is a grammar of")[0]
+            self.assertEqual(reader.findings, [], data)
+            types = re.findall(r'DatatypeName \{ library: "([^"]+)", name: "([^"]+)" \}', tree)
+            self.assertEqual([(use.library, use.name) for use, _, _ in reader.uses if use.library], types, data)
+            names = re.findall(r'Mention \{ href: "((?:[^"\\]|\\.)*)"', tree)
+            self.assertEqual([mention.href.replace('"', '\\"') for mention in reader.mentions], names, data)
+            self.assertEqual((reader.lists, reader.excepts), ("List(" in tree, "except: Some" in tree), data)
+            served += 1
+        self.assertGreater(served, 600)
+
+    def test_no_tokens_are_too_odd(self):
+        words = [data.decode().split(" ") for data, _ in self.rows("rnc_grammar_cases", "sentences.txt")]
+        chance = random.Random(1)
+        for _ in range(2000):
+            text = " ".join(chance.choice([*chance.choice(words), ">>", "[", "]", "a:b"]) for _ in range(chance.randrange(20)))
+            try:
+                Reader(tokens(text)[0]).read().judge_types(Traits())
+            except NoToken:
+                pass
+
+    def test_texts_break_the_same_clauses(self):
+        for row, answer in self.rows("rnc_text_cases", "cases.txt"):
+            call, _, data = row.partition(b"\t")
+            reading = decoded(data)
+            wanted = (re.match(r"([345]) at \d+$", answer) or "  ")[1].strip()
+            if b">>" not in data and "mark" not in reading.told:
+                self.assertEqual(self.clause(reading, call == b"cut"), wanted, row)
+
+    @staticmethod
+    def clause(reading, cuts):
+        """The clause that a text breaks by itself; S5 only where tokens are asked for."""
+        if reading.told:
+            return "3"
+        try:
+            return "4" if any(escape.shorter for escape in tokens(reading.text)[1]) else ""
+        except NoToken as fault:
+            return "4" if "no token" not in fault.what else "5" if cuts else ""
+
+
+if __name__ == "__main__":
+    unittest.main(argv=sys.argv[:1], verbosity=2)
