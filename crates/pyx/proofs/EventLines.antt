@@ -1,5 +1,6 @@
 -- Each event comes at the line at which it is told: which events come up to a line is a matter of the lines up to it.
-use Rattle.std.proofs.Common.{◌≡◌, ℕ, suc, ◌+◌, ◌≤◌, ◌<◌, Bool, true, false, cond, ◌&&◌, List, [], ◌∷◌, ◌++◌, length, take, drop, Option, Some, None, Result, Ok, Err}
+use Rattle.std.proofs.Common.{◌≡◌, ℕ, suc, ◌+◌, ◌≤◌, ◌<◌, Bool, true, false, cond, ◌&&◌, List, [], ◌∷◌, ◌++◌, length, take, drop, Option, Some, None}
+use Rattle.std.proofs.Common.{Result, Ok, Err}
 use Rattle.std.proofs.Common.{refl, ap, sym, ◌∙◌, subst, arith, All, zero, append_assoc}
 use Rattle.std.specs.Prelude.{◌==◌, nat_le, is_some}
 use Rattle.std.specs.List.{AllByRecursion}
@@ -167,12 +168,14 @@ cut_all all n u events le e = go (all_read (take n all) nothing_read).0 (all_rea
   long = long_enough n all le
 
   whole : followed (followed (all_read (take n all) nothing_read) (all_read (drop n all))) all_ended ≡ (Ok u, events)
-  whole = ap (λ t. followed t all_ended) (sym (all_append (take n all) (drop n all) nothing_read) ∙ ap (λ ls. all_read ls nothing_read) (take-append-drop n all)) ∙ e
+  whole = ap (λ t. followed t all_ended) (sym (all_append (take n all) (drop n all) nothing_read) ∙ ap (λ ls. all_read ls nothing_read)
+      (take-append-drop n all)) ∙ e
 
   in_time : AreBetween 0 n (all_read (take n all) nothing_read).1
   in_time = between_wider (all_read (take n all) nothing_read).1 (omega arith) (omega (arith, long)) (all_between (take n all) nothing_read)
 
-  go : (r : Result State Fault) (es : List Event) → all_read (take n all) nothing_read ≡ (r, es) → followed (go_on r es (all_read (drop n all))) all_ended ≡ (Ok u, events)
+  go : (r : Result State Fault) (es : List Event) → all_read (take n all) nothing_read ≡ (r, es)
+      → followed (go_on r es (all_read (drop n all))) all_ended ≡ (Ok u, events)
       → AreCut all n events
   go (Ok t) es is h =
       let counted = all_counted (take n all) nothing_read t (ap (λ x. x.0) is) in
@@ -183,7 +186,8 @@ cut_all all n u events le e = go (all_read (take n all) nothing_read).0 (all_rea
         parts = sym (ap (λ x. x.1) h) ∙ end_silent (go_on (Ok t) es (all_read (drop n all)))
             ∙ ap (λ l. l ++ (all_read (drop n all) t).1) (sym (ap (λ x. x.1) is));
         in_time = in_time;
-        behind = between_wider (all_read (drop n all) t).1 (omega (arith, counted, long)) (omega (arith, counted, long, sizes, both)) (all_between (drop n all) t);
+        behind = between_wider (all_read (drop n all) t).1 (omega (arith, counted, long)) (omega (arith, counted, long, sizes, both))
+            (all_between (drop n all) t);
       }
   go (Err f) es is h = let bad = ap (λ x. x.0) h in absurd (cc)
 
@@ -219,8 +223,10 @@ not_before n (x ∷ xs) ys (b ∷ before) e behind h all lt = let rest : xs ++ y
 
 -- with no line before it, and with all of them
 all_cut : (bytes : List ℕ) (d : Placed) → IsPyxDocument bytes d → AreBetween 0 (length (lines bytes)) (events_of d)
-all_cut bytes d is = let cut = cut_at bytes d 0 is (omega arith) in subst (AreBetween 0 (length (lines bytes))) (sym cut.parts) (between_both 0 (length (lines bytes))
-    (all_read (take 0 (lines bytes)) nothing_read).1 cut.later (between_wider (all_read (take 0 (lines bytes)) nothing_read).1 (omega arith) (omega arith) cut.in_time)
+all_cut bytes d is = let cut = cut_at bytes d 0 is (omega arith) in
+    subst (AreBetween 0 (length (lines bytes))) (sym cut.parts) (between_both 0 (length (lines bytes))
+    (all_read (take 0 (lines bytes)) nothing_read).1 cut.later
+    (between_wider (all_read (take 0 (lines bytes)) nothing_read).1 (omega arith) (omega arith) cut.in_time)
     cut.behind)
 
 -- it comes at one of the lines
@@ -254,7 +260,8 @@ lines_rise bytes d before e after is parts = go e.line refl where
       let mid = not_before n (all_read (take n (lines bytes)) nothing_read).1 cut.later before e after (sym cut.parts ∙ parts) cut.in_time (omega (arith, h)) in
       let all = subst (AreBetween n (length (lines bytes))) mid.1 cut.behind in
       All-from_recursion (λ u. e.line ≤ u.line) after
-      (subst (λ k. AllByRecursion (λ u. k ≤ u.line) after) (one_more n ∙ sym h) (late n (length (lines bytes)) after (behind_all (λ u. (n < u.line) × (u.line ≤ length (lines bytes))) mid.0 after e all)))
+      (subst (λ k. AllByRecursion (λ u. k ≤ u.line) after) (one_more n ∙ sym h)
+      (late n (length (lines bytes)) after (behind_all (λ u. (n < u.line) × (u.line ≤ length (lines bytes))) mid.0 after e all)))
 
 -- a document with the same lines up to its line has the same events up to it
 pub same_front : (bytes bytes' : List ℕ) (d d' : Placed) (n : ℕ) (before : List Event) (e : Event) (after : List Event) → IsPyxDocument bytes d
@@ -263,7 +270,8 @@ pub same_front : (bytes bytes' : List ℕ) (d d' : Placed) (n : ℕ) (before : L
 same_front bytes bytes' d d' n before e after is is' le le' same parts at =
     let cut = cut_at bytes d n is le in
     let cut' = cut_at bytes' d' n is' le' in
-    let front = not_behind n (length (lines bytes)) (all_read (take n (lines bytes)) nothing_read).1 cut.later before e after (sym cut.parts ∙ parts) cut.behind at in (
+    let front = not_behind n (length (lines bytes)) (all_read (take n (lines bytes)) nothing_read).1 cut.later before e after
+    (sym cut.parts ∙ parts) cut.behind at in (
       front.0 ++ cut'.later,
       cut'.parts ∙ ap (λ ls. (all_read ls nothing_read).1 ++ cut'.later) (sym same) ∙ ap (λ l. l ++ cut'.later) front.1
           ∙ append_assoc before (e ∷ front.0) cut'.later ∙ sym (append_assoc before (e ∷ []) (front.0 ++ cut'.later)),

@@ -1,5 +1,6 @@
 -- What is known of a document, event by event, and at its end.
-use Rattle.std.proofs.Common.{◌≡◌, ◌↔◌, ◌⊎◌, None, inl, inr, ◌&&◌, ◌||◌, true, false, ℕ, List, [], ◌∷◌, ◌++◌, map, refl, sym, ap, ◌∙◌, subst, All, Bool, Contains, append_assoc}
+use Rattle.std.proofs.Common.{◌≡◌, ◌↔◌, ◌⊎◌, None, inl, inr, ◌&&◌, ◌||◌, true, false, ℕ, List, [], ◌∷◌, ◌++◌, map, refl, sym, ap, ◌∙◌, subst, All}
+use Rattle.std.proofs.Common.{Bool, Contains, append_assoc}
 use Rattle.std.specs.List.{list_all, list_any}
 use Rattle.std.proofs.lemmas.List.Elements.{All-push, All-nil, All-cons, All-contains, Contains-get_or}
 use Rattle.std.proofs.lemmas.List.Folds.{Any-from_list_any}
@@ -71,7 +72,8 @@ comes_first g trees p line start now levels begun held same = record {
     has_begun = sym begun;
     held = subst (λ h. IsHeld g trees p.state.now.items h []) (sym held) refl;
   };
-  stands = stands_first g (record { state = record { now = tree_of trees start ∷ []; levels = [] }; has_begun = false; held = [] }) (tree_of trees start) same refl;
+  stands = stands_first g (record { state = record { now = tree_of trees start ∷ []; levels = [] }; has_begun = false; held = [] })
+      (tree_of trees start) same refl;
   known = All-nil (λ e. KnowsName g.grammar e.kind);
   last = inl refl;
 }
@@ -137,11 +139,13 @@ module _ (g : Reading) where
 not_empty : {room n : ℕ} {outer : Scope} {all : List Said} {d : Placed} → IsElement room outer n all d → events_of d ≡ [] → ⊥
 not_empty (element t c a e) none = let first = ap events_of (sym e) ∙ none in absurd (cc)
 
-fails_behind : (g : Reading) (es : List Event) (line : ℕ) (f : FailsAt g es line) (bytes : List ℕ) (d : Placed) → IsPyxDocument bytes d → events_of d ≡ es → ¬ (IsValid g d)
+fails_behind : (g : Reading) (es : List Event) (line : ℕ) (f : FailsAt g es line) (bytes : List ℕ) (d : Placed) → IsPyxDocument bytes d → events_of d ≡ es
+    → ¬ (IsValid g d)
 fails_behind g es line f bytes d is same =
     f.cannot f.behind bytes d is (same ∙ f.parts ∙ sym (append_assoc f.before (record { line = line; kind = f.kind } ∷ []) f.behind))
 
-pub failed : (g : Reading) (d : Placed) (line : ℕ) (bytes : List ℕ) → IsPyxDocument bytes d → FailsAt g (events_of d) line → ¬ (IsValid g d) × FailsAt g (events_of d) line
+pub failed : (g : Reading) (d : Placed) (line : ℕ) (bytes : List ℕ) → IsPyxDocument bytes d → FailsAt g (events_of d) line
+    → ¬ (IsValid g d) × FailsAt g (events_of d) line
 failed g d line bytes is f = (fails_behind g (events_of d) line f bytes d is refl, f)
 
 module _ (g : Reading) (trees : List (Simple ℕ)) (p : Position) (line : ℕ) (bytes : List ℕ) (d : Placed) (is : IsPyxDocument bytes d)
@@ -154,7 +158,8 @@ module _ (g : Reading) (trees : List (Simple ℕ)) (p : Position) (line : ℕ) (
       (levels_answer g.grammar g.tests come.matcher bytes d is come.stands).0
       (subst (λ ps. (p : Simple ℕ) × Contains ps p × (is_nullable p ≡ true)) (sym now_is) (some_passes is_nullable (tree_of trees) p.state.now.items some))
 
-  none_ends : list_any (λ n. is_nullable (tree_of trees n)) p.state.now.items ≡ false → (q : Simple ℕ) → Contains come.matcher.state.now q → ¬ (is_nullable q ≡ true)
+  none_ends : list_any (λ n. is_nullable (tree_of trees n)) p.state.now.items ≡ false → (q : Simple ℕ) → Contains come.matcher.state.now q
+      → ¬ (is_nullable q ≡ true)
   none_ends none q in_now e =
       let no : is_nullable q ≡ false =
       All-contains (λ p. is_nullable p ≡ false) (map (tree_of trees) p.state.now.items) q (all_fail is_nullable (tree_of trees) p.state.now.items none)
@@ -179,4 +184,5 @@ module _ (g : Reading) (trees : List (Simple ℕ)) (p : Position) (line : ℕ) (
         failed g d line bytes is f where
           front_known : (front : List Event) (kind : EventKind) → events_of d ≡ front ++ record { line = line; kind = kind } ∷ []
               → All (λ e. KnowsName g.grammar e.kind) front
-          front_known front kind parts = all_before (λ e. KnowsName g.grammar e.kind) front (record { line = line; kind = kind }) (subst (All (λ e. KnowsName g.grammar e.kind)) parts come.known)
+          front_known front kind parts = all_before (λ e. KnowsName g.grammar e.kind) front (record { line = line; kind = kind })
+              (subst (All (λ e. KnowsName g.grammar e.kind)) parts come.known)

@@ -93,7 +93,8 @@ module _ (g : Reading) where
 
   -- a string
   pub string_step : (text : List ℕ) (old new : List (Simple ℕ)) (p : Position) (h : Held) (r : Position) → IsPositionInside old p →
-      AddsHeld (λ s. s ≡ text) g old new p.state.now.items h → r.state ≡ p.state → r.has_begun ≡ p.has_begun → r.held ≡ Some h → AddsStep g (a_string text) old new p r
+      AddsHeld (λ s. s ≡ text) g old new p.state.now.items h → r.state ≡ p.state → r.has_begun ≡ p.has_begun → r.held ≡ Some h
+      → AddsStep g (a_string text) old new p r
   string_step text old new p h r inside a same begun held = record {
     longer = a.longer;
     inside = record {
@@ -115,7 +116,8 @@ module _ (g : Reading) where
   -- an end behind an element
   pub end_step : (old new : List (Simple ℕ)) (p : Position) (s : State) (r : Position) →
       ((m : LevelMatcher) → IsPositionOf g old p m → SettlesLevels g m.held m.state (state_of old s)) →
-      AddsState (EndsIf g (EndsNow g) (state_of old s)) old new r.state → p.has_begun ≡ true → r.has_begun ≡ true → r.held ≡ None → AddsStep g an_end old new p r
+      AddsState (EndsIf g (EndsNow g) (state_of old s)) old new r.state → p.has_begun ≡ true → r.has_begun ≡ true → r.held ≡ None
+      → AddsStep g an_end old new p r
   end_step old new p s r settles a before begun none = record {
     longer = a.longer;
     inside = record { state = a.inside; held = subst (IsHeldInside new (length r.state.now.items)) (sym none) tt };

@@ -26,7 +26,8 @@ returns-clause-step g c =
           w.if-position.true refl refl
       | else-position+in_ok-state-2 w ↦
           lone_step reading old (trees c.if-position.derivatives) p r
-          (subst (λ d. AddsState (λ n. (s : List ℕ) → IsHeld reading old p.state.now.items p.held s → EndsIf reading (EndsWith reading s) (state_of old p.state) n)
+          (subst (λ d. AddsState (λ n. (s : List ℕ) → IsHeld reading old p.state.now.items p.held s
+          → EndsIf reading (EndsWith reading s) (state_of old p.state) n)
           old (trees d) c.if-position.state) (sym w.derivatives-is)
           (subst (AddsState (λ n. (s : List ℕ) → IsHeld reading old p.state.now.items p.held s → EndsIf reading (EndsWith reading s) (state_of old p.state) n)
           old (trees w.after_lone_string.new.derivatives)) (sym w.state-is) w.in_ok-state-2.ensures.ended))

@@ -11,7 +11,8 @@ returns-then-is_hopeless-clause-progress g c =
     let trees = g.D.Derivatives.trees in
     let reading = g.D.Derivatives.reading c.args.derivatives.now in
     let new = trees c.step.new.derivatives in
-    let all = subst (λ ns. list_all (λ n. is_not_allowed (tree_of new n)) ns ≡ true) c.as_slice.ensures.value (sym c.is_hopeless.ensures ∙ c.if-is_hopeless.true) in
+    let all = subst (λ ns. list_all (λ n. is_not_allowed (tree_of new n)) ns ≡ true) c.as_slice.ensures.value
+    (sym c.is_hopeless.ensures ∙ c.if-is_hopeless.true) in
     record {
       inside = tt;
       stands = λ es come. fails reading (trees c.args.derivatives.now) new c.args.position c.in_ok-position.position (event_of c.args.event)
@@ -23,7 +24,8 @@ returns-clause-progress g c =
     let trees = g.D.Derivatives.trees in
     let reading = g.D.Derivatives.reading c.args.derivatives.now in
     let new = trees c.step.new.derivatives in
-    let some = subst (λ ns. list_all (λ n. is_not_allowed (tree_of new n)) ns ≡ false) c.as_slice.ensures.value (sym c.is_hopeless.ensures ∙ c.if-is_hopeless.false) in
+    let some = subst (λ ns. list_all (λ n. is_not_allowed (tree_of new n)) ns ≡ false) c.as_slice.ensures.value
+    (sym c.is_hopeless.ensures ∙ c.if-is_hopeless.false) in
     record {
       inside = c.in_ok-position.ensures.step.inside;
       stands = λ es come. comes_on reading (trees c.args.derivatives.now) new c.args.position c.in_ok-position.position (event_of c.args.event)
