@@ -212,7 +212,8 @@ module _ (old new : List Node) (longer : Longer old new) (front back : List Way)
           kept = λ q each.
               let P = IsRestrictedBodyNamed g q in
               subst (EachWay P IsRestricted) (sym after_is)
-              (joined_kept g (of front) (of back) b c d r P IsRestricted (named_both g q b c d restricted typed) (subst (EachWay P IsRestricted) before_is each));
+              (joined_kept g (of front) (of back) b c d r P IsRestricted (named_both g q b c d restricted typed)
+              (subst (EachWay P IsRestricted) before_is each));
         }
 
 -- ---- one way after the other

@@ -12,7 +12,8 @@ use Rattle.rng_model.specs.declared.simple.PatternId.{PatternId}
 use Rattle.rng_model.specs.declared.simple.Simple as rows
 use Rattle.rng_model.specs.declared.simple.Simple.TheVariants as simple
 use Rattle.rng_matching.specs.Derivatives.{is_empty, is_not_allowed, joined_of, repeat_of}
-use Rattle.rng_matching.specs.Restricted.{HasNoAttribute, HasNoneGrouped, RepeatsWell, HasTexts, MayBeListed, content_type, type_of_both, type_of_choice, IsTyped}
+use Rattle.rng_matching.specs.Restricted.{HasNoAttribute, HasNoneGrouped, RepeatsWell, HasTexts, MayBeListed, IsTyped}
+use Rattle.rng_matching.specs.Restricted.{content_type, type_of_both, type_of_choice}
 use Rattle.rng_matching.proofs.Hereditary.{none_is_ungrouped}
 use Rattle.rng_patterns.specs.Kept.{AreKept, AreRestrictedAlike, HasContentWithin, HasNoLists, IsChoiceOf, IsMadeOver, KeepsRestrictions}
 use Rattle.rng_patterns.specs.Node.{Node}
@@ -23,7 +24,8 @@ use Rattle.rng_patterns.specs.declared.pattern.PatternNumber.{PatternNumber}
 use Rattle.rng_patterns.proofs.Trees.{tree_stays}
 use Rattle.rng_patterns.specs.Reduced.{HasAlternative}
 use Rattle.rng_patterns.proofs.Alternatives.{IsOfChoices, alternative_has, has_of_alternatives}
-use Rattle.rng_patterns.proofs.Contents.{both_have, both_members, both_within, greater_itself, less_together, some_is, together_greater, within_first, within_second}
+use Rattle.rng_patterns.proofs.Contents.{both_have, both_members, both_within, greater_itself, less_together, some_is, together_greater}
+use Rattle.rng_patterns.proofs.Contents.{within_first, within_second}
 
 either_one : (Q : Simple ℕ → Type 0) (b : Bool) (p q : Simple ℕ) → Q p → Q q → Q (cond b p q)
 either_one Q true p q h k = h
