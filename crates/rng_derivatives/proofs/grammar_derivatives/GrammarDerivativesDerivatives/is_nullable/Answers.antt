@@ -2,8 +2,9 @@ use Rattle.rng_derivatives.proofs.Served.{below_there, none_there}
 use Rattle.rng_derivatives.proofs.grammar_derivatives.GrammarDerivativesDerivatives.is_nullable.Goals as goal
 
 pub facts-requires : goal.facts-requires
-facts-requires c = below_there c.self.inside.grammar.now c.self.inside.table c.in-Some.table c.args.self.now c.in-Some.is c.self.view_is c.args.pattern
-    c.requires
+facts-requires c =
+    below_there c.self.inside.grammar.now c.self.inside.table c.in-Some.table c.args.self.now c.in-Some.is c.self.view_is c.args.pattern c.requires
 
 pub returns-in-None : goal.returns-in-None
-returns-in-None c = absurd (none_there c.self.inside.grammar.now c.self.inside.table c.args.self.now c.args.pattern c.in-None.is c.self.view_is c.requires)
+returns-in-None c =
+    absurd (none_there c.self.inside.grammar.now c.self.inside.table c.args.self.now c.args.pattern c.in-None.is c.self.view_is c.requires)
