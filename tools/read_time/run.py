@@ -53,6 +53,14 @@ def records():
         yield ")record\n"
 
 
+def blank_texts():
+    """The records, with a blank text before each start and each end of what has elements."""
+    for part in records():
+        if part[0] != "A":
+            yield "-\\n  \n" if part[1:].startswith("record\n") else "-\\n    \n"
+        yield part
+
+
 def deep():
     yield from (f"(node\nAd {i}\n" for i in range(510))
     yield element("leaf", "x")
@@ -91,6 +99,8 @@ def many_prefixes():
 SHAPES = [
     ("records", 10, records),
     ("records", 100, records),
+    ("records with blank texts between elements", 10, blank_texts),
+    ("records with blank texts between elements", 100, blank_texts),
     ("511 elements in one another", 10, deep),
     ("texts of a megabyte", 100, long_texts),
     ("the same of other letters than Latin ones", 100, other_texts),

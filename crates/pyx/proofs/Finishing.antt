@@ -51,7 +51,7 @@ is_fault_after k (pyx.At clause line) f = λ bytes sent st rest.
     ∙ again (read (bytes ++ rest) nothing_fed) x (read bytes nothing_fed).1 (stuck_more bytes rest x q) in
     is_fault (bytes ++ rest) x sent (ap (λ (t : Turn State). t.0) all) (ap (λ (t : Turn State). t.1) all ∙ st.events)
 
-pub finishes_stuck : (A : Type 0) {E : Type 0} (stands : E → List Event → Type 0) (taker : E) (k : Kept) (x : PyxFault) → k.fault ≡ Some x
+pub finishes_stuck : (A : Type 0) {E : Type 0} (stands : E → E → List Event → Type 0) (taker : E) (k : Kept) (x : PyxFault) → k.fault ≡ Some x
     → UnlessMemory {A = A} (Err x) (Ends {A = A} (Hands stands taker taker) k (Err x))
 finishes_stuck A stands taker k pyx.Memory f = tt
 finishes_stuck A stands taker k (pyx.At clause line) f = (

@@ -1,7 +1,7 @@
 -- What a line says, or the least clause that it breaks by itself.
 use Rattle.std.proofs.Common.{◌≡◌, ℕ, ◌≤◌, ◌<◌, Bool, true, false, cond, eqb, List, [], ◌∷◌, ◌++◌, length, Option, Some, None, Result, Ok, Err, refl, sym, ap}
 use Rattle.std.proofs.Common.{subst, ◌∙◌, arith, rules, lit≤, lit<}
-use Rattle.std.specs.Prelude.{nat_le, ◌≢◌, IfOk, IfErr}
+use Rattle.std.specs.Prelude.{nat_le, ◌≢◌}
 use Rattle.std.specs.List.{All, AllByRecursion, list_all}
 use Rattle.std.specs.Str.{IsUtf8, is_utf8, chars}
 use Rattle.std.proofs.lemmas.Bool.{eqb-true}
@@ -16,12 +16,6 @@ use Rattle.rng_model.specs.PyxLines.{WrittenName, IsName, IsNoName, Said, start,
 use Rattle.rng_model.specs.PyxLines.{says_end, says_instruction, IsGoodLine, HasNoKind, IsCutAtSpace, StandsForNothing, BreaksWithin, unended, no_utf8}
 use Rattle.rng_model.specs.PyxLines.{no_xml_char, no_kind, bad_text, bad_value, bad_start_name, bad_end_name, bad_attribute_name, no_space, BreaksAlone, within}
 use Rattle.rng_model.specs.PyxLines.{too_long}
-use Rattle.rng_model.specs.Answers.{Gives}
-use Rattle.pyx.specs.declared.line.Said as code
-use Rattle.pyx.specs.declared.fault.LineFault.{LineFault}
-use Rattle.pyx.specs.declared.fault.LineFault.TheVariants as faults
-use Rattle.pyx.specs.LineFaults.{IsLeastClause}
-use Rattle.pyx.specs.View.{clause_of, said_view}
 use Rattle.pyx.specs.Cuts.{either_way, at_byte, unescaped}
 use Rattle.pyx.specs.LineReader.{Read, written_of, is_name, named, text_of, attribute_of, kind_of, characters_of, bytes_of, said_of}
 use Rattle.pyx.proofs.EscapedTexts.{value_is, value_of, no_value, none_stands}
@@ -188,7 +182,7 @@ said_unended : (l : Line) → length l.bytes ≤ line_limit → l.ended ≡ fals
 unfolding said_of
 said_unended l h e = rw (few (length l.bytes) line_limit h, e) refl
 
-said_ended : (l : Line) → length l.bytes ≤ line_limit → l.ended ≡ true → said_of l ≡ bytes_of l.bytes
+pub said_ended : (l : Line) → length l.bytes ≤ line_limit → l.ended ≡ true → said_of l ≡ bytes_of l.bytes
 unfolding said_of
 said_ended l h e = rw (few (length l.bytes) line_limit h, e) refl
 
@@ -353,14 +347,3 @@ kind_is says_instruction = refl
 
 pub line_is : {l : Line} {said : Said} → IsGoodLine l said → said_of l ≡ Ok said
 line_is {l} g = said_ended l g.within g.ended ∙ is_text l.bytes g.utf8 ∙ is_xml l.bytes g.characters ∙ kind_is g.says
-
--- ---- as the code has it
-
-pub gives_good : (r : Result code.Said LineFault) (l : Line) → Gives clause_of said_view r (said_of l) → IfOk r (λ said. IsGoodLine l (said_view said))
-gives_good (Ok x) l g = good_line l (said_view x) g
-gives_good (Err e) l g = tt
-
-pub gives_least : (r : Result code.Said LineFault) (l : Line) → Gives clause_of said_view r (said_of l) → IfErr r (IsLeastClause l)
-gives_least (Ok x) l g = tt
-gives_least (Err faults.Memory) l g = tt
-gives_least (Err (faults.Clause k)) l g = least_line l k g

@@ -1,5 +1,5 @@
 -- What plain bytes tell of a text.
-use Rattle.std.proofs.Common.{◌≡◌, ℕ, ◌<◌, ◌≤◌, Bool, true, false, eqb, not, ◌&&◌, ◌||◌, List, [], ◌∷◌, None, refl, sym, ap, ◌∙◌}
+use Rattle.std.proofs.Common.{◌≡◌, ℕ, ◌<◌, ◌≤◌, Bool, true, false, eqb, not, ◌&&◌, ◌||◌, List, [], ◌∷◌, None, Err, refl, sym, ap, ◌∙◌}
 use Rattle.std.proofs.Common.{arith}
 use Rattle.std.proofs.lemmas.Bool.Decides.{nat_tests}
 use Rattle.std.specs.List.{list_all}
@@ -110,3 +110,7 @@ plain_name (b ∷ bs) e =
 pub good_text : (bs : List ℕ) → IsUtf8 bs → list_all is_xml_char (chars bs) ≡ true → bytes_of bs ≡ kind_of bs
 unfolding bytes_of characters_of
 good_text bs u e = rw (is_utf8-from_IsUtf8 bs u, e) refl
+
+pub odd_text : (bs : List ℕ) → list_all is_xml_char (chars bs) ≡ false → characters_of bs ≡ Err 3
+unfolding characters_of
+odd_text bs e = rw e refl

@@ -51,7 +51,7 @@ fed_err A handed h k piece p new (pyx.At clause line) e f g t = (
       record { result = rw (g, all) t.0; events = rw (all, st.events) refl },
 )
 
-pub fed_stuck : (A : Type 0) {E : Type 0} (stands : E → List Event → Type 0) (taker : E) (h : Kept) (piece : List ℕ) (x : PyxFault) → h.fault ≡ Some x
+pub fed_stuck : (A : Type 0) {E : Type 0} (stands : E → E → List Event → Type 0) (taker : E) (h : Kept) (piece : List ℕ) (x : PyxFault) → h.fault ≡ Some x
     → UnlessMemory {A = A} (Err x) (Extends (Hands stands taker taker) h h piece)
 fed_stuck A stands taker h piece pyx.Memory f = tt
 fed_stuck A stands taker h piece (pyx.At clause line) f = (

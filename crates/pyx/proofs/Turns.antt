@@ -43,12 +43,12 @@ read_append (c ∷ xs) ys p = followed_same (byte_read c p) (read (xs ++ ys)) (�
 
 -- ---- what a taker of events stands for
 
-pub hands_nothing : {E : Type 0} (stands : E → List Event → Type 0) (e : E) → Hands stands e e []
-hands_nothing stands e sent h = rw append-nil h
+pub hands_nothing : {E : Type 0} (stands : E → E → List Event → Type 0) (e : E) → Hands stands e e []
+hands_nothing stands e first sent h = rw append-nil h
 
-pub hands_more : {E : Type 0} (stands : E → List Event → Type 0) (a b c : E) (es fs : List Event) → Hands stands a b es → Hands stands b c fs →
+pub hands_more : {E : Type 0} (stands : E → E → List Event → Type 0) (a b c : E) (es fs : List Event) → Hands stands a b es → Hands stands b c fs →
     Hands stands a c (es ++ fs)
-hands_more stands a b c es fs h k sent x = rw (← append_assoc) (k (sent ++ es) (h sent x))
+hands_more stands a b c es fs h k first sent x = rw (← append_assoc) (k first (sent ++ es) (h first sent x))
 
 -- ---- a piece, line by line
 
@@ -58,11 +58,11 @@ pub record Goes (handed : List Event → Type 0) (whole : Turn Progress) (rest :
   pub handed_out : handed sent
   pub on : whole ≡ after_events sent (read rest p)
 
-pub starts : {E : Type 0} (stands : E → List Event → Type 0) (e : E) (piece : List ℕ) (p : Progress) → Goes (Hands stands e e) (read piece p) piece p
+pub starts : {E : Type 0} (stands : E → E → List Event → Type 0) (e : E) (piece : List ℕ) (p : Progress) → Goes (Hands stands e e) (read piece p) piece p
 starts stands e piece p = record { sent = []; handed_out = hands_nothing stands e; on = refl }
 
 -- one turn takes the front of the rest, and goes well
-pub goes_on : {E : Type 0} (stands : E → List Event → Type 0) (a b d : E) (whole turn : Turn Progress) (bytes rest : List ℕ) (p q : Progress) →
+pub goes_on : {E : Type 0} (stands : E → E → List Event → Type 0) (a b d : E) (whole turn : Turn Progress) (bytes rest : List ℕ) (p q : Progress) →
     read bytes p ≡ followed turn (read rest) → Goes (Hands stands a b) whole bytes p → (turn.0 ≡ Ok q) × Hands stands b d turn.1 →
     Goes (Hands stands a d) whole rest q
 goes_on stands a b d whole turn bytes rest p q step g t = record {
@@ -72,7 +72,7 @@ goes_on stands a b d whole turn bytes rest p q step g t = record {
 }
 
 -- or badly
-pub fails : (A : Type 0) {E : Type 0} (stands : E → List Event → Type 0) (a b d : E) (whole turn : Turn Progress) (bytes rest : List ℕ) (p new : Progress)
+pub fails : (A : Type 0) {E : Type 0} (stands : E → E → List Event → Type 0) (a b d : E) (whole turn : Turn Progress) (bytes rest : List ℕ) (p new : Progress)
     (e : PyxFault) → read bytes p ≡ followed turn (read rest) → Goes (Hands stands a b) whole bytes p → Takes {A = A} (Err e) new (Hands stands b d) turn →
     Takes {A = A} (Err e) new (Hands stands a d) whole
 fails A stands a b d whole turn bytes rest p new pyx.Memory step g t = tt
@@ -82,7 +82,7 @@ fails A stands a b d whole turn bytes rest p new (pyx.At clause line) step g t =
     rw k (refl, hands_more stands a b d g.sent turn.1 g.handed_out t.1)
 
 -- one turn takes the rest
-pub ends : (A : Type 0) {E : Type 0} (stands : E → List Event → Type 0) (a b d : E) (whole turn : Turn Progress) (bytes : List ℕ) (p new : Progress)
+pub ends : (A : Type 0) {E : Type 0} (stands : E → E → List Event → Type 0) (a b d : E) (whole turn : Turn Progress) (bytes : List ℕ) (p new : Progress)
     (r : Result A PyxFault) → read bytes p ≡ turn → Goes (Hands stands a b) whole bytes p → Takes r new (Hands stands b d) turn →
     Takes r new (Hands stands a d) whole
 ends A stands a b d whole turn bytes p new (Ok x) step g t =

@@ -6,6 +6,5 @@ pub mod Pieces
 pub mod View
 pub mod Documents
 pub mod Standing
-pub mod LineFaults
 pub mod Held
 pub mod PlainBytes

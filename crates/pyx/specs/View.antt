@@ -1,22 +1,14 @@
 -- What the values of the code are, and what a call that may run out of memory answers.
 use Rattle.std.specs.Prelude.{◌≡◌, ℕ, List, [], ◌∷◌, ◌++◌, map, reverse, if◌then◌else◌}
-use Rattle.std.specs.Prelude.{Result, Ok, Err, Option, Some, None, IfSome, true, string_bytes}
-use Rattle.std.specs.List.{list_all}
-use Rattle.std.specs.Str.{chars}
-use Rattle.rng_model.specs.Characters.{is_xml_char}
+use Rattle.std.specs.Prelude.{Result, Ok, Err, Option, Some, None, string_bytes}
 use Rattle.rng_model.specs.Lines as lines
 use Rattle.rng_model.specs.PyxFaults.{Fault}
-use Rattle.rng_model.specs.PyxLines as pyx
 use Rattle.rng_model.specs.PyxNamespaces.{WrittenAttribute}
 use Rattle.rng_model.specs.PyxTrees.{Event}
 use Rattle.rng_model.specs.View.{name_of, attribute_of}
-use Rattle.pyx.specs.declared.escapes.Unescaped.{Unescaped}
-use Rattle.pyx.specs.declared.escapes.Unescaped.TheVariants as unescaped
 use Rattle.pyx.specs.declared.fault.LineFault.{LineFault}
 use Rattle.pyx.specs.declared.fault.LineFault.TheVariants as faults
 use Rattle.pyx.specs.declared.line.Line.{Line}
-use Rattle.pyx.specs.declared.line.Said.{Said}
-use Rattle.pyx.specs.declared.line.Said.TheVariants as said
 use Rattle.pyx.specs.declared.written.WrittenAttribute as written
 use Rattle.pyx.specs.declared.scope.OpenElement.{OpenElement}
 use Rattle.pyx.specs.declared.scope.Scope.{Scope}
@@ -33,33 +25,13 @@ use Rattle.pyx.specs.DocumentReader as reader
 use Rattle.pyx.specs.DocumentReader.{Open, Turn, declared_in}
 use Rattle.pyx.specs.Pieces.{Progress}
 
--- what a fault of a line says: nothing, where memory ran out
+-- what a fault of a tag says: nothing, where memory ran out
 abbrev pub clause_of : LineFault → Option ℕ
 clause_of faults.Memory = None
 clause_of (faults.Clause k) = Some k
 
-abbrev pub value_of : Unescaped → List ℕ
-value_of (unescaped.Same text) = text.now
-value_of (unescaped.Replaced text) = string_bytes text
-
 abbrev pub line_of : Line → lines.Line
 line_of l = record { bytes = l.bytes.now; ended = l.ended }
-
--- what the code knows of a line's bytes as a text is so
-abbrev pub IsKnown : Line → Type 0
-IsKnown l = IfSome l.text (λ t. (t.now ≡ l.bytes.now) × (list_all is_xml_char (chars t.now) ≡ true))
-
-abbrev pub said_view : Said → pyx.Said
-said_view (said.Start name) = pyx.start (written_of name.now)
-said_view (said.Attribute name value) = pyx.attribute (written_of name.now) (value_of value)
-said_view (said.Text value) = pyx.text (value_of value)
-said_view (said.End name) = pyx.end (written_of name.now)
-said_view said.Instruction = pyx.instruction
-
--- a text that was read, or P5
-abbrev pub value_read : Option (List ℕ) → Result (List ℕ) ℕ
-value_read None = Err 5
-value_read (Some v) = Ok v
 
 abbrev pub written_attribute : written.WrittenAttribute → WrittenAttribute
 written_attribute a = record { name = written_of (string_bytes a.name); content = string_bytes a.value }
@@ -104,9 +76,9 @@ abbrev pub broken_by : PyxFault → Option Fault
 broken_by faults_at.Memory = None
 broken_by (faults_at.At clause line) = Some (record { clause = clause; line = line })
 
--- for each list that it stood for, a taker now stands for that list and these events
-abbrev pub Hands : {E : Type 0} → (E → List Event → Type 0) → E → E → List Event → Type 0
-Hands stands old new es = (sent : List Event) → stands old sent → stands new (sent ++ es)
+-- for each list that it stood for, whatever it had come from, a taker now stands for that list and these events
+abbrev pub Hands : {E : Type 0} → (E → E → List Event → Type 0) → E → E → List Event → Type 0
+Hands stands old new es = (first : _) (sent : List Event) → stands first old sent → stands first new (sent ++ es)
 
 -- What a call answered is what this turn gives, unless memory ran out.
 abbrev pub Takes : {A S : Type 0} → Result A PyxFault → S → (List Event → Type 0) → Turn S → Type 0

@@ -96,22 +96,14 @@ impl Pieces {
         self.begun.extend_from_slice(more)?;
         let line = Line {
             bytes: self.begun.as_slice(),
-            text: None,
             ended: false,
         };
         self.state.line(line, events)
     }
 
-    /// The line ends behind these bytes, which may be known as a text.
+    /// The line ends behind these bytes.
     #[tactic(auto, unfolding(crate::specs::Pieces::line_taken))]
-    #[inline(always)]
-    fn line<E: Events>(
-        &mut self,
-        front: &[u8],
-        text: Option<&str>,
-        events: &mut E,
-    ) -> Result<(), PyxFault>
-        requires text { IfSome text (λ t. (t.now ≡ front.now) × (list_all is_xml_char (chars t.now) ≡ true)) }
+    fn line<E: Events>(&mut self, front: &[u8], events: &mut E) -> Result<(), PyxFault>
         requires begun { length self.old.begun.items ≤ 65536 }
         requires weight { weight (progress_of self.old) + 65537 < 2 ^ 64 }
         ensures { Takes result (progress_of self.new) (Hands E.stands events.old events.new) (pieces.line_taken front.now (progress_of self.old)) }
@@ -122,7 +114,6 @@ impl Pieces {
         if self.begun.is_empty() {
             let line = Line {
                 bytes: front,
-                text,
                 ended: true,
             };
             return self.state.line(line, events);
@@ -130,7 +121,6 @@ impl Pieces {
         self.begun.extend_from_slice(front)?;
         let line = Line {
             bytes: self.begun.as_slice(),
-            text: None,
             ended: true,
         };
         self.state.line(line, events)?;
@@ -139,6 +129,7 @@ impl Pieces {
     }
 
     /// The line ends behind this text of plain bytes.
+    #[tactic(auto, unfolding(crate::specs::Pieces::line_taken))]
     #[inline(always)]
     fn text_line<E: Events>(&mut self, text: &str, events: &mut E) -> Result<(), PyxFault>
         requires plain { list_all is_plain text.now ≡ true }
@@ -146,7 +137,10 @@ impl Pieces {
         requires weight { weight (progress_of self.old) + 65537 < 2 ^ 64 }
         ensures { Takes result (progress_of self.new) (Hands E.stands events.old events.new) (pieces.line_taken text.now (progress_of self.old)) }
     {
-        self.line(text.as_bytes(), Some(text), events)
+        if self.begun.is_empty() && text.len() <= LINE_LIMIT {
+            return self.state.text_line(text, events);
+        }
+        self.line(text.as_bytes(), events)
     }
 
     /// The line does not end in these bytes.
@@ -171,7 +165,7 @@ impl Pieces {
     {
         let mut rest = bytes;
         'lines: while let Some((front, after)) = first_line(rest) {
-            self.line(front, None, events)?;
+            self.line(front, events)?;
             rest = after;
         }
         self.keep(rest, events)
@@ -229,7 +223,6 @@ impl Pieces {
         }
         let line = Line {
             bytes: begun.as_slice(),
-            text: None,
             ended: false,
         };
         state.line(line, events)?;

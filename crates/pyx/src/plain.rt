@@ -68,6 +68,7 @@ fn all_follow(bytes: &[u8]) -> bool
 }
 
 /// A name without a colon, of characters of ASCII.
+#[inline(always)]
 pub fn is_plain_name(bytes: &[u8]) -> bool
     ensures { result ≡ is_plain_name bytes.now }
 {

@@ -113,7 +113,9 @@ fn set_name(name: &mut Name, uri: &str, local: &str) -> Result<(), LineFault>
     ensures { Gives clause_of (λ _. name_of name.new) result (Ok (record { ns = uri.now; local = local.now })) }
 {
     name.ns.clear();
-    name.ns.push_str(uri)?;
+    if !uri.is_empty() {
+        name.ns.push_str(uri)?;
+    }
     name.local.clear();
     name.local.push_str(local)?;
     Ok(())

@@ -23,27 +23,34 @@ impl Spares {
         }
     }
 
+    /// An empty text, in a spare buffer where there is one. Takes no memory.
+    #[inline(always)]
+    pub fn take(&mut self, alloc: Global) -> String
+        ensures { string_bytes result ≡ [] }
+    {
+        match self.texts.pop() {
+            Some(mut text) => {
+                text.clear();
+                text
+            }
+            None => String::new(alloc),
+        }
+    }
+
     /// The text as one's own, in a spare buffer where there is one.
     #[inline(always)]
     pub fn copy(&mut self, alloc: Global, text: &str) -> Result<String, OutOfMemory>
         ensures { IfOk result (λ s. string_bytes s ≡ text.now) }
     {
-        if text.is_empty() {
-            return Ok(String::new(alloc));
-        }
-        match self.texts.pop() {
-            Some(mut copy) => {
-                copy.clear();
-                copy.push_str(text)?;
-                Ok(copy)
-            }
-            None => Ok(String::from_str(alloc, text)?),
-        }
+        let mut copy = self.take(alloc);
+        copy.push_str(text)?;
+        Ok(copy)
     }
 
-    /// Keeps a buffer for later, unless it is large or there are enough.
+    /// Keeps a buffer for later, unless it is none or large or there are enough.
     pub fn keep(&mut self, text: String) {
-        if self.texts.len() < COUNT_LIMIT && !text.is_empty() && text.capacity() <= SIZE_LIMIT {
+        let size = text.capacity();
+        if self.texts.len() < COUNT_LIMIT && 0 < size && size <= SIZE_LIMIT {
             let _ = self.texts.push(text);
         }
     }

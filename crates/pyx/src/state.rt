@@ -1,16 +1,19 @@
 // A document line by line.
-ghost use Rattle.std.specs.Prelude.{◌≡◌, ◌+◌, ◌<◌, ◌^◌, length, is_some, OnOk};
+ghost use Rattle.std.specs.Prelude.{◌≡◌, ◌+◌, ◌<◌, ◌^◌, length, is_some, OnOk, string_bytes, true};
+ghost use Rattle.rng_model.specs.PyxLines as lines;
 ghost use Rattle.pyx.specs.DocumentReader as reader;
 ghost use Rattle.pyx.specs.DocumentReader.{declared_in};
 ghost use Rattle.pyx.specs.Held.{state_held};
-ghost use Rattle.pyx.specs.LineReader.{written_of};
+ghost use Rattle.pyx.specs.LineReader.{attribute_of, kind_of, named, said_of, text_of, written_of};
+ghost use Rattle.pyx.specs.Pieces.{ended_line};
 ghost use Rattle.pyx.specs.TagReader.{declared_by, tag_read};
-ghost use Rattle.pyx.specs.View.{Adds, EndsBy, Hands, IsFault, IsKnown, Takes};
-ghost use Rattle.pyx.specs.View.{tag_of, line_of, said_view, state_of, stack_of, value_of, open_of, written_attribute};
+ghost use Rattle.pyx.specs.View.{Adds, EndsBy, Hands, IsFault, Takes};
+ghost use Rattle.pyx.specs.View.{tag_of, line_of, state_of, stack_of, open_of, written_attribute};
 
-use crate::escapes::Unescaped;
+use crate::cuts::{behind, cut_at};
+use crate::escapes::append;
 use crate::fault::{LineFault, PyxFault};
-use crate::line::{Line, Said, said_of};
+use crate::line::{Line, is_name, line_text};
 use crate::scope::{Element, OpenElement, Scope, expand_element, innermost, opened_len};
 use crate::spares::Spares;
 use crate::written::{WrittenAttribute, declared_by, is_same};
@@ -81,6 +84,7 @@ impl Tag {
 }
 
 /// Takes the innermost element away.
+#[inline(always)]
 fn close_innermost(opened: &mut Vec<OpenElement>, spares: &mut Spares)
     ensures { stack_of opened.new.items ≡ reader.around (stack_of opened.old.items) }
 {
@@ -151,14 +155,12 @@ impl State {
         Ok(())
     }
 
-    /// Hands out the start of the tag that was read, if there is one.
+    /// Hands out the start of the tag that was read.
     fn close_tag<E: Events>(&mut self, events: &mut E) -> Result<(), PyxFault>
-        requires { self.old.lines + 1 < 2 ^ 64 }
+        requires lines { self.old.lines + 1 < 2 ^ 64 }
+        requires tag { self.old.in_tag ≡ true }
         ensures { Takes result (state_of self.new) (Hands E.stands events.old events.new) (reader.close_tag (state_of self.old).tag (state_of self.old)) }
     {
-        if !self.in_tag {
-            return Ok(());
-        }
         let scope = Scope {
             declarations: self.tag.declarations.as_slice(),
             opened: self.opened.as_slice(),
@@ -191,6 +193,7 @@ impl State {
 
     /// A line with these bytes comes next: unless it belongs to the tag, the tag is whole.
     #[tactic(auto, unfolding(crate::specs::DocumentReader::tag_ended))]
+    #[inline(always)]
     fn end_tag<E: Events>(&mut self, bytes: &[u8], events: &mut E) -> Result<(), PyxFault>
         requires { self.old.lines + 1 < 2 ^ 64 }
         ensures { Takes result (state_of self.new) (Hands E.stands events.old events.new) (reader.tag_ended bytes.now (state_of self.old)) }
@@ -198,11 +201,15 @@ impl State {
         if let [b'A', ..] = bytes {
             return Ok(());
         }
+        if !self.in_tag {
+            return Ok(());
+        }
         self.close_tag(events)
     }
 
     /// Hands out the joined text, if there is one.
     #[tactic(auto, unfolding(crate::specs::DocumentReader::text_ended))]
+    #[inline(always)]
     fn end_text<E: Events>(&mut self, events: &mut E) -> Result<(), PyxFault>
         ensures { Takes result (state_of self.new) (Hands E.stands events.old events.new) (reader.text_ended (state_of self.old)) }
     {
@@ -218,10 +225,15 @@ impl State {
     }
 
     /// A start tag begins, in a line of so many bytes.
-    #[tactic(auto, unfolding(crate::specs::DocumentReader::started))]
+    #[tactic(auto, unfolding(crate::specs::LineReader::named, crate::specs::DocumentReader::said_read, crate::specs::DocumentReader::started))]
+    #[inline(always)]
     fn start<E: Events>(&mut self, bytes: u64, name: &str, events: &mut E) -> Result<(), PyxFault>
-        ensures { Takes result (state_of self.new) (Hands E.stands events.old events.new) (reader.started bytes (written_of name.now) (state_of self.old)) }
+        ensures { Takes result (state_of self.new) (Hands E.stands events.old events.new)
+            (reader.judged bytes (named lines.start name.now) (state_of self.old)) }
     {
+        if !is_name(name) {
+            return Err(self.fault(6));
+        }
         if self.root && self.opened.is_empty() {
             return Err(self.fault(9));
         }
@@ -238,12 +250,12 @@ impl State {
         Ok(())
     }
 
-    /// An `A` line of so many bytes.
+    /// One more `A` line of the tag, of so many bytes.
     #[tactic(auto, unfolding(crate::specs::DocumentReader::attributed))]
-    fn attribute(&mut self, bytes: u64, name: &str, value: Unescaped<'_>) -> Result<(), PyxFault>
+    fn add(&mut self, bytes: u64, name: &str, value: String) -> Result<(), PyxFault>
         requires { reader.tag_bytes (state_of self.old).tag + bytes < 2 ^ 64 }
         ensures { Adds result (state_of self.new)
-            (reader.attributed bytes (record { name = written_of name.now; content = value_of value.entry }) (state_of self.old)) }
+            (reader.attributed bytes (record { name = written_of name.now; content = string_bytes value }) (state_of self.old)) }
     {
         if !self.in_tag {
             return Err(self.fault(7));
@@ -253,33 +265,60 @@ impl State {
         }
         let attribute = WrittenAttribute {
             name: self.spares.copy(self.alloc, name)?,
-            value: value.into_string(self.alloc, &mut self.spares)?,
+            value,
         };
         self.tag.add(bytes, declared_by(name).is_some(), attribute)?;
         Ok(())
     }
 
-    /// A text, joined to the one before.
-    #[tactic(auto, unfolding(crate::specs::DocumentReader::joined_by))]
-    fn text(&mut self, value: Unescaped<'_>) -> Result<(), PyxFault>
-        ensures { Adds result (state_of self.new) (reader.joined_by (value_of value.entry) (state_of self.old)) }
+    /// An `A` line of so many bytes, without its first.
+    #[tactic(auto, unfolding(crate::specs::LineReader::attribute_of, crate::specs::DocumentReader::said_read))]
+    #[inline(always)]
+    fn attribute(&mut self, bytes: u64, line: &str) -> Result<(), PyxFault>
+        requires { reader.tag_bytes (state_of self.old).tag + bytes < 2 ^ 64 }
+        ensures { Adds result (state_of self.new) (reader.judged bytes (attribute_of line.now) (state_of self.old)) }
     {
+        let Some((name, value)) = cut_at(b' ', line) else {
+            return Err(self.fault(6));
+        };
+        let mut content = self.spares.take(self.alloc);
+        if !append(&mut content, value)? {
+            return Err(self.fault(5));
+        }
+        if !is_name(name) {
+            return Err(self.fault(6));
+        }
+        self.add(bytes, name, content)
+    }
+
+    /// A text in a line of so many bytes, joined to the one before.
+    #[tactic(auto, unfolding(crate::specs::LineReader::text_of, crate::specs::DocumentReader::said_read, crate::specs::DocumentReader::joined_by))]
+    #[inline(always)]
+    fn text(&mut self, bytes: u64, text: &str) -> Result<(), PyxFault>
+        ensures { Adds result (state_of self.new) (reader.judged bytes (text_of text.now) (state_of self.old)) }
+    {
+        if !append(&mut self.joined, text)? {
+            return Err(self.fault(5));
+        }
         if self.opened.is_empty() {
             return Err(self.fault(9));
         }
-        let text = value.as_str();
-        if self.joined.len() + text.len() > TEXT_LIMIT {
+        if self.joined.len() > TEXT_LIMIT {
             return Err(self.fault(10));
         }
-        self.joined.push_str(text)?;
         Ok(())
     }
 
-    /// An end tag.
-    #[tactic(auto, unfolding(crate::specs::DocumentReader::ended))]
-    fn end<E: Events>(&mut self, name: &str, events: &mut E) -> Result<(), PyxFault>
-        ensures { Takes result (state_of self.new) (Hands E.stands events.old events.new) (reader.ended (written_of name.now) (state_of self.old)) }
+    /// An end tag, in a line of so many bytes.
+    #[tactic(auto, unfolding(crate::specs::LineReader::named, crate::specs::DocumentReader::said_read, crate::specs::DocumentReader::ended))]
+    #[inline(always)]
+    fn end<E: Events>(&mut self, bytes: u64, name: &str, events: &mut E) -> Result<(), PyxFault>
+        ensures { Takes result (state_of self.new) (Hands E.stands events.old events.new)
+            (reader.judged bytes (named lines.end name.now) (state_of self.old)) }
     {
+        if !is_name(name) {
+            return Err(self.fault(6));
+        }
         let Some((element, _)) = innermost(self.opened.as_slice()) else {
             return Err(self.fault(8));
         };
@@ -296,24 +335,45 @@ impl State {
         Ok(())
     }
 
-    /// A line of so many bytes that says this.
-    #[tactic(auto, unfolding(crate::specs::DocumentReader::said_read))]
-    fn said<E: Events>(
-        &mut self,
-        bytes: u64,
-        said: Said<'_>,
-        events: &mut E,
-    ) -> Result<(), PyxFault>
-        requires { reader.tag_bytes (state_of self.old).tag + bytes < 2 ^ 64 }
-        ensures { Takes result (state_of self.new) (Hands E.stands events.old events.new) (reader.said_read bytes (said_view said.entry) (state_of self.old)) }
+    /// A line that says what this text does.
+    #[tactic(auto, unfolding(crate::specs::LineReader::kind_of, crate::specs::DocumentReader::said_read))]
+    #[inline(always)]
+    fn said<E: Events>(&mut self, text: &str, events: &mut E) -> Result<(), PyxFault>
+        requires { reader.tag_bytes (state_of self.old).tag + length text.now < 2 ^ 64 }
+        ensures { Takes result (state_of self.new) (Hands E.stands events.old events.new)
+            (reader.judged (length text.now) (kind_of text.now) (state_of self.old)) }
     {
-        match said {
-            Said::Attribute(name, value) => self.attribute(bytes, name, value),
-            Said::Start(name) => self.start(bytes, name, events),
-            Said::Text(value) => self.text(value),
-            Said::End(name) => self.end(name, events),
-            Said::Instruction => Ok(()),
+        let bytes = text.len() as u64;
+        if let Some(name) = behind(b'(', text) {
+            return self.start(bytes, name, events);
         }
+        if let Some(line) = behind(b'A', text) {
+            return self.attribute(bytes, line);
+        }
+        if let Some(value) = behind(b'-', text) {
+            return self.text(bytes, value);
+        }
+        if let Some(name) = behind(b')', text) {
+            return self.end(bytes, name, events);
+        }
+        if behind(b'?', text).is_some() {
+            return Ok(());
+        }
+        Err(self.fault(4))
+    }
+
+    /// Takes the next line, which breaks nothing but what comes of what this text says.
+    #[tactic(auto, unfolding(crate::specs::DocumentReader::line_read))]
+    #[inline(always)]
+    pub fn text_line<E: Events>(&mut self, text: &str, events: &mut E) -> Result<(), PyxFault>
+        requires lines { self.old.lines + 1 < 2 ^ 64 }
+        requires bytes { reader.tag_bytes (state_of self.old).tag + length text.now < 2 ^ 64 }
+        requires good { said_of (ended_line text.now) ≡ kind_of text.now }
+        ensures { Takes result (state_of self.new) (Hands E.stands events.old events.new) (reader.line_read (ended_line text.now) (state_of self.old)) }
+    {
+        self.end_tag(text.as_bytes(), events)?;
+        self.lines += 1;
+        self.said(text, events)
     }
 
     /// Takes the next line.
@@ -321,15 +381,15 @@ impl State {
     pub fn line<E: Events>(&mut self, line: Line<'_>, events: &mut E) -> Result<(), PyxFault>
         requires lines { self.old.lines + 1 < 2 ^ 64 }
         requires bytes { reader.tag_bytes (state_of self.old).tag + length line.bytes.now < 2 ^ 64 }
-        requires text { IsKnown line }
         ensures { Takes result (state_of self.new) (Hands E.stands events.old events.new) (reader.line_read (line_of line.entry) (state_of self.old)) }
     {
-        self.end_tag(line.bytes, events)?;
-        self.lines += 1;
-        match said_of(self.alloc, line) {
-            Ok(said) => self.said(line.bytes.len() as u64, said, events),
-            Err(LineFault::Clause(clause)) => Err(self.fault(clause)),
-            Err(LineFault::Memory) => Err(PyxFault::Memory),
+        match line_text(line) {
+            Ok(text) => self.text_line(text, events),
+            Err(clause) => {
+                self.end_tag(line.bytes, events)?;
+                self.lines += 1;
+                Err(self.fault(clause))
+            }
         }
     }
 

@@ -64,7 +64,7 @@ impl Log {
 }
 
 impl Events for Log {
-    ghost stands = { λ taker events. Unit {0} };
+    ghost stands = { λ first taker events. Unit {0} };
 
     fn event(&mut self, event: Event<'_>) -> Result<(), OutOfMemory> {
         self.write(event).map_err(|_| OutOfMemory)

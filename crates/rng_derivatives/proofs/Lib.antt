@@ -1,2 +1,4 @@
 mod Joining
 mod Served
+mod LikeNames
+mod Memo

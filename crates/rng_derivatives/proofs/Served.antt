@@ -1,6 +1,8 @@
 -- What holds of a table that serves a grammar.
 use Rattle.std.proofs.Common.{◌≡◌, ◌∙◌, ◌↔◌, ℕ, ◌<◌, List, [], ◌∷◌, ◌++◌, All, length, fold, sym, ap, subst, arith, Option, Some, None}
-use Rattle.std.proofs.Common.{slice_index_or}
+use Rattle.std.proofs.Common.{slice_index_or, Vec}
+use Rattle.std.specs.HashMap.{HashMap}
+use Rattle.rng_keys.specs.Keys.{Keys}
 use Rattle.std.proofs.lemmas.List.{append-nil, append_assoc, get_or_default}
 use Rattle.std.proofs.lemmas.List.Elements.{All-weaker}
 use Rattle.std.proofs.lemmas.List.Sums.{fold-append}
@@ -34,6 +36,7 @@ use Rattle.rng_ways.proofs.Starts.{bodies_longer, body_inside, ready_longer}
 use Rattle.rng_matcher.specs.Numbers as numbers
 use Rattle.rng_matcher.specs.Numbers.{Adds, AddsStarts, IsChoiceOf, IsInside}
 use Rattle.rng_matcher.specs.declared.derivatives.Way.{Way}
+use Rattle.rng_derivatives.specs.declared.start_memo.StartKey.{StartKey}
 use Rattle.rng_derivatives.specs.Serving.{IsServed, IsServedBy, nodes_in}
 use Rattle.rng_derivatives.specs.Starts.{OpensLike}
 use Rattle.rng_derivatives.proofs.Joining.{starts_are, starts_inside}
@@ -47,7 +50,7 @@ grown t before (n ∷ more) =
     let h = grown t (before ++ one ∷ []) more in
     (one ∷ h.0, h.1 ∙ append_assoc before (one ∷ []) h.0)
 
-trees_longer : (t : Table) (old new : List Node) → Longer old new → numbers.Longer (trees t old) (trees t new)
+pub trees_longer : (t : Table) (old new : List Node) → Longer old new → numbers.Longer (trees t old) (trees t new)
 unfolding trees
 trees_longer t old new longer =
     let h = grown t (trees t old) longer.0 in
@@ -119,9 +122,9 @@ none_there t table seen n none view inside =
     let same = length-trees t [] in
     absurd (omega (arith, at, same))
 
-pub there_served : (t : Table) (table : Option (List Node)) (ns : List Node) (numbers : List PatternNumber) → table ≡ Some ns → IsServedBy t table numbers
-    → IsServed t ns numbers
-there_served t table ns numbers there served = subst (λ (o : Option (List Node)). IsServedBy t o numbers) there served
+pub there_served : {Y Z : Type 0} (t : Table) (keys : Keys) (table : Option (List Node)) (ns : List Node) (numbers : List PatternNumber)
+    (memo : HashMap StartKey (Vec Way Y) Z) → table ≡ Some ns → IsServedBy t keys table numbers memo → IsServedBy t keys (Some ns) numbers memo
+there_served t keys table ns numbers memo there served = subst (λ (o : Option (List Node)). IsServedBy t keys o numbers memo) there served
 
 -- ---- what is added
 

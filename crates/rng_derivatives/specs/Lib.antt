@@ -1,2 +1,3 @@
 pub mod Serving
 pub mod Starts
+pub mod StartMemo

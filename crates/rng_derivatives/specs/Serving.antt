@@ -1,19 +1,24 @@
 -- The patterns of a grammar in a table, for a matcher.
-use Rattle.std.specs.Prelude.{⊤, List, [], Option, Some, None}
+use Rattle.std.specs.Prelude.{⊤, List, [], Option, Some, None, Vec}
+use Rattle.std.specs.HashMap.{HashMap}
+use Rattle.rng_keys.specs.Keys.{Keys, KeysServe}
+use Rattle.rng_matcher.specs.declared.derivatives.Way.{Way}
 use Rattle.rng_model.specs.Table.{Table}
 use Rattle.rng_patterns.specs.Node.{Node}
 use Rattle.rng_patterns.specs.declared.pattern.PatternNumber.{PatternNumber}
 use Rattle.rng_ways.specs.Starting.{IsReady, HasRestrictedBodies}
+use Rattle.rng_derivatives.specs.StartMemo.{AreAnswers}
+use Rattle.rng_derivatives.specs.declared.start_memo.StartKey.{StartKey}
 
 -- the patterns of the grammar stand in the table by these numbers, and there the bodies of its elements obey the restrictions
 pub record IsServed (t : Table) (ns : List Node) (numbers : List PatternNumber) : Type 0 where
   pub ready : IsReady t ns numbers
   pub bodies : HasRestrictedBodies t ns numbers
 
--- so it is, where there is a table
-abbrev pub IsServedBy : Table → Option (List Node) → List PatternNumber → Type 0
-IsServedBy t None numbers = ⊤
-IsServedBy t (Some ns) numbers = IsServed t ns numbers
+-- so it is, and what is kept of starts is so in the table, where there is one
+abbrev pub IsServedBy : {Y Z : Type 0} → Table → Keys → Option (List Node) → List PatternNumber → HashMap StartKey (Vec Way Y) Z → Type 0
+IsServedBy t keys None numbers memo = ⊤
+IsServedBy t keys (Some ns) numbers memo = IsServed t ns numbers × KeysServe t keys × AreAnswers t ns keys memo
 
 -- the patterns of a table; none where there is no table
 abbrev pub nodes_in : Option (List Node) → List Node

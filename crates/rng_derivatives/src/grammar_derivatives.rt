@@ -7,22 +7,30 @@ ghost use Rattle.rng_matcher.specs.Numbers.{IsInside, tree_of};
 ghost use Rattle.rng_patterns.specs.Trees.{trees};
 ghost use Rattle.rng_ways.specs.Kinds.{reading_of};
 
+use crate::start_memo::{StartKey, StartMemo, copied, keep, kept};
 use crate::starts::joined_ways;
+use rng_keys::NameKeys;
 use rng_matcher::{Derivatives, Way};
 use rng_model::{Attr, Name, OutOfMemory, SimpleGrammar};
 use rng_patterns::{PatternNumber, PatternTable};
 use rng_ways::{after_tag, after_text, start};
 use std::alloc::Global;
+use std::collections::HashMap;
 use std::marker::Model;
 
 /// The patterns of a grammar that obeys the restrictions, and what is left of them, by number.
 ///
-/// RELAX NG Specification, sections 6.2 and 7. After want of memory there is no pattern any more.
+/// RELAX NG Specification, sections 6.2 and 7. After want of memory there is no pattern any more. The ways of a start are
+/// kept: the next start of the pattern, by a name that the grammar does not tell apart, costs some look-ups by hashing and a
+/// copy of its ways.
 #[derive(Drop)]
 pub struct GrammarDerivatives<'a> {
     grammar: &'a SimpleGrammar,
     /// Those of the grammar's patterns, by position.
     numbers: Vec<PatternNumber>,
+    keys: NameKeys,
+    /// The ways of starts that were asked for before.
+    memo: StartMemo,
     /// `None` after want of memory.
     table: Option<PatternTable>,
 }
@@ -42,7 +50,7 @@ impl<'a> Model for GrammarDerivatives<'a> {
 
     ghost view = { λ d. (d.grammar.now, nodes_in d.table) };
 
-    ghost invariant = { λ d. IsServedBy d.grammar.now d.table d.numbers.items };
+    ghost invariant = { λ d. IsServedBy d.grammar.now d.keys d.table d.numbers.items d.memo };
 }
 
 impl<'a> GrammarDerivatives<'a> {
@@ -61,10 +69,13 @@ impl<'a> GrammarDerivatives<'a> {
     {
         let (table, numbers) = PatternTable::of(alloc, grammar)?;
         let start = numbers[grammar.start().0];
+        let keys = NameKeys::of(alloc, grammar)?;
         Ok((
             GrammarDerivatives {
                 grammar,
                 numbers,
+                keys,
+                memo: HashMap::new(alloc),
                 table: Some(table),
             },
             start,
@@ -143,9 +154,19 @@ impl Derivatives for GrammarDerivatives<'_> {
         let Some(mut table) = self.table.take() else {
             return Err(OutOfMemory);
         };
+        let asked = StartKey {
+            pattern,
+            name: self.keys.key(name),
+        };
+        if let Some(ways) = kept(&self.memo, asked) {
+            let ways = copied(alloc, ways)?;
+            self.table = Some(table);
+            return Ok(ways);
+        }
         let numbers = self.numbers.as_slice();
         let ways = start(alloc, self.grammar, &mut table, numbers, pattern, name)?;
         let starts = joined_ways(alloc, &mut table, ways.as_slice())?;
+        keep(alloc, &mut self.memo, asked, starts.as_slice())?;
         self.table = Some(table);
         Ok(starts)
     }

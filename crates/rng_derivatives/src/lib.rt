@@ -6,6 +6,7 @@
 
 mod grammar_derivatives;
 mod grammar_matcher;
+mod start_memo;
 mod starts;
 
 pub use grammar_derivatives::GrammarDerivatives;

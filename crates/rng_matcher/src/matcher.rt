@@ -95,6 +95,7 @@ impl<D: Derivatives + Drop> Matcher<D> {
 impl<D: Derivatives + Drop> Matcher<D> {
     /// Takes the next event. The error is want of memory, and so it is after one.
     fn take(&mut self, event: Event<'_>) -> Result<(), OutOfMemory>
+        ensures reading { OnOk result (D.reading self.new.0 ≡ D.reading self.old.0) }
         ensures known { OnOk result ((events : List trees.Event) → IsKnown (D.reading self.old.0) (D.trees self.old.0) self.old.1 events
             → IsKnown (D.reading self.new.0) (D.trees self.new.0) self.new.1 (events ++ event_of event.entry ∷ [])) }
         ensures lost { OnErr result (IsLost self.new.1) }
@@ -107,7 +108,7 @@ impl<D: Derivatives + Drop> Matcher<D> {
 }
 
 impl<D: Derivatives + Drop> Events for Matcher<D> {
-    ghost stands = { λ m events. IsKnown (D.reading m.0) (D.trees m.0) m.1 events };
+    ghost stands = { λ first m events. (D.reading m.0 ≡ D.reading first.0) × IsKnown (D.reading m.0) (D.trees m.0) m.1 events };
 
     fn event(&mut self, event: Event<'_>) -> Result<(), OutOfMemory> {
         self.take(event)

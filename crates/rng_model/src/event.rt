@@ -30,12 +30,14 @@ pub enum EventKind<'a> {
 
 /// What takes the events of a document, one after another.
 pub trait Events {
-    /// For which lists of events the taker stands.
-    ghost stands: { Self → List trees.Event → Type 0 };
+    /// For which lists of events the second stands, where it is what the first came to by them.
+    ghost stands: { Self → Self → List trees.Event → Type 0 };
 
-    /// Takes the next event. After `Ok` the taker stands for each list that it stood for, with the event at its end.
+    /// Takes the next event. After `Ok` the taker stands for each list that it stood for, with the event at its end, and
+    /// has come from what it had come from.
     ///
     /// The one error is that memory is wanting.
     fn event(&mut self, event: Event<'_>) -> Result<(), OutOfMemory>
-        ensures { OnOk result ((events : List trees.Event) → stands self.old events → stands self.new (events ++ event_of event.entry ∷ [])) };
+        ensures { OnOk result ((first : Self) (events : List trees.Event) → stands first self.old events
+            → stands first self.new (events ++ event_of event.entry ∷ [])) };
 }

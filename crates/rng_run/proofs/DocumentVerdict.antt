@@ -1,27 +1,45 @@
--- A document has one verdict, and the same one wherever the same documents are valid.
-use Rattle.std.proofs.Common.{◌≡◌, ◌↔◌, ℕ, List, [], Bool, true, false, if◌then◌else◌, Option, Some, Result, IfOk, sym, ap, subst, refl, ap₂, ◌∙◌, arith, inl, inr}
+-- A document has one verdict but for the line of what is invalid, and the same one wherever the same documents are valid.
+use Rattle.std.proofs.Common.{◌≡◌, ◌↔◌, ◌≤◌, ℕ, zero, suc, List, [], ◌∷◌, Option, Result, Ok, Err, IfOk, length, take, sym, ap, subst, refl, ap₂, ◌∙◌, arith, inl, inr}
+use Rattle.std.proofs.Common.{All}
+use Rattle.std.proofs.lemmas.List.Elements.{All-append, All-cons, All-weaker}
 use Rattle.rng_model.specs.Document.{Item}
-use Rattle.rng_model.specs.PyxFaults.{IsBefore}
-use Rattle.rng_model.specs.PyxTrees.{Event}
-use Rattle.rng_model.specs.Texts.{TextTests}
-use Rattle.rng_model.specs.View.{item_of}
-use Rattle.rng_model.specs.declared.document.Item as declared
-use Rattle.pyx.specs.Documents.{IsTheDocument}
+use Rattle.rng_model.specs.Lines.{Line, lines}
+use Rattle.rng_model.specs.Names.{Name}
+use Rattle.rng_model.specs.PyxClauses.{Breaks}
+use Rattle.rng_model.specs.PyxFaults.{Fault, IsBefore}
+use Rattle.rng_model.specs.PyxTrees.{Event, EventKind, a_start, a_string, an_end, Placed, item_of, events_of, IsPyxDocument}
+use Rattle.rng_matching.specs.Reading.{Reading}
+use Rattle.rng_matcher.specs.Outcomes.{IsOutcome, FailsAt, KnowsName}
+use Rattle.rng_matcher.specs.declared.outcome.Outcome.{Outcome}
+use Rattle.rng_matcher.specs.declared.outcome.Outcome.TheVariants as outcome
+use Rattle.rng_model.specs.Table.{IsValidBy}
+use Rattle.rng_model.specs.Texts.{texts_of}
+use Rattle.pyx.specs.DocumentReader.{Turn, State, document_read}
 use Rattle.pyx.specs.View.{Hands}
 use Rattle.pyx.specs.declared.fault.PyxFault.{PyxFault}
 use Rattle.pyx.specs.declared.fault.PyxFault.TheVariants as pyx
-use Rattle.pyx_tree.specs.Building.{built_on, built, nothing_built}
-use Rattle.pyx_tree.specs.Reading.{IsRootOf}
-use Rattle.pyx_tree.specs.View.{built_of}
-use Rattle.pyx_tree.specs.declared.builder.TreeBuilder.{TreeBuilder}
-use Rattle.pyx_tree.proofs.LineCount.{document_lines}
-use Rattle.pyx_tree.proofs.OneDocument.{one_document, nothing_broken}
+use Rattle.pyx.proofs.DocumentComplete.{complete}
+use Rattle.pyx.proofs.DocumentLeast.{at_most}
+use Rattle.pyx.proofs.EventLines.{event_line, lines_rise, same_front}
 use Rattle.rng_run.specs.Documents.{IsFaultOfInput, IsTaken}
-use Rattle.rng_run.specs.Verdict.{IsJudgedBy, IsVerdict, malformed_by}
+use Rattle.rng_run.specs.Judging.{IsUnknownTo, verdict_of}
+use Rattle.rng_run.specs.Verdict.{IsJudgedBy, IsVerdict, IsInvalidFrom, CannotBeValid, StartsUnknown, AreSameVerdict, malformed_by}
 use Rattle.rng_run.specs.declared.judging.JudgeFault.{JudgeFault}
 use Rattle.rng_run.specs.declared.streams.DocumentFault.TheVariants as faults
 use Rattle.rng_run.specs.declared.answer.Verdict.{Verdict}
 use Rattle.rng_run.specs.declared.answer.Verdict.TheVariants.{Valid, Malformed, Invalid}
+
+-- ---- one verdict
+
+ok_err : {A B : Type 0} {x : A} {y : B} → ◌≡◌ {A = Result A B} (Ok x) (Err y) → ⊥
+ok_err e = cc
+
+-- a document breaks no clause
+nothing_broken : (bytes : List ℕ) (d : Placed) (f : Fault) → IsPyxDocument bytes d → Breaks (lines bytes) f → ⊥
+unfolding document_read
+nothing_broken bytes d f is b =
+    let m = at_most b in
+    ok_err (sym (ap (λ (t : Turn State). t.0) (complete bytes d is).is) ∙ m.is)
 
 -- two faults, neither of which comes after the other
 same_fault : (j m k n : ℕ) → IsBefore (record { clause = j; line = m }) (record { clause = k; line = n }) →
@@ -31,73 +49,149 @@ same_fault j m k n (inl a) (inr b) = absurd (let e = b.0 in omega arith)
 same_fault j m k n (inr a) (inl b) = absurd (let e = a.0 in omega arith)
 same_fault j m k n (inr a) (inr b) = let p = a.1 in let q = b.1 in (omega arith, a.0)
 
-pub one_verdict : (IsValid : Item → Type 0) (bytes : List ℕ) (v w : Verdict) → IsVerdict IsValid bytes v → IsVerdict IsValid bytes w → v ≡ w
-one_verdict IsValid bytes Valid Valid p q = refl
-one_verdict IsValid bytes Valid (Malformed k n) p q = absurd (nothing_broken bytes p.0 _ p.1 q.broken)
-one_verdict IsValid bytes Valid (Invalid n) p q = absurd (q.2 (subst IsValid (one_document bytes p.0 q.0 p.1 q.1) p.2))
-one_verdict IsValid bytes (Malformed k n) Valid p q = absurd (nothing_broken bytes q.0 _ q.1 p.broken)
-one_verdict IsValid bytes (Malformed j m) (Malformed k n) p q =
-    let e = same_fault j m k n (p.least _ q.broken) (q.least _ p.broken) in ap₂ Malformed e.0 e.1
-one_verdict IsValid bytes (Malformed k n) (Invalid m) p q = absurd (nothing_broken bytes q.0 _ q.1 p.broken)
-one_verdict IsValid bytes (Invalid n) Valid p q = absurd (p.2 (subst IsValid (one_document bytes q.0 p.0 q.1 p.1) q.2))
-one_verdict IsValid bytes (Invalid m) (Malformed k n) p q = absurd (nothing_broken bytes p.0 _ p.1 q.broken)
-one_verdict IsValid bytes (Invalid m) (Invalid n) p q = ap Invalid (p.3 ∙ sym q.3)
+module _ (IsValid : Item → Type 0) (IsUnknown : Name → Type 0) (bytes : List ℕ) where
+  pub one_verdict : (v w : Verdict) → IsVerdict IsValid IsUnknown bytes v → IsVerdict IsValid IsUnknown bytes w → AreSameVerdict v w
+  one_verdict Valid Valid p q = refl
+  one_verdict Valid (Malformed k n) p q = absurd (nothing_broken bytes p.0 _ p.1 q.broken)
+  one_verdict Valid (Invalid n) p q = absurd (q.cannot bytes refl p)
+  one_verdict (Malformed k n) Valid p q = absurd (nothing_broken bytes q.0 _ q.1 p.broken)
+  one_verdict (Malformed j m) (Malformed k n) p q =
+      let e = same_fault k n j m (q.least _ p.broken) (p.least _ q.broken) in ap₂ Malformed e.0 e.1
+  one_verdict (Malformed k n) (Invalid m) p q = absurd (nothing_broken bytes q.document _ q.is_document p.broken)
+  one_verdict (Invalid n) Valid p q = absurd (p.cannot bytes refl q)
+  one_verdict (Invalid m) (Malformed k n) p q = absurd (nothing_broken bytes p.document _ p.is_document q.broken)
+  one_verdict (Invalid m) (Invalid n) p q = (n, refl)
 
--- for which lists of events a builder stands
-abbrev stands : TreeBuilder → List Event → Type 0
-stands b events = built_of b ≡ built events
+-- ---- the verdict of a fault
 
--- the verdict of a fault of what an input had left
-of_fault : (IsValid : TextTests → Item → Type 0) (old new : Option (List ℕ)) (f : PyxFault) → IsFaultOfInput old new (faults.Pyx f)
-    → IfOk (malformed_by f) (λ v. (tests : TextTests) → IsJudgedBy (IsValid tests) v old new)
-of_fault IsValid old new pyx.Memory fault = tt
-of_fault IsValid old new (pyx.At clause line) fault = λ tests. record {
-  document = fault.0;
-  rest = fault.1;
-  read = fault.2;
-  to_end = inr tt;
-  verdict_is = fault.3;
-  only = λ w is. one_verdict (IsValid tests) fault.0 (Malformed clause line) w fault.3 is;
-}
+module _ (IsValid : Item → Type 0) (IsUnknown : Name → Type 0) (old new : Option (List ℕ)) where
+  of_fault : (f : PyxFault) → IsFaultOfInput old new (faults.Pyx f) → IfOk (malformed_by f) (λ v. IsJudgedBy IsValid IsUnknown v old new)
+  of_fault pyx.Memory fault = tt
+  of_fault (pyx.At clause line) fault = record {
+    document = fault.0;
+    rest = fault.1;
+    read = fault.2;
+    to_end = inr tt;
+    verdict_is = fault.3;
+    only = λ w is. one_verdict IsValid IsUnknown fault.0 (Malformed clause line) w fault.3 is;
+  }
 
-pub fault_judged : (IsValid : TextTests → Item → Type 0) (old new : Option (List ℕ)) (f : PyxFault) (r : Result Verdict JudgeFault) → r ≡ malformed_by f
-    → IsFaultOfInput old new (faults.Pyx f) → IfOk r (λ v. (tests : TextTests) → IsJudgedBy (IsValid tests) v old new)
-fault_judged IsValid old new f r e fault =
-    subst (λ (r : Result Verdict JudgeFault). IfOk r (λ v. (tests : TextTests) → IsJudgedBy (IsValid tests) v old new)) (sym e) (of_fault IsValid old new f fault)
+  pub fault_judged : (f : PyxFault) (r : Result Verdict JudgeFault) → r ≡ malformed_by f → IsFaultOfInput old new (faults.Pyx f)
+      → IfOk r (λ v. IsJudgedBy IsValid IsUnknown v old new)
+  fault_judged f r e fault =
+      subst (λ (r : Result Verdict JudgeFault). IfOk r (λ v. IsJudgedBy IsValid IsUnknown v old new)) (sym e) (of_fault f fault)
 
-module _ (old new : Option (List ℕ)) (empty full : TreeBuilder) (lines : ℕ) (root : Option declared.Item) where
-  -- the root of the document that was taken
-  pub root_taken : (taken : IsTaken (Hands stands empty full) old new lines) → built_of empty ≡ nothing_built
-      → ((bytes : List ℕ) (events : List Event) → stands full events → IsTheDocument bytes events → IsRootOf bytes root) → IsRootOf taken.bytes root
-  unfolding built_on
-  root_taken taken start is = is taken.bytes taken.events (taken.handed_out [] start) taken.document
+-- ---- the verdict of an outcome
 
--- a document that was taken, judged by its root
-pub root_judged : (IsValid : Item → Type 0) (handed : List Event → Type 0) (old new : Option (List ℕ)) (lines : ℕ) (root : declared.Item)
-    (taken : IsTaken handed old new lines) → IsRootOf taken.bytes (Some root) → (valid : Bool) → (valid ≡ true) ↔ IsValid (item_of root)
-    → IsJudgedBy IsValid (if valid then Valid else Invalid lines) old new
-root_judged IsValid handed old new lines root taken is true holds =
-    let v : IsVerdict IsValid taken.bytes Valid = (_, is.0, holds.0 refl) in
-    record { document = taken.bytes; rest = []; read = taken.read; to_end = inl refl; verdict_is = v; only = λ w. one_verdict IsValid taken.bytes Valid w v }
-root_judged IsValid handed old new lines root taken is false holds =
-    let v : IsVerdict IsValid taken.bytes (Invalid lines) =
-    (_, is.0, (λ valid. let e = holds.1 valid in absurd (cc)), taken.feeds_are ∙ document_lines _ _ is.0) in
-    record { document = taken.bytes; rest = []; read = taken.read; to_end = inl refl; verdict_is = v; only = λ w. one_verdict IsValid taken.bytes _ w v }
+-- where the first n are the same, one list is as long as the other, up to n
+as_long : (n : ℕ) (xs ys : List Line) → take n xs ≡ take n ys → n ≤ length ys → n ≤ length xs
+as_long zero xs ys e le = omega arith
+as_long (suc n) [] [] e le = le
+as_long (suc n) [] (y ∷ ys) e le = absurd (cc)
+as_long (suc n) (x ∷ xs) [] e le = absurd (omega (arith, le))
+as_long (suc n) (x ∷ xs) (y ∷ ys) e le =
+    let rest : take n xs ≡ take n ys = cc in
+    let more = as_long n xs ys rest (omega (arith, le)) in
+    omega (arith, more)
 
--- the same documents are valid, so the verdict is the same
-pub same_verdict : (IsValid IsAlsoValid : Item → Type 0) → ((root : Item) → IsValid root ↔ IsAlsoValid root) → (bytes : List ℕ) (v : Verdict) →
-    IsVerdict IsValid bytes v → IsVerdict IsAlsoValid bytes v
-same_verdict IsValid IsAlsoValid same bytes Valid h = (h.0, h.1, (same h.0).0 h.2)
-same_verdict IsValid IsAlsoValid same bytes (Malformed clause line) h = h
-same_verdict IsValid IsAlsoValid same bytes (Invalid n) h = (h.0, h.1, (λ valid. h.2 ((same h.0).1 valid)), h.3)
+module _ (g : Reading) (bytes : List ℕ) (d : Placed) (is : IsPyxDocument bytes d) where
+  abbrev IsValid : Item → Type 0
+  IsValid = IsValidBy g.grammar (texts_of g.tests)
 
-pub same_judged : (IsValid IsAlsoValid : Item → Type 0) → ((root : Item) → IsValid root ↔ IsAlsoValid root) → (old new : Option (List ℕ)) (v : Verdict) →
-    IsJudgedBy IsValid v old new → IsJudgedBy IsAlsoValid v old new
-same_judged IsValid IsAlsoValid same old new v h = record {
-  document = h.document;
-  rest = h.rest;
-  read = h.read;
-  to_end = h.to_end;
-  verdict_is = same_verdict IsValid IsAlsoValid same h.document v h.verdict_is;
-  only = λ w is. one_verdict IsAlsoValid h.document v w (same_verdict IsValid IsAlsoValid same h.document v h.verdict_is) is;
-}
+  abbrev IsUnknown : Name → Type 0
+  IsUnknown = IsUnknownTo g.grammar
+
+  not_known : (kind : EventKind) → KnowsName g.grammar kind → StartsUnknown IsUnknown kind → ⊥
+  not_known (a_start name attrs) known unknown = known unknown
+  not_known (a_string text) known unknown = unknown
+  not_known an_end known unknown = unknown
+
+  module _ (line : ℕ) (f : FailsAt g (events_of d) line) where
+    abbrev failing : Event
+    failing = record { line = line; kind = f.kind }
+
+    at : (1 ≤ line) × (line ≤ length (lines bytes))
+    at = event_line bytes d f.before failing f.behind is f.parts
+
+    cannot : CannotBeValid IsValid bytes line
+    cannot other same valid =
+        let long = as_long line (lines other) (lines bytes) same at.1 in
+        let more = same_front bytes other d valid.0 line f.before failing f.behind is valid.1 at.1 long (sym same) f.parts (omega arith) in
+        f.cannot more.0 other valid.0 valid.1 more.1 valid.2
+
+    abbrev Later : Event → Type 0
+    Later e = StartsUnknown IsUnknown e.kind → line ≤ e.line
+
+    known : All Later (events_of d)
+    known =
+        subst (All Later) (sym f.parts)
+        (All-append Later f.before (failing ∷ f.behind)
+        (All-weaker (λ e. KnowsName g.grammar e.kind) Later (λ e k u. absurd (not_known e.kind k u)) f.before f.known)
+        (All-cons Later failing f.behind (λ u. omega arith)
+        (All-weaker (λ e. line ≤ e.line) Later (λ e le u. le) f.behind (lines_rise bytes d f.before failing f.behind is f.parts))))
+
+    invalid_from : IsInvalidFrom IsValid IsUnknown bytes line
+    invalid_from = record { document = d; is_document = is; not_before = at.0; within = at.1; cannot = cannot; known = known }
+
+  outcome_verdict : (o : Outcome) → IsOutcome g d o → IsVerdict IsValid IsUnknown bytes (verdict_of o)
+  outcome_verdict outcome.Valid valid = (d, is, valid)
+  outcome_verdict (outcome.Invalid line) fails = invalid_from line fails.1
+
+-- a document that was taken, judged by the outcome for its events
+pub outcome_judged : (g : Reading) (handed : List Event → Type 0) (old new : Option (List ℕ)) (o : Outcome) → IsTaken handed old new
+    → ((bytes : List ℕ) (d : Placed) → IsPyxDocument bytes d → handed (events_of d) → IsOutcome g d o)
+    → IsJudgedBy (IsValidBy g.grammar (texts_of g.tests)) (IsUnknownTo g.grammar) (verdict_of o) old new
+outcome_judged g handed old new o taken is =
+    let d = taken.document.tree in
+    let v = outcome_verdict g taken.bytes d taken.document.document o
+    (is taken.bytes d taken.document.document (subst handed (sym taken.document.events_are) taken.handed_out)) in
+    record {
+      document = taken.bytes;
+      rest = [];
+      read = taken.read;
+      to_end = inl refl;
+      verdict_is = v;
+      only = λ w. one_verdict (IsValidBy g.grammar (texts_of g.tests)) (IsUnknownTo g.grammar) taken.bytes (verdict_of o) w v;
+    }
+
+-- the same, where the outcome is that of a matcher, to which nothing was told at first
+pub matcher_judged : {M : Type 0} (reading : M → Reading) (knows : M → List Event → Type 0) (first full : M) (g : Reading) (old new : Option (List ℕ))
+    (o told : Outcome) → o ≡ told → reading first ≡ g → knows first []
+    → IsTaken (Hands (λ (before after : M) (events : List Event). (reading after ≡ reading before) × knows after events) first full) old new
+    → ((bytes : List ℕ) (d : Placed) → IsPyxDocument bytes d → knows full (events_of d) → IsOutcome (reading full) d o)
+    → IsJudgedBy (IsValidBy g.grammar (texts_of g.tests)) (IsUnknownTo g.grammar) (verdict_of told) old new
+matcher_judged reading knows first full g old new o told same is start taken says = outcome_judged g _ old new told taken (λ bytes d document handed.
+    let both = handed first [] (refl, start) in
+    subst (λ r. IsOutcome r d told) (both.0 ∙ is) (subst (IsOutcome (reading full) d) same (says bytes d document both.1)))
+
+-- ---- where the same documents are valid, and no more names unknown
+
+module _ (IsValid IsAlsoValid : Item → Type 0) (IsUnknown IsAlsoUnknown : Name → Type 0) (same : (root : Item) → IsValid root ↔ IsAlsoValid root)
+    (less : (name : Name) → IsAlsoUnknown name → IsUnknown name) where
+  less_unknown : (kind : EventKind) → StartsUnknown IsAlsoUnknown kind → StartsUnknown IsUnknown kind
+  less_unknown (a_start name attrs) u = less name u
+  less_unknown (a_string text) u = u
+  less_unknown an_end u = u
+
+  same_verdict : (bytes : List ℕ) (v : Verdict) → IsVerdict IsValid IsUnknown bytes v → IsVerdict IsAlsoValid IsAlsoUnknown bytes v
+  same_verdict bytes Valid h = (h.0, h.1, (same (item_of h.0)).0 h.2)
+  same_verdict bytes (Malformed clause line) h = h
+  same_verdict bytes (Invalid n) h = record {
+    document = h.document;
+    is_document = h.is_document;
+    not_before = h.not_before;
+    within = h.within;
+    cannot = λ other e valid. h.cannot other e (valid.0, valid.1, (same (item_of valid.0)).1 valid.2);
+    known = All-weaker (λ e. StartsUnknown IsUnknown e.kind → n ≤ e.line) (λ e. StartsUnknown IsAlsoUnknown e.kind → n ≤ e.line)
+        (λ e late u. late (less_unknown e.kind u)) (events_of h.document) h.known;
+  }
+
+  pub same_judged : (old new : Option (List ℕ)) (v : Verdict) → IsJudgedBy IsValid IsUnknown v old new → IsJudgedBy IsAlsoValid IsAlsoUnknown v old new
+  same_judged old new v h = record {
+    document = h.document;
+    rest = h.rest;
+    read = h.read;
+    to_end = h.to_end;
+    verdict_is = same_verdict h.document v h.verdict_is;
+    only = λ w is. one_verdict IsAlsoValid IsAlsoUnknown h.document v w (same_verdict h.document v h.verdict_is) is;
+  }

@@ -1,10 +1,8 @@
 -- A document that is taken piece by piece.
-use Rattle.std.proofs.Common.{◌≡◌, ◌==◌, ◌+◌, ℕ, List, [], ◌++◌, Option, Some, None, Ok, Err, refl, sym, subst, append_assoc}
-use Rattle.std.specs.List.{count_by}
+use Rattle.std.proofs.Common.{ℕ, List, [], ◌++◌, Option, Some, None, Ok, Err, refl, sym, subst, append_assoc}
 use Rattle.std.specs.Io.KnownBytes.{Consumes, IsAtEnd}
 use Rattle.std.proofs.KnownBytes.{Consumes-nil, Consumes-trans}
 use Rattle.std.proofs.lemmas.List.{append-nil}
-use Rattle.std.proofs.lemmas.List.Sums.{sum_by-append}
 use Rattle.rng_model.specs.PyxTrees.{Event}
 use Rattle.pyx.specs.Standing.{Ends, Extends, IsFaultAfter, Kept, Stands, UnlessMemory}
 use Rattle.pyx.specs.View.{Hands}
@@ -14,41 +12,38 @@ use Rattle.rng_run.specs.Documents.{HasLeft, IsFaultOfInput, IsRead, IsTaken}
 use Rattle.rng_run.specs.declared.streams.DocumentFault.TheVariants as faults
 
 -- so far these bytes were read, and these events handed out
-pub record IsBegun (handed : List Event → Type 0) (reader : Kept) (input_old input_new : Option (List ℕ)) (feeds : ℕ) : Type 0 where
+pub record IsBegun (handed : List Event → Type 0) (reader : Kept) (input_old input_new : Option (List ℕ)) : Type 0 where
   pub bytes : List ℕ
   pub consumed : Consumes input_old input_new bytes
   pub events : List Event
   pub stands : Stands reader bytes events
   pub handed_out : handed events
-  pub feeds_are : feeds ≡ count_by (λ c. c == 10) bytes
 
 -- what a piece adds to these
-hands_on : {E : Type 0} (stands : E → List Event → Type 0) (a b c : E) (xs ys : List Event) → Hands stands a b xs → Hands stands b c ys
+hands_on : {E : Type 0} (stands : E → E → List Event → Type 0) (a b c : E) (xs ys : List Event) → Hands stands a b xs → Hands stands b c ys
     → Hands stands a c (xs ++ ys)
-hands_on stands a b c xs ys h k = λ sent s. subst (stands c) (append_assoc sent xs ys) (k (sent ++ xs) (h sent s))
+hands_on stands a b c xs ys h k = λ first sent s. subst (stands first c) (append_assoc sent xs ys) (k first (sent ++ xs) (h first sent s))
 
-pub nothing_read : {E : Type 0} (stands : E → List Event → Type 0) (events : E) (reader : Kept) (input : Option (List ℕ)) → Stands reader [] []
-    → IsBegun (Hands stands events events) reader input input 0
+pub nothing_read : {E : Type 0} (stands : E → E → List Event → Type 0) (events : E) (reader : Kept) (input : Option (List ℕ)) → Stands reader [] []
+    → IsBegun (Hands stands events events) reader input input
 nothing_read stands events reader input start = record {
   bytes = [];
   consumed = Consumes-nil input;
   events = [];
   stands = start;
-  handed_out = λ sent s. subst (stands events) (sym (append-nil sent)) s;
-  feeds_are = refl;
+  handed_out = λ first sent s. subst (stands first events) (sym (append-nil sent)) s;
 }
 
-module _ {E : Type 0} (handing : E → List Event → Type 0) (a b c : E) (old fed : Kept) (input_old input_mid input_new : Option (List ℕ))
+module _ {E : Type 0} (handing : E → E → List Event → Type 0) (a b c : E) (old fed : Kept) (input_old input_mid input_new : Option (List ℕ))
     (piece : List ℕ) where
-  pub piece_read : (feeds more : ℕ) → IsBegun (Hands handing a b) old input_old input_mid feeds → Consumes input_mid input_new piece
-      → Extends (Hands handing b c) old fed piece → more ≡ count_by (λ c. c == 10) piece → IsBegun (Hands handing a c) fed input_old input_new (feeds + more)
-  piece_read feeds more begun read extends e = record {
+  pub piece_read : IsBegun (Hands handing a b) old input_old input_mid → Consumes input_mid input_new piece → Extends (Hands handing b c) old fed piece
+      → IsBegun (Hands handing a c) fed input_old input_new
+  piece_read begun read extends = record {
     bytes = begun.bytes ++ piece;
     consumed = Consumes-trans input_old input_mid input_new begun.bytes piece begun.consumed read;
     events = begun.events ++ extends.0;
     stands = extends.2 begun.bytes begun.events begun.stands;
     handed_out = hands_on handing a b c begun.events extends.0 begun.handed_out extends.1;
-    feeds_are = rw (begun.feeds_are, e) (sym (sum_by-append _ begun.bytes piece));
   }
 
 -- what is left of an input
@@ -64,13 +59,13 @@ nothing_left : (input : Option (List ℕ)) → IsAtEnd input → HasLeft input [
 nothing_left None e = tt
 nothing_left (Some bytes) e = e
 
-module _ {E : Type 0} (handing : E → List Event → Type 0) (a b c : E) (old fed : Kept) (input_old input_mid input_new : Option (List ℕ))
+module _ {E : Type 0} (handing : E → E → List Event → Type 0) (a b c : E) (old fed : Kept) (input_old input_mid input_new : Option (List ℕ))
     (piece : List ℕ) where
   -- a piece was not taken
-  pub piece_refused : (A : Type 0) (feeds : ℕ) (f : PyxFault) → IsBegun (Hands handing a b) old input_old input_mid feeds → Consumes input_mid input_new piece
+  pub piece_refused : (A : Type 0) (f : PyxFault) → IsBegun (Hands handing a b) old input_old input_mid → Consumes input_mid input_new piece
       → UnlessMemory {A = A} (Err f) (Extends (Hands handing b c) old fed piece) → IsFaultAfter fed f → IsFaultOfInput input_old input_new (faults.Pyx f)
-  piece_refused A feeds pyx.Memory begun read extends fault = tt
-  piece_refused A feeds (pyx.At clause line) begun read extends fault =
+  piece_refused A pyx.Memory begun read extends fault = tt
+  piece_refused A (pyx.At clause line) begun read extends fault =
       let bytes = begun.bytes ++ piece in (
         bytes ++ rest_of input_new,
         rest_of input_new,
@@ -83,10 +78,10 @@ module _ {E : Type 0} (handing : E → List Event → Type 0) (a b c : E) (old f
         (fault bytes (begun.events ++ extends.0) (extends.2 begun.bytes begun.events begun.stands) (rest_of input_new)).first,
       )
 
-module _ {E : Type 0} (handing : E → List Event → Type 0) (a b c : E) (reader : Kept) (input_old input_mid input_new : Option (List ℕ)) where
-  all_read : (feeds : ℕ) (begun : IsBegun (Hands handing a b) reader input_old input_mid feeds) → Consumes input_mid input_new [] → IsAtEnd input_new
+module _ {E : Type 0} (handing : E → E → List Event → Type 0) (a b c : E) (reader : Kept) (input_old input_mid input_new : Option (List ℕ)) where
+  all_read : (begun : IsBegun (Hands handing a b) reader input_old input_mid) → Consumes input_mid input_new [] → IsAtEnd input_new
       → IsRead input_old input_new begun.bytes []
-  all_read feeds begun read end = record {
+  all_read begun read end = record {
     read = begun.bytes;
     parts = sym (append-nil begun.bytes);
     consumed = subst (Consumes input_old input_new) (append-nil begun.bytes)
@@ -95,20 +90,19 @@ module _ {E : Type 0} (handing : E → List Event → Type 0) (a b c : E) (reade
   }
 
   -- all pieces were taken, and the end
-  pub document_taken : (A : Type 0) (x : A) (feeds : ℕ) → IsBegun (Hands handing a b) reader input_old input_mid feeds → Consumes input_mid input_new []
-      → IsAtEnd input_new → Ends (Hands handing b c) reader (Ok x) → IsTaken (Hands handing a c) input_old input_new feeds
-  document_taken A x feeds begun read end ends = record {
+  pub document_taken : (A : Type 0) (x : A) → IsBegun (Hands handing a b) reader input_old input_mid → Consumes input_mid input_new []
+      → IsAtEnd input_new → Ends (Hands handing b c) reader (Ok x) → IsTaken (Hands handing a c) input_old input_new
+  document_taken A x begun read end ends = record {
     bytes = begun.bytes;
-    read = all_read feeds begun read end;
+    read = all_read begun read end;
     events = begun.events ++ ends.0;
     document = ends.2 begun.bytes begun.events begun.stands;
     handed_out = hands_on handing a b c begun.events ends.0 begun.handed_out ends.1;
-    feeds_are = begun.feeds_are;
   }
 
   -- the end was not taken
-  pub end_refused : (A : Type 0) (feeds : ℕ) (f : PyxFault) → IsBegun (Hands handing a b) reader input_old input_mid feeds → Consumes input_mid input_new []
+  pub end_refused : (A : Type 0) (f : PyxFault) → IsBegun (Hands handing a b) reader input_old input_mid → Consumes input_mid input_new []
       → IsAtEnd input_new → UnlessMemory {A = A} (Err f) (Ends {A = A} (Hands handing b c) reader (Err f)) → IsFaultOfInput input_old input_new (faults.Pyx f)
-  end_refused A feeds pyx.Memory begun read end ends = tt
-  end_refused A feeds (pyx.At clause line) begun read end ends =
-      (begun.bytes, [], all_read feeds begun read end, (ends.2 begun.bytes begun.events begun.stands).first)
+  end_refused A pyx.Memory begun read end ends = tt
+  end_refused A (pyx.At clause line) begun read end ends =
+      (begun.bytes, [], all_read begun read end, (ends.2 begun.bytes begun.events begun.stands).first)

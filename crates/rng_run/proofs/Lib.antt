@@ -1,6 +1,6 @@
 mod AnswerLines
-mod ServedGrammars
 mod LoadedSchemas
 mod Documents
 mod DocumentVerdict
 mod GoodSchemas
+mod UnknownNames

@@ -5,8 +5,7 @@ use Rattle.rng_run.specs.declared.answer.Verdict.TheVariants as verdicts
 use Rattle.rng_run.specs.declared.answer.Status.{Status}
 use Rattle.rng_run.specs.declared.answer.Status.TheVariants as statuses
 
--- the schema is refused by a clause (0 where it is outside what is served), or the file of this name is, or the schema is good, or the document is
--- judged
+-- the schema is refused by a clause, or the file of this name is, or the schema is good, or the document is judged
 pub data Answer : Type 0 where
   refused : ℕ → Answer
   refused_file : ℕ → List ℕ → Answer

@@ -1,6 +1,5 @@
 -- What was read of a document, and what was handed out of it.
-use Rattle.std.specs.Prelude.{◌≡◌, ◌==◌, ℕ, List, [], ◌++◌, Option, Some, None}
-use Rattle.std.specs.List.{count_by}
+use Rattle.std.specs.Prelude.{◌≡◌, ℕ, List, [], ◌++◌, Option, Some, None}
 use Rattle.std.specs.Io.KnownBytes.{Consumes}
 use Rattle.rng_model.specs.Lines.{lines}
 use Rattle.rng_model.specs.PyxClauses.{IsFirstFault}
@@ -22,14 +21,13 @@ pub record IsRead (input_old input_new : Option (List ℕ)) (bytes rest : List �
   pub consumed : Consumes input_old input_new read
   pub left : HasLeft input_new rest
 
--- all that was left was read, it is a document of as many line feeds, and its events were handed out
-pub record IsTaken (handed : List Event → Type 0) (input_old input_new : Option (List ℕ)) (feeds : ℕ) : Type 0 where
+-- all that was left was read, it is a document, and its events were handed out
+pub record IsTaken (handed : List Event → Type 0) (input_old input_new : Option (List ℕ)) : Type 0 where
   pub bytes : List ℕ
   pub read : IsRead input_old input_new bytes []
   pub events : List Event
   pub document : IsTheDocument bytes events
   pub handed_out : handed events
-  pub feeds_are : feeds ≡ count_by (λ c. c == 10) bytes
 
 -- this is the first fault of the bytes that were left, of which a beginning was read; a fault of the device or of memory says nothing of them
 abbrev pub IsFaultOfInput : Option (List ℕ) → Option (List ℕ) → DocumentFault → Type 0

@@ -2,6 +2,6 @@ pub mod Answer
 pub mod AnswerView
 pub mod Verdict
 pub mod Documents
-pub mod Served
 pub mod Compiled
+pub mod Judging
 pub mod Run

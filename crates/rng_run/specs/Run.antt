@@ -1,14 +1,15 @@
 -- What a run answers, and what it leaves behind.
-use Rattle.std.specs.Prelude.{◌≡◌, ℕ, List, [], ◌∷◌, take, Option, string_bytes}
+use Rattle.std.specs.Prelude.{◌≡◌, ℕ, List, [], ◌∷◌, All, take, Option, string_bytes}
 use Rattle.std.specs.Io.KnownBytes.{Appends, Keeps}
+use Rattle.rng_model.specs.Names.{In, Name}
 use Rattle.rng_model.specs.Schema.{Schema}
 use Rattle.rng_model.specs.SchemaClauses.{BreaksNoClause, IsLeastClause}
+use Rattle.rng_model.specs.SchemaForm.{SimpleForm, IsSimpleFormOfSchema}
 use Rattle.rng_model.specs.SchemaMatching.{IsValidBySchema}
 use Rattle.rng_run.specs.Answer.{Answer, refused, refused_file, schema_ok, judged, line_of, status_of}
 use Rattle.rng_load.specs.Loading.{FilesVerdict, file_breaks, together_break, are_taken, IsTheFilesVerdict}
 use Rattle.rng_load.specs.LoadedSchema.{AreSchema}
 use Rattle.rng_load.specs.SchemaFile.{NamedFile}
-use Rattle.rng_run.specs.Served.{IsServed, IsUnserved}
 use Rattle.rng_run.specs.Verdict.{IsJudgedBy}
 use Rattle.rng_run.specs.declared.answer.Status.{Status}
 use Rattle.rng_run.specs.declared.answer.Verdict.{Verdict}
@@ -23,22 +24,23 @@ abbrev pub main_name : List (String Global × Vec ℕ Global) → List ℕ
 main_name [] = []
 main_name (file ∷ files) = string_bytes file.0
 
--- What is told of the schema alone: the least clause that it breaks; or, where it breaks none, that it is good, by `check`, and by `valid` that it is
--- not served.
+-- what is told of the schema alone: the least clause that it breaks; or, by `check`, that it breaks none
 pub data IsTold (command : Command) (s : Schema) : Answer → Type 0 where
   breaks_clause : {clause : ℕ} → IsLeastClause s clause → IsTold command s (refused clause)
   is_good : command ≡ Check → BreaksNoClause s → IsTold command s schema_ok
-  not_served : command ≡ Valid → BreaksNoClause s → IsUnserved s → IsTold command s (refused 0)
 
--- the command judges documents by the schema: it breaks no clause, and is served
+-- the command judges documents by the schema, which breaks no clause
 pub record JudgesDocuments (command : Command) (s : Schema) : Type 0 where
   pub command_is : command ≡ Valid
   pub breaks_none : BreaksNoClause s
-  pub served : IsServed s
+
+-- no element of the schema's simple form may have this name
+abbrev pub IsUnknownIn : Schema → Name → Type 0
+IsUnknownIn s name = (f : SimpleForm) × IsSimpleFormOfSchema s f × All (λ e. ¬ (In e.class name)) f.elements
 
 -- the verdict on what the reader had left, by this schema as it is written
 abbrev pub IsJudged : Schema → Verdict → Option (List ℕ) → Option (List ℕ) → Type 0
-IsJudged s = IsJudgedBy (IsValidBySchema s)
+IsJudged s = IsJudgedBy (IsValidBySchema s) (IsUnknownIn s)
 
 -- the answer by the schema: what is told of it alone, or the verdict on the document
 pub data IsAnswerBy (command : Command) (s : Schema) (input_old input_new : Option (List ℕ)) : Answer → Type 0 where

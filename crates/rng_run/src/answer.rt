@@ -12,7 +12,7 @@ pub enum Verdict {
     Valid,
     /// The clause that is broken first, 1 to 13, and its line: 1 is the first, and 0 says that there is none.
     Malformed { clause: u8, line: u64 },
-    /// The number of the document's lines.
+    /// The line, from 1, with which nothing valid can begin any more.
     Invalid(u64),
 }
 
@@ -28,7 +28,7 @@ pub enum Status {
 /// What a run answers with one line.
 #[derive(Drop)]
 pub enum Answer {
-    /// The schema breaks this clause, or is outside what is served: clause 0.
+    /// The schema breaks this clause.
     Refused(u8),
     /// The file of this name breaks this clause.
     RefusedFile { clause: u8, name: String },

@@ -1,15 +1,18 @@
 // Judging a document by a grammar.
-ghost use Rattle.std.specs.Prelude.{All, ◌≡◌, ◌^◌, ◌-◌, ◌<◌, IfOk, OnOk, IsErrOf};
+ghost use Rattle.std.specs.Prelude.{◌≡◌, ◌^◌, ◌-◌, ◌<◌, IfOk, OnOk, IsErrOf};
+ghost use Rattle.rng_matching.specs.Laws.{BreaksNone};
+ghost use Rattle.rng_model.specs.DatatypeTests.{text_tests};
 ghost use Rattle.rng_model.specs.Device.{device_inner, device_failures};
-ghost use Rattle.rng_model.specs.Table.{grammar_of, IsOfFirstKind, IsValidBy};
-ghost use Rattle.rng_model.specs.Texts.{TextTests, texts_of};
+ghost use Rattle.rng_model.specs.Table.{grammar_of, IsValidBy};
+ghost use Rattle.rng_model.specs.Texts.{texts_of};
+ghost use Rattle.rng_run.specs.Judging.{IsUnknownTo};
 ghost use Rattle.rng_run.specs.Verdict.{IsJudgedBy, malformed_by};
 
 use crate::answer::Verdict;
 use crate::streams::{DocumentFault, take_document};
 use pyx::PyxFault;
-use pyx_tree::TreeBuilder;
-use rng_deriv::is_valid;
+use rng_derivatives::matcher;
+use rng_matcher::Outcome;
 use rng_model::{Device, OutOfMemory, SimpleGrammar};
 use std::alloc::Global;
 use std::io::Read;
@@ -23,15 +26,17 @@ pub(crate) enum JudgeFault {
     Memory,
 }
 
-/// What the document that a reader has left is by a grammar.
+/// What the document that a reader has left is by a grammar that obeys the restrictions.
 ///
 /// `Malformed` names the broken clause of least line, and there of least number. Of one line: 1 where no line feed ends
 /// it, 2 where it is not UTF-8, 3 for a character that XML does not have, 4 for a line of no kind, 5 for an escape that
 /// is none, 6 for a name that is none or an attribute without a space. Of a line in its place: 7 for an attribute in no
 /// tag, 8 for an end tag that does not fit, 9 for a text outside the root or a start tag after it, 10 for a limit that
 /// is passed. Of a tag, at its last line: 11 for a declaration that is not allowed or a prefix that is not declared, 12
-/// for two attributes of one name. 13 is an input that ends without a root or with an element open. `Invalid` has the
-/// number of lines. Reading stops at the piece with the line of the fault, and goes on to the end where there is none.
+/// for two attributes of one name. 13 is an input that ends without a root or with an element open. `Invalid` has a line
+/// with which nothing valid can begin any more. Reading stops at the piece with the line of a fault, and goes on to the end
+/// where there is none. No more is kept of the document than the lines of a tag, a text, the names that are open, and
+/// what the matcher keeps.
 ///
 /// XML 1.0, sections 2.2 and 3.1; Namespaces in XML 1.0, sections 3 to 6; RELAX NG Specification, section 6.
 pub(crate) fn document_verdict<R: Read>(
@@ -39,26 +44,25 @@ pub(crate) fn document_verdict<R: Read>(
     grammar: &SimpleGrammar,
     input: &mut Device<R>,
 ) -> Result<Verdict, JudgeFault>
-    requires kinds { All IsOfFirstKind grammar.now.patterns }
+    requires restricted { BreaksNone (grammar_of grammar.now) }
     requires input { device_failures input.old < 2 ^ 64 - 1 }
-    ensures judged { IfOk result (λ v. (tests : TextTests) → IsJudgedBy (IsValidBy (grammar_of grammar.now) (texts_of tests)) v
+    ensures judged { IfOk result (λ v. IsJudgedBy (IsValidBy (grammar_of grammar.now) (texts_of text_tests)) (IsUnknownTo (grammar_of grammar.now)) v
         (R.remaining (device_inner input.old)) (R.remaining (device_inner input.new))) }
     ensures calm { OnOk result (device_failures input.new ≡ device_failures input.old) }
     ensures read { IsErrOf result JudgeFault.Read → device_failures input.old < device_failures input.new }
     ensures memory { IsErrOf result JudgeFault.Memory → device_failures input.new ≡ device_failures input.old }
 {
-    let mut builder = TreeBuilder::new(alloc);
-    let lines = match take_document(alloc, input, &mut builder) {
-        Ok(lines) => lines,
+    let Ok(mut matcher) = matcher(alloc, grammar) else {
+        return Err(JudgeFault::Memory);
+    };
+    match take_document(alloc, input, &mut matcher) {
+        Ok(()) => {}
         Err(DocumentFault::Read) => return Err(JudgeFault::Read),
         Err(DocumentFault::Pyx(fault)) => return malformed(fault),
-    };
-    let Some(root) = builder.into_root() else {
-        unreachable!();
-    };
-    match is_valid(alloc, grammar, &root) {
-        Ok(true) => Ok(Verdict::Valid),
-        Ok(false) => Ok(Verdict::Invalid(lines)),
+    }
+    match matcher.finish() {
+        Ok(Outcome::Valid) => Ok(Verdict::Valid),
+        Ok(Outcome::Invalid(line)) => Ok(Verdict::Invalid(line)),
         Err(OutOfMemory) => Err(JudgeFault::Memory),
     }
 }

@@ -44,14 +44,16 @@ pub enum RunFault {
 /// The line is `refused Sk file NAME` where a file breaks a clause by itself, with the first such file in load order
 /// and the clause that it breaks first, 1 to 8; else `refused S9` or `refused S10` where the files break that together,
 /// S9 before S10; else `refused Sk` with the least clause that their schema breaks, 11 to 27; else `schema ok` for
-/// `Check`, and for `Valid` `refused S0` where a list, a datatype, a value, a repetition or an interleave stands in the
-/// schema's simple form, and else `valid`, `invalid line N` or `malformed Pk line N`, as the definition says for the document that
-/// `input` has left and the schema as it is written. A line feed ends it. A refused schema leaves the input unread; the
-/// bytes of files that are not reached from the main one are not looked at. `RunFault::Read` and `RunFault::Write` come
-/// only where that device counted a failed call, `RunFault::Memory` only where neither did; after `Read` and `Memory`
-/// nothing was written, after `Write` a beginning of the line was. A document is read to its end, or in pieces of 32,768 bytes
-/// to the one with the first fault. The files and the document's tree are kept whole; time is what `load` takes, and then
-/// what `simplify_schema`, `restrict` and `is_valid` take.
+/// `Check`, and for `Valid` what the document is that `input` has left: `malformed Pk line N` with its first fault where it
+/// is no document; else `valid` exactly if it matches the schema by the rules of section 6 of the RELAX NG Specification, read
+/// over the files as they are written; else `invalid line N`, where nothing that begins with its lines up to line N is valid,
+/// and no element starts before with a name that no element of the schema's simple form may have. A line feed ends it. A
+/// refused schema leaves the input unread; the bytes of files that are not reached from the main one are not looked at.
+/// `RunFault::Read` and `RunFault::Write` come only where that device counted a failed call, `RunFault::Memory` only where
+/// neither did; after `Read` and `Memory` nothing was written, after `Write` a beginning of the line was. A document is read
+/// to its end, or in pieces of 32,768 bytes to the one with the first fault, and judged as it goes by: no more of it is kept
+/// than a tag, a text, the open elements, and what the matcher keeps. The files are kept whole; time is what `load` takes,
+/// and then what `simplify_schema` and `restrict` take, and `Matcher` for each event.
 pub fn run<R: Read, W: Write>(
     alloc: Global,
     command: Command,

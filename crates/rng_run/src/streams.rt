@@ -1,5 +1,5 @@
 // Taking a document from a device, and writing to one until all is written.
-ghost use Rattle.std.specs.Prelude.{◌≡◌, ◌==◌, ◌+◌, ◌-◌, ◌^◌, ◌<◌, is_ok, count_by, IfOk, IfErr, OnOk, OnErr, IsErrOf, if◌then◌else◌};
+ghost use Rattle.std.specs.Prelude.{◌≡◌, ◌+◌, ◌-◌, ◌^◌, ◌<◌, is_ok, IfErr, OnOk, OnErr, IsErrOf, if◌then◌else◌};
 ghost use Rattle.std.specs.Io.KnownBytes.{Appends};
 ghost use Rattle.pyx.specs.View.{Hands};
 ghost use Rattle.rng_model.specs.Device.{device_inner, device_failures};
@@ -23,17 +23,16 @@ pub enum DocumentFault {
     Pyx(PyxFault),
 }
 
-/// Hands the events of the document that a reader has left to what takes them, piece by piece, and answers how many line
-/// feeds it has.
+/// Hands the events of the document that a reader has left to what takes them, piece by piece.
 ///
 /// It reads to the end, or to the piece with the first line that breaks a clause.
 pub fn take_document<R: Read, E: Events>(
     alloc: Global,
     input: &mut Device<R>,
     events: &mut E,
-) -> Result<u64, DocumentFault>
+) -> Result<(), DocumentFault>
     requires { device_failures input.old < 2 ^ 64 - 1 }
-    ensures taken { IfOk result (IsTaken (Hands E.stands events.old events.new) (R.remaining (device_inner input.old)) (R.remaining (device_inner input.new))) }
+    ensures taken { OnOk result (IsTaken (Hands E.stands events.old events.new) (R.remaining (device_inner input.old)) (R.remaining (device_inner input.new))) }
     ensures fault { IfErr result (IsFaultOfInput (R.remaining (device_inner input.old)) (R.remaining (device_inner input.new))) }
     ensures calm { OnOk result (device_failures input.new ≡ device_failures input.old) }
     ensures read { IsErrOf result DocumentFault.Read → device_failures input.old < device_failures input.new }
@@ -41,7 +40,6 @@ pub fn take_document<R: Read, E: Events>(
 {
     let mut reader = Reader::new(alloc);
     let mut piece = [0u8; PIECE];
-    let mut feeds = 0;
     'pieces: loop {
         let Ok(n) = input.read(&mut piece) else {
             return Err(DocumentFault::Read);
@@ -52,19 +50,11 @@ pub fn take_document<R: Read, E: Events>(
         if let Err(fault) = reader.feed(&piece[..n], events) {
             return Err(DocumentFault::Pyx(fault));
         }
-        feeds += feeds_in(&piece[..n]);
     }
     match reader.finish(events) {
-        Ok(()) => Ok(feeds),
+        Ok(()) => Ok(()),
         Err(fault) => Err(DocumentFault::Pyx(fault)),
     }
-}
-
-/// How many line feeds there are.
-fn feeds_in(bytes: &[u8]) -> u64
-    ensures { result ≡ count_by (λ c. c == 10) bytes.now }
-{
-    bytes.iter().filter(|byte| **byte == b'\n').count() as u64
 }
 
 /// Writes all of a slice, in as many calls as the writer takes.

@@ -1,5 +1,6 @@
-//! Prints what `run` answers and writes for each row of `data/cases.txt`, `data/sizes.txt` and `data/files.txt`; then
-//! for each document of `data/documents.txt` a line with a letter for each schema of `data/schemas.txt`, V for valid
+//! Prints what `run` answers and writes for each row of `data/cases.txt`, `data/sizes.txt` and `data/files.txt`, by a reader
+//! that gives all that it has at once, and after it each other answer by readers that give 1, 2, 3 and 4,096 bytes at
+//! most, which there is not to be; then for each document of `data/documents.txt` a line with a letter for each schema of `data/schemas.txt`, V for valid
 //! and I for invalid.
 //!
 //! The documents, the schemas and their letters come from a second program, `tools/all_splits`.
@@ -10,6 +11,21 @@ use rng_model::Device;
 use rng_run::{Command, Status, run};
 use std::alloc::Global;
 use std::io;
+use std::io::Read;
+
+/// A reader that gives a few bytes a call.
+#[derive(Drop)]
+struct Pieces<'a> {
+    bytes: &'a [u8],
+    most: usize,
+}
+
+impl Read for Pieces<'_> {
+    fn read(&mut self, buf: &mut [u8]) -> io::Result<usize> {
+        let most = self.most.min(buf.len());
+        self.bytes.read(&mut buf[..most])
+    }
+}
 
 fn main(rt: HostRuntime) -> io::Result<()> {
     for row in rows(&rt, "cases.txt")? {
@@ -41,12 +57,16 @@ fn outcome(
     command: Command,
     files: &[(String, Vec<u8>)],
     document: &[u8],
+    most: usize,
 ) -> io::Result<(Status, Vec<u8>)> {
     if files.is_empty() {
         return Err(io::Error::from(io::ErrorKind::InvalidData));
     }
     let mut written = Vec::new(alloc);
-    let mut input = Device::new(document);
+    let mut input = Device::new(Pieces {
+        bytes: document,
+        most,
+    });
     let mut output = Device::new(&mut written);
     match run(alloc, command, files, &mut input, &mut output) {
         Ok(status) => Ok((status, written)),
@@ -92,7 +112,25 @@ fn line_over(
         "check" => Command::Check,
         _ => Command::Valid,
     };
-    let (status, written) = outcome(alloc, command, files, document)?;
+    let mut lines = line_by(alloc, command, files, document, usize::MAX)?;
+    for most in [1, 2, 3, 4096] {
+        let other = line_by(alloc, command, files, document, most)?;
+        if !lines.ends_with(other.as_str()) {
+            lines.push_str(other.as_str())?;
+        }
+    }
+    Ok(lines)
+}
+
+/// What a run answers and writes, by a reader that gives so many bytes a call at most.
+fn line_by(
+    alloc: Global,
+    command: Command,
+    files: &[(String, Vec<u8>)],
+    document: &[u8],
+    most: usize,
+) -> io::Result<String> {
+    let (status, written) = outcome(alloc, command, files, document, most)?;
     match str::from_utf8(written.as_slice()) {
         Ok(line) => Ok(format!(in alloc; "{status:?} {line}")?),
         Err(_) => Err(io::Error::from(io::ErrorKind::InvalidData)),
@@ -124,7 +162,7 @@ fn letters_of(alloc: Global, schemas: &[Row], document: &[u8]) -> io::Result<Str
     let mut letters = String::new(alloc);
     for schema in schemas {
         let file = file_of(alloc, "s.rnc", schema.bytes(0)?)?;
-        let (status, _) = outcome(alloc, Command::Valid, &[file], document)?;
+        let (status, _) = outcome(alloc, Command::Valid, &[file], document, usize::MAX)?;
         letters.push(match status {
             Status::Good => 'V',
             Status::Invalid => 'I',

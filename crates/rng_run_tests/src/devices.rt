@@ -58,7 +58,7 @@ fn a_document_of_three_mebibytes(rt: HostRuntime) -> Result<(), Fail> {
     let document = long_document(rt.alloc())?;
     for (schema, line) in [
         (FOUR_TEXTS, b"valid\n".as_slice()),
-        (LAST_IS_EMPTY, b"invalid line 3210\n"),
+        (LAST_IS_EMPTY, b"invalid line 3209\n"),
     ] {
         let bytes = document.as_slice();
         let got = run_well(rt.alloc(), Command::Valid, schema, bytes, 1000)?;

@@ -2,22 +2,25 @@ use Rattle.std.proofs.Common.{ℕ, List, Option, subst}
 use Rattle.rng_model.specs.DatatypeTests.{text_tests}
 use Rattle.rng_model.specs.Schema.{Schema}
 use Rattle.rng_model.specs.Table.{Table, grammar_of, IsValidBy}
-use Rattle.rng_model.specs.Texts.{TextTests, texts_of}
+use Rattle.rng_model.specs.Texts.{texts_of}
 use Rattle.rng_load.specs.PlacedGrammars.{schema_of}
 use Rattle.rng_run.specs.Answer.{judged}
 use Rattle.rng_run.specs.Compiled.{IsCompiled}
+use Rattle.rng_run.specs.Judging.{IsUnknownTo}
 use Rattle.rng_run.specs.Run.{IsAnswerBy, document_is_judged, schema_is_told}
 use Rattle.rng_run.specs.Verdict.{IsJudgedBy}
 use Rattle.rng_run.specs.declared.answer.Verdict.{Verdict}
 use Rattle.rng_run.specs.declared.compiling.Compiled.TheVariants as compiled
 use Rattle.rng_run.specs.declared.running.Command.{Command}
 use Rattle.rng_run.proofs.DocumentVerdict.{same_judged}
+use Rattle.rng_run.proofs.UnknownNames.{unknown_to_grammar}
 use Rattle.rng_run.proofs.running.answer_by.Goals as goal
 
 -- a verdict by the grammar is one by the schema that was compiled to it
 judged_by : (command : Command) (s : Schema) (g : Table) (old new : Option (List ℕ)) (verdict : Verdict) → IsCompiled command s (compiled.Grammar g)
-    → ((tests : TextTests) → IsJudgedBy (IsValidBy (grammar_of g) (texts_of tests)) verdict old new) → IsAnswerBy command s old new (judged verdict)
-judged_by command s g old new verdict same is = document_is_judged same.0 (same_judged _ _ same.1 old new verdict (is text_tests))
+    → IsJudgedBy (IsValidBy (grammar_of g) (texts_of text_tests)) (IsUnknownTo (grammar_of g)) verdict old new → IsAnswerBy command s old new (judged verdict)
+judged_by command s g old new verdict for is =
+    document_is_judged for.judges (same_judged _ _ _ _ for.documents (unknown_to_grammar s (grammar_of g) for.only) old new verdict is)
 
 pub returns-in-Ok-clause-answer : goal.returns-in-Ok-clause-answer
 returns-in-Ok-clause-answer g c =

@@ -7,10 +7,9 @@ use Rattle.rng_run.proofs.streams.take_document.Given as goal
 abbrev pub invariant-pieces : goal.invariant-pieces
 invariant-pieces g l =
     let remaining = g.R.Read.remaining in record {
-      begun : IsBegun (Hands g.E.Events.stands l.fn.events l.events) l.reader (remaining (device_inner l.fn.input)) (remaining (device_inner l.input)) l.feeds;
+      begun : IsBegun (Hands g.E.Events.stands l.fn.events l.events) l.reader (remaining (device_inner l.fn.input)) (remaining (device_inner l.input));
       room : length l.piece ≡ 32768;
       fed : l.reader.fed ≤ device_taken l.input;
-      feeds : l.feeds ≤ l.reader.fed;
       calm : device_failures l.input ≡ device_failures l.fn.input;
     }
 

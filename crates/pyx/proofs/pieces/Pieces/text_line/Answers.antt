@@ -1,9 +1,9 @@
-use Rattle.std.proofs.Common.{sym}
-use Rattle.pyx.proofs.PlainTexts.{plain_text}
+use Rattle.std.proofs.Common.{◌∙◌, arith, refl}
+use Rattle.pyx.specs.Pieces.{ended_line}
+use Rattle.pyx.proofs.LineClauses.{said_ended}
+use Rattle.pyx.proofs.PlainTexts.{good_text, plain_text}
 use Rattle.pyx.proofs.pieces.Pieces.text_line.Goals as goal
 
-pub line-requires-clause-text : goal.line-requires-clause-text
-line-requires-clause-text g c = (sym c.as_bytes.ensures.value, plain_text c.args.text.now c.utf8.text c.requires.plain)
-
-pub returns : goal.returns
-returns g c = rw (← c.as_bytes.ensures.value) c.line.ensures
+pub text_line-requires-clause-good : goal.text_line-requires-clause-good
+text_line-requires-clause-good g c = said_ended (ended_line c.args.text.now) (omega (arith, c.if-text-le-LINE_LIMIT.true)) refl
+    ∙ good_text c.args.text.now c.utf8.text (plain_text c.args.text.now c.utf8.text c.requires.plain)

@@ -1,13 +1,17 @@
 use Rattle.std.proofs.Common.{◌∙◌, ap, slice_index_or}
 use Rattle.rng_model.specs.declared.simple.PatternId.{PatternId}
 use Rattle.rng_patterns.specs.declared.pattern.PatternNumber.{PatternNumber}
+use Rattle.rng_derivatives.proofs.Memo.{none_kept}
 use Rattle.rng_derivatives.proofs.Served.{served_first, start_inside, start_same}
 use Rattle.rng_derivatives.proofs.grammar_derivatives.GrammarDerivatives.new.Goals as goal
 
 pub invariant_of-result : goal.invariant_of-result
-invariant_of-result c =
-    served_first c.args.grammar.now c.in_ok-table.table c.in_ok-table.numbers.items c.requires c.start.ensures.valid c.in_ok-table.ensures.long
-    c.in_ok-table.ensures.taken c.in_ok-table.ensures.restricted
+invariant_of-result c = (
+  served_first c.args.grammar.now c.in_ok-table.table c.in_ok-table.numbers.items c.requires c.start.ensures.valid c.in_ok-table.ensures.long
+      c.in_ok-table.ensures.taken c.in_ok-table.ensures.restricted,
+  c.in_ok-keys.ensures,
+  λ k ws h. absurd (none_kept c.new.result c.new.ensures.empty k ws h),
+)
 
 pub returns-clause-inside : goal.returns-clause-inside
 returns-clause-inside c =

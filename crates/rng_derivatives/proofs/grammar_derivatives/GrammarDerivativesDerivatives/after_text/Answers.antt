@@ -1,13 +1,13 @@
 use Rattle.std.proofs.Common.{sym}
-use Rattle.rng_derivatives.proofs.Served.{seen_there, served_longer, text_added, there_served}
+use Rattle.rng_derivatives.proofs.Memo.{serves_longer}
+use Rattle.rng_derivatives.proofs.Served.{seen_there, text_added, there_served}
 use Rattle.rng_derivatives.proofs.grammar_derivatives.GrammarDerivativesDerivatives.after_text.Goals as goal
 
 pub invariant_of-self-2 : goal.invariant_of-self-2
 invariant_of-self-2 c =
-    let t = c.self.inside.grammar.now in
-    let numbers = c.self.inside.numbers.items in
-    served_longer t c.in-Some.table c.after_text.new.table numbers c.in_ok-number.ensures.longer
-    (there_served t c.self.inside.table c.in-Some.table numbers (sym c.in-Some.ensures.value) c.self.invariant)
+    let d = c.self.inside in
+    serves_longer d.grammar.now c.in-Some.table c.after_text.new.table d.keys c.in_ok-number.ensures.longer d.numbers.items d.memo
+    (there_served d.grammar.now d.keys d.table c.in-Some.table d.numbers.items d.memo (sym c.in-Some.ensures.value) c.self.invariant)
 
 pub returns-clause-after : goal.returns-clause-after
 returns-clause-after c =

@@ -1,37 +1,80 @@
-use Rattle.std.proofs.Common.{List, subst, sym}
+use Rattle.std.proofs.Common.{List, refl, subst, sym}
+use Rattle.rng_model.specs.Table.{Table}
 use Rattle.rng_model.specs.View.{name_of}
-use Rattle.rng_patterns.specs.Trees.{tree_of}
+use Rattle.rng_patterns.specs.Node.{Node}
+use Rattle.rng_patterns.specs.Trees.{tree_of, trees}
 use Rattle.rng_patterns.specs.declared.pattern.PatternNumber.{PatternNumber}
 use Rattle.rng_patterns.proofs.Trees.{Longer-trans}
+use Rattle.rng_ways.specs.Kinds.{reading_of}
 use Rattle.rng_ways.specs.Ways.{ways_by}
 use Rattle.rng_ways.specs.Starting.{AreStarts}
 use Rattle.rng_ways.specs.declared.way.Way as numbered
+use Rattle.rng_matcher.specs.Numbers.{AddsStarts, IsInside}
+use Rattle.rng_matcher.specs.Numbers as table
 use Rattle.rng_derivatives.specs.Starts.{OpensLike}
-use Rattle.rng_derivatives.proofs.Served.{seen_there, served_longer, starts_added, there_served}
+use Rattle.rng_derivatives.specs.declared.start_memo.StartKey.{StartKey}
+use Rattle.rng_derivatives.proofs.Memo.{found_added, is_answer, serves_more}
+use Rattle.rng_derivatives.proofs.Served.{below_there, seen_there, starts_added, there_served}
 use Rattle.rng_derivatives.proofs.grammar_derivatives.GrammarDerivativesDerivatives.starts.Goals as goal
+
+pub returns-in-Some-kept-clause-starts : goal.returns-in-Some-kept-clause-starts
+returns-in-Some-kept-clause-starts c =
+    let d = c.self.inside in
+    let t = d.grammar.now in
+    let ns = c.in-Some.table in
+    let there = sym c.in-Some.ensures.value in
+    let asked : StartKey = record { pattern = c.args.pattern; name = c.key.result } in
+    let served = there_served t d.keys d.table ns d.numbers.items d.memo there c.self.invariant in
+    found_added t d.keys ns c.args.self.now (seen_there t d.table ns c.args.self.now there c.self.view_is) (name_of c.args.name.now) asked
+    c.in-Some-kept.ways.now c.in_ok-ways.ways.items (served.2 asked c.in-Some-kept.ways.now c.in-Some-kept.ensures) c.key.ensures.key c.in_ok-ways.ensures
+
+pub start-requires-clause-inside : goal.start-requires-clause-inside
+start-requires-clause-inside c =
+    let d = c.self.inside in
+    below_there d.grammar.now d.table c.in-Some.table c.args.self.now (sym c.in-Some.ensures.value) c.self.view_is c.args.pattern c.requires
 
 pub invariant_of-self-2 : goal.invariant_of-self-2
 invariant_of-self-2 c =
-    let t = c.self.inside.grammar.now in
-    let old = c.in-Some.table in
-    let numbers = c.self.inside.numbers.items in
-    served_longer t old c.joined_ways.new.table numbers
-    (Longer-trans old c.start.new.table c.joined_ways.new.table c.in_ok-ways.ensures.longer c.in_ok-starts.ensures.longer)
-    (there_served t c.self.inside.table old numbers (sym c.in-Some.ensures.value) c.self.invariant)
-
-pub returns-clause-starts : goal.returns-clause-starts
-returns-clause-starts c =
-    let t = c.self.inside.grammar.now in
+    let d = c.self.inside in
+    let t = d.grammar.now in
     let old = c.in-Some.table in
     let middle = c.start.new.table in
     let new = c.joined_ways.new.table in
-    let numbers = c.self.inside.numbers.items in
+    let numbers = d.numbers.items in
     let q = name_of c.args.name.now in
-    starts_added t old middle new c.args.self.now (seen_there t c.self.inside.table old c.args.self.now (sym c.in-Some.ensures.value) c.self.view_is)
-    numbers q c.args.pattern c.in_ok-ways.ways.items c.in_ok-starts.starts.items c.in_ok-ways.ensures.longer c.in_ok-starts.ensures.longer
-    (there_served t c.self.inside.table old numbers (sym c.in-Some.ensures.value) c.self.invariant)
-    (subst (λ (ns : List PatternNumber). AreStarts t middle ns (tree_of t old c.args.pattern.0) q c.in_ok-ways.ways.items)
-    c.as_slice-numbers.ensures.value c.in_ok-ways.ensures.starts)
+    let there = sym c.in-Some.ensures.value in
+    let longer = Longer-trans old middle new c.in_ok-ways-2.ensures.longer c.in_ok-starts.ensures.longer in
+    let asked : StartKey = record { pattern = c.args.pattern; name = c.key.result } in
+    let served = there_served t d.keys d.table old numbers d.memo there c.self.invariant in
+    let inside = subst (λ (s : Table × List Node). IsInside (trees s.0 s.1) c.args.pattern)
+    (sym (seen_there t d.table old c.args.self.now there c.self.view_is)) c.requires in
+    let adds = starts_added t old middle new (t, old) refl numbers q c.args.pattern c.in_ok-ways-2.ways.items c.in_ok-starts.starts.items
+    c.in_ok-ways-2.ensures.longer c.in_ok-starts.ensures.longer served.0
+    (subst (λ (ns : List PatternNumber). AreStarts t middle ns (tree_of t old c.args.pattern.0) q c.in_ok-ways-2.ways.items)
+    c.as_slice-numbers.ensures.value c.in_ok-ways-2.ensures.starts)
+    (subst (λ (ws : List numbered.Way). OpensLike t new (ways_by (tree_of t middle) ws) c.in_ok-starts.starts.items) c.as_slice.ensures.value
+    (c.in_ok-starts.ensures.ways t))
+    inside in
+    let Adds = AddsStarts (reading_of t) q (trees t old) (trees t new) (table.tree_of (trees t old) c.args.pattern) in
+    let answer = is_answer t d.keys served.1 old new q asked c.as_slice-2.result.now inside c.key.ensures.key
+    (subst Adds (sym c.as_slice-2.ensures.value) adds) in
+    serves_more t old new d.keys longer numbers d.memo served c.keep.new.memo asked c.as_slice-2.result.now answer c.in_ok-keep.ensures
+
+pub returns-clause-starts : goal.returns-clause-starts
+returns-clause-starts c =
+    let d = c.self.inside in
+    let t = d.grammar.now in
+    let old = c.in-Some.table in
+    let middle = c.start.new.table in
+    let new = c.joined_ways.new.table in
+    let numbers = d.numbers.items in
+    let q = name_of c.args.name.now in
+    let there = sym c.in-Some.ensures.value in
+    let served = there_served t d.keys d.table old numbers d.memo there c.self.invariant in
+    starts_added t old middle new c.args.self.now (seen_there t d.table old c.args.self.now there c.self.view_is) numbers q c.args.pattern
+    c.in_ok-ways-2.ways.items c.in_ok-starts.starts.items c.in_ok-ways-2.ensures.longer c.in_ok-starts.ensures.longer served.0
+    (subst (λ (ns : List PatternNumber). AreStarts t middle ns (tree_of t old c.args.pattern.0) q c.in_ok-ways-2.ways.items)
+    c.as_slice-numbers.ensures.value c.in_ok-ways-2.ensures.starts)
     (subst (λ (ws : List numbered.Way). OpensLike t new (ways_by (tree_of t middle) ws) c.in_ok-starts.starts.items) c.as_slice.ensures.value
     (c.in_ok-starts.ensures.ways t))
     c.requires

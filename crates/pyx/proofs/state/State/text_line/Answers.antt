@@ -1,0 +1,14 @@
+use Rattle.std.proofs.Common.{◌≡◌, arith}
+use Rattle.pyx.specs.View.{state_of}
+use Rattle.pyx.proofs.LineCounts.{tag_ended_keeps}
+use Rattle.pyx.proofs.state.State.text_line.Goals as goal
+
+pub overflow_add-self : goal.overflow_add-self
+overflow_add-self g c =
+    let k = tag_ended_keeps c.as_bytes.result.now (state_of c.args.self.now) (state_of c.end_tag.new.self) c.in_ok-end_tag.ensures.0 in
+    let e : c.end_tag.new.self.lines ≡ c.args.self.now.lines = k.0 in omega (arith, e, c.requires.lines)
+
+pub said-requires : goal.said-requires
+said-requires g c =
+    let k = tag_ended_keeps c.as_bytes.result.now (state_of c.args.self.now) (state_of c.end_tag.new.self) c.in_ok-end_tag.ensures.0 in
+    omega (arith, k.1, c.requires.bytes)

@@ -1,3 +1,0 @@
-pub mod Building
-pub mod View
-pub mod Reading
