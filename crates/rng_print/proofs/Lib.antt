@@ -1,0 +1,14 @@
+pub mod Booleans
+pub mod Equal
+pub mod Numberings
+pub mod Carried
+pub mod OneText
+pub mod SameText
+pub mod Worked
+pub mod Lookups
+pub mod Literals
+pub mod Namespaces
+pub mod ItemNumbers
+pub mod ItemTables
+pub mod ItemLines
+pub mod ClassTexts

@@ -1,0 +1,9 @@
+use Rattle.rng_print.proofs.OneText as text
+use Rattle.rng_print.proofs.SameText as renumbered
+use Rattle.rng_print.proofs.laws.printing_laws.Goals as goal
+
+pub returns-clause-one : goal.returns-clause-one
+returns-clause-one c = text.one_text
+
+pub returns-clause-same : goal.returns-clause-same
+returns-clause-same c = renumbered.same_text

@@ -1,0 +1,8 @@
+use Rattle.std.proofs.Common.{◌≡◌, ◌++◌, drop}
+use Rattle.rng_print.specs.PrintedText.{literal}
+use Rattle.rng_print.specs.Literals.{open_text}
+use Rattle.rng_print.proofs.literal.write_literal.Given as goal
+
+-- what is written, and what is still to be written for the other bytes
+abbrev pub invariant-bytes : goal.invariant-bytes
+invariant-bytes l = l.text.items ++ open_text l.quote (drop l.byte-index l.bytes) ≡ l.fn.text.items ++ literal l.bytes

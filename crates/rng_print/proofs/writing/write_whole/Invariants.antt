@@ -1,0 +1,15 @@
+use Rattle.std.proofs.Common.{◌≡◌, ◌≤◌, ◌-◌, length, take}
+use Rattle.std.specs.Io.KnownBytes.{Appends}
+use Rattle.rng_model.specs.Device.{device_inner, device_failures}
+use Rattle.rng_print.proofs.writing.write_whole.Given as goal
+
+abbrev pub invariant-pieces : goal.invariant-pieces
+invariant-pieces g l =
+    let contents = g.W.Write.contents in record {
+      within : l.at ≤ length l.bytes;
+      written : Appends (contents (device_inner l.fn.output)) (contents (device_inner l.output)) (take l.at l.bytes);
+      calm : device_failures l.output ≡ device_failures l.fn.output;
+    }
+
+abbrev pub decreases-pieces : goal.decreases-pieces
+decreases-pieces g l = length l.bytes - l.at

@@ -1,0 +1,16 @@
+//! The text of a simple grammar: a line for the start, for each element and for each pattern that has parts, and before them
+//! one for each namespace.
+//!
+//! What is printed is the text that the definition gives (`specs/PrintedText.antt`), and each grammar has one, whatever the
+//! numbers of its elements (RELAX NG Specification, section 5; Compact Syntax, "Syntax").
+#![tactic(auto)]
+
+mod datatype;
+mod items;
+mod laws;
+mod literal;
+mod name_class;
+mod prefixes;
+mod writing;
+
+pub use laws::printing_laws;

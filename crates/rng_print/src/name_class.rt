@@ -1,0 +1,107 @@
+// Name classes.
+ghost use Rattle.std.specs.Prelude.{◌≡◌, ◌++◌, ◌||◌, [], OnOk, if◌then◌else◌};
+ghost use Rattle.rng_model.specs.Names as names;
+ghost use Rattle.rng_model.specs.Table.{IsPaired};
+ghost use Rattle.rng_model.specs.View.{class_of, name_of};
+ghost use Rattle.rng_print.specs.PrintedText.{class_text, is_choice, is_except};
+ghost use Rattle.rng_print.specs.Prefixes.{namespaces_seen};
+
+use crate::prefixes::Prefixes;
+use rng_model::{Name, NameClass, OutOfMemory};
+use std::alloc::Global;
+
+/// Writes a name class, each of whose choices has two members.
+///
+/// Recurses as deep as the class nests.
+pub(crate) fn write_class(
+    alloc: Global,
+    prefixes: &Prefixes<'_>,
+    class: &NameClass,
+    text: &mut Vec<u8>,
+) -> Result<(), OutOfMemory>
+    requires { IsPaired class.now }
+    ensures { OnOk result (text.new.items ≡ text.old.items ++ class_text (namespaces_seen prefixes.now) (class_of class.now)) }
+{
+    match class {
+        NameClass::Any => Ok(text.extend_from_slice(b"*")?),
+        NameClass::AnyExcept(except) => {
+            text.extend_from_slice(b"* - ")?;
+            let parted = is_joined(except);
+            write_if(parted, b"(", text)?;
+            write_class(alloc, prefixes, except, text)?;
+            write_if(parted, b")", text)
+        }
+        NameClass::Ns(ns) => {
+            prefixes.write_prefix(alloc, ns.as_str(), text)?;
+            Ok(text.extend_from_slice(b":*")?)
+        }
+        NameClass::NsExcept(ns, except) => {
+            prefixes.write_prefix(alloc, ns.as_str(), text)?;
+            text.extend_from_slice(b":* - ")?;
+            let parted = is_joined(except);
+            write_if(parted, b"(", text)?;
+            write_class(alloc, prefixes, except, text)?;
+            write_if(parted, b")", text)
+        }
+        NameClass::Name(name) => write_name(alloc, prefixes, name, text),
+        NameClass::Choice(members) => {
+            let [left, right] = members.as_slice() else {
+                return Ok(());
+            };
+            let first = is_except(left);
+            write_if(first, b"(", text)?;
+            write_class(alloc, prefixes, left, text)?;
+            write_if(first, b")", text)?;
+            text.extend_from_slice(b" | ")?;
+            let second = is_joined(right);
+            write_if(second, b"(", text)?;
+            write_class(alloc, prefixes, right, text)?;
+            write_if(second, b")", text)
+        }
+    }
+}
+
+/// Writes a name, behind the prefix of its namespace where it has one.
+fn write_name(
+    alloc: Global,
+    prefixes: &Prefixes<'_>,
+    name: &Name,
+    text: &mut Vec<u8>,
+) -> Result<(), OutOfMemory>
+    ensures { OnOk result (text.new.items ≡ text.old.items ++ class_text (namespaces_seen prefixes.now) (names.name_is (name_of name.now))) }
+{
+    if !name.ns.as_str().is_empty() {
+        prefixes.write_prefix(alloc, name.ns.as_str(), text)?;
+        text.extend_from_slice(b":")?;
+    }
+    Ok(text.extend_from_slice(name.local.as_bytes())?)
+}
+
+/// Whether the class is a choice or has an except.
+fn is_joined(class: &NameClass) -> bool
+    requires { IsPaired class.now }
+    ensures { result ≡ (is_choice (class_of class.now) || is_except (class_of class.now)) }
+{
+    matches!(
+        class,
+        NameClass::Choice(_) | NameClass::AnyExcept(_) | NameClass::NsExcept(_, _)
+    )
+}
+
+/// Whether the class has an except.
+fn is_except(class: &NameClass) -> bool
+    requires { IsPaired class.now }
+    ensures { result ≡ is_except (class_of class.now) }
+{
+    matches!(class, NameClass::AnyExcept(_) | NameClass::NsExcept(_, _))
+}
+
+/// Writes these bytes where it is asked for.
+fn write_if(asked: bool, bytes: &[u8], text: &mut Vec<u8>) -> Result<(), OutOfMemory>
+    ensures { OnOk result (text.new.items ≡ text.old.items ++ (if asked then bytes.now else [])) }
+{
+    if asked {
+        text.extend_from_slice(bytes)?;
+    }
+    Ok(())
+}

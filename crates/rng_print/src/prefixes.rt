@@ -1,0 +1,80 @@
+// The namespaces that are written as prefixes, by number.
+ghost use Rattle.std.specs.Prelude.{◌≡◌, ◌++◌, [], OnOk, IfOk, List, map};
+ghost use Rattle.std.specs.Str.{bytes_eq};
+ghost use Rattle.rng_model.specs.View.{class_of};
+ghost use Rattle.rng_print.specs.Numbering.{and_new, with_new};
+ghost use Rattle.rng_print.specs.PrintedText.{namespaces_in, prefix_of};
+ghost use Rattle.rng_print.specs.Prefixes.{namespaces_seen};
+
+use crate::items::write_numbered;
+use indexmap::IndexSet;
+use rng_model::{NameClass, OutOfMemory};
+use std::alloc::Global;
+
+/// Namespaces, in the order in which they are first written as prefixes.
+#[derive(Drop)]
+pub(crate) struct Prefixes<'a> {
+    pub(crate) namespaces: IndexSet<&'a str>,
+}
+
+impl<'a> Prefixes<'a> {
+    /// None.
+    pub(crate) fn new(alloc: Global) -> Self
+        ensures { namespaces_seen result ≡ [] }
+    {
+        Prefixes {
+            namespaces: IndexSet::new(alloc),
+        }
+    }
+
+    /// Adds those of a name class.
+    pub(crate) fn add_class(&mut self, class: &'a NameClass) -> Result<(), OutOfMemory>
+        ensures { OnOk result (namespaces_seen self.new ≡ and_new bytes_eq (namespaces_seen self.old) (namespaces_in (class_of class.now))) }
+    {
+        match class {
+            NameClass::Any => Ok(()),
+            NameClass::AnyExcept(except) => self.add_class(except),
+            NameClass::Ns(ns) => self.add(ns.as_str()),
+            NameClass::NsExcept(ns, except) => {
+                self.add(ns.as_str())?;
+                self.add_class(except)
+            }
+            NameClass::Name(name) => {
+                if name.ns.as_str().is_empty() {
+                    return Ok(());
+                }
+                self.add(name.ns.as_str())
+            }
+            NameClass::Choice(members) => {
+                'members: for member in members {
+                    self.add_class(member)?;
+                }
+                Ok(())
+            }
+        }
+    }
+
+    /// Adds a namespace, unless it is there.
+    fn add(&mut self, ns: &'a str) -> Result<(), OutOfMemory>
+        ensures { OnOk result (namespaces_seen self.new ≡ with_new bytes_eq (namespaces_seen self.old) ns.now) }
+    {
+        self.namespaces.insert(ns)?;
+        Ok(())
+    }
+
+    /// Writes the prefix of a namespace.
+    pub(crate) fn write_prefix(
+        &self,
+        alloc: Global,
+        ns: &str,
+        text: &mut Vec<u8>,
+    ) -> Result<(), OutOfMemory>
+        ensures { OnOk result (text.new.items ≡ text.old.items ++ prefix_of (namespaces_seen self.now) ns.now) }
+    {
+        let number = self
+            .namespaces
+            .get_index_of(ns)
+            .unwrap_or(self.namespaces.len());
+        write_numbered(alloc, "n", number, text)
+    }
+}

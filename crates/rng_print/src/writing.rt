@@ -1,0 +1,22 @@
+// Writing to a device until all is written.
+ghost use Rattle.std.specs.Prelude.{◌≡◌, ◌+◌, ◌-◌, ◌^◌, ◌<◌, is_ok, OnOk, OnErr, if◌then◌else◌};
+ghost use Rattle.std.specs.Io.KnownBytes.{Appends};
+ghost use Rattle.rng_model.specs.Device.{device_inner, device_failures};
+ghost use Rattle.rng_print.specs.Writing.{AppendsBeginning};
+
+use rng_model::{Device, DeviceFault};
+use std::io::Write;
+
+/// Writes all of a slice, in as many calls as the writer takes. Takes no memory.
+pub(crate) fn write_whole<W: Write>(output: &mut Device<W>, bytes: &[u8]) -> Result<(), DeviceFault>
+    requires { device_failures output.old < 2 ^ 64 - 1 }
+    ensures ok { OnOk result (Appends (W.contents (device_inner output.old)) (W.contents (device_inner output.new)) bytes.now) }
+    ensures err { OnErr result (AppendsBeginning (W.contents (device_inner output.old)) (W.contents (device_inner output.new)) bytes.now) }
+    ensures failures { device_failures output.new ≡ device_failures output.old + (if is_ok result then 0 else 1) }
+{
+    let mut at = 0;
+    'pieces: while at < bytes.len() {
+        at += output.write(&bytes[at..])?;
+    }
+    Ok(())
+}
