@@ -1,5 +1,4 @@
 """Tests of rncv-profile. See test.sh."""
-import os
 import pathlib
 import random
 import re
@@ -200,23 +199,6 @@ class Profile(unittest.TestCase):
         for folder in sorted(path for path in (TOP / "examples").iterdir() if path.name != "broken"):
             with self.subTest(folder.name):
                 self.assertEqual(self.profile(*sorted(folder.glob("*.rnc"))), ("", "", 0))
-
-    def test_transcripts_of_the_page(self):
-        page = (TOP / "docs/MIGRATING.md").read_text(encoding="utf-8")
-        for name, text in re.findall(r"^```rnc (\S+)\n(.*?)^```$", page, re.M | re.S):
-            self.write(name, text.encode())
-        transcripts = re.findall(r"^```transcript\n(.*?)^```$", page, re.M | re.S)
-        self.assertTrue(transcripts)
-        if PROGRAM.exists():
-            self.write("bin/rncv", f'#!/bin/sh\nexec "{PROGRAM.resolve()}" "$@"\n'.encode())
-            (self.folder / "bin/rncv").chmod(0o755)
-        path = f"{HERE}:{self.folder / 'bin'}:{os.environ['PATH']}"
-        for command, wanted in re.findall(r"^\$ (.*)\n((?:(?!\$ ).*\n)*)", "".join(transcripts), re.M):
-            if "rncv check" in command and not PROGRAM.exists():
-                continue
-            with self.subTest(command):
-                run = subprocess.run(["sh", "-c", command], cwd=self.folder, env={**os.environ, "PATH": path}, capture_output=True, check=False)
-                self.assertEqual((run.stdout + run.stderr).decode(), wanted)
 
 
 class Tokens(unittest.TestCase):

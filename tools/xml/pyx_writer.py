@@ -48,13 +48,14 @@ def backslashes_before(data, begin, end):
 class PyxWriter:
     """Takes expat's calls and hands on PYX lines.
 
-    `put(line)` gets each with its line feed, `place(line, column)` where in the XML it is of, and `tell(line, column, what)` what
-    is left out of the document without harm to its form.
+    `put(line)` gets each with its line feed, `place(own, told)` where in the XML it is of, and where that begins of which `rncv` tells by this line
+    (each a line and a column), and `tell(line, column, what)` what is left out of the document without harm to its form.
     """
 
     def __init__(self, put, place, tell):
         self.put, self.place, self.tell = put, place, tell
         self.held, self.held_size, self.held_place = [], 0, None
+        self.begun_tag = self.begun_text = None
         self.parser = xml.parsers.expat.ParserCreate()
         self.parser.ordered_attributes = True
         self.parser.StartElementHandler = self.start
@@ -75,7 +76,16 @@ class PyxWriter:
             kind = "attribute" if data[:1] == b"A" else "name"
             raise OutsideProfile(*place, f"{kind} of more than {LINE_BYTES:,} bytes: outside the profile")
         self.put(data + b"\n")
-        self.place(*place)
+        self.place(place, self.told(data[:1], place))
+
+    def told(self, kind, place):
+        """Where that begins of which a line of this kind tells: the start behind whose tag it is the first line, else, of a start, the text before it."""
+        if kind == b"A":
+            return place
+        tag, text = self.begun_tag, self.begun_text
+        self.begun_tag = place if kind == b"(" else None
+        self.begun_text = (text or place) if kind == b"-" else text if kind == b"?" else None
+        return tag or (text if kind == b"(" else None) or place
 
     def start(self, name, attributes):
         self.text_ends()
@@ -130,7 +140,7 @@ class PyxWriter:
             raise Malformed(fault.lineno, fault.offset + 1, f"malformed XML: {text}") from None
 
 
-def convert(source, put, place=lambda line, column: None, tell=lambda line, column, what: None):
+def convert(source, put, place=lambda own, told: None, tell=lambda line, column, what: None):
     """Reads the XML of the binary file `source` to its end and hands on its PYX lines."""
     writer = PyxWriter(put, place, tell)
     while piece := source.read(PIECE_BYTES):

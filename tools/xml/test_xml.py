@@ -19,7 +19,7 @@ SCHEMA = "element a { attribute x { text }, (element b { empty } | text) }\n"
 def pyx(xml):
     """The PYX of a document and the places of its lines."""
     lines, places = [], []
-    pyx_writer.convert(io.BytesIO(xml), lines.append, lambda line, column: places.append((line, column)))
+    pyx_writer.convert(io.BytesIO(xml), lines.append, lambda own, told: places.append(own))
     return b"".join(lines), places
 
 
@@ -34,6 +34,14 @@ class Conversion(unittest.TestCase):
         lines, places = pyx(b'<?xml version="1.0"?>\n<a x="1\t2"><!-- gone -->\n  <p:b xmlns:p="u"/>t\\</a>')
         self.assertEqual(lines, b"(a\nAx 1 2\n-\\n  \n(p:b\nAxmlns:p u\n)p:b\n-t\\\\\n)a\n")
         self.assertEqual(places, [(2, 1), (2, 1), (2, 25), (3, 3), (3, 3), (3, 21), (3, 21), (3, 23)])
+
+    def test_what_a_line_tells_of(self):
+        told = []
+        pyx_writer.convert(io.BytesIO(b"<a\n x='1'>\n <b/>t<?p?>u\n<c>v</c></a>"), lambda line: None, lambda own, of: told.append(of))
+        lines = pyx(b"<a\n x='1'>\n <b/>t<?p?>u\n<c>v</c></a>")[0].splitlines()
+        self.assertEqual(list(zip(lines, told)), [
+            (b"(a", (1, 1)), (b"Ax 1", (1, 1)), (b"-\\n ", (1, 1)), (b"(b", (2, 8)), (b")b", (3, 2)), (b"-t", (3, 6)), (b"?p", (3, 7)),
+            (b"-u\\n", (3, 12)), (b"(c", (3, 6)), (b"-v", (4, 1)), (b")c", (4, 5)), (b")a", (4, 9))])
 
     def test_entities_defaults_cdata(self):
         lines, _ = pyx(b'<!DOCTYPE a [<!ENTITY e "in"><!ATTLIST a x CDATA "d">]><a>&e;&lt;<![CDATA[<&]]>&#9;</a>')
@@ -199,7 +207,7 @@ class Recipes(InFolder):
 
     def recipe(self, heading):
         """The code under a heading of the page."""
-        return re.search(rf"^##+ {heading}\n.*?^```\n(.*?)^```$", self.PAGE, re.M | re.S)[1]
+        return re.search(rf"^##+ {heading}\n.*?^```recipe\n(.*?)^```$", self.PAGE, re.M | re.S)[1]
 
     def shell(self, script):
         who = {f"GIT_{role}_{what}": "a@b" for role in ("AUTHOR", "COMMITTER") for what in ("NAME", "EMAIL")}
@@ -244,14 +252,10 @@ class Recipes(InFolder):
         self.assertEqual(status, 123)
 
     def test_lines_of_sed(self):
-        # Where xmlstarlet is not installed, what it writes is stood in for.
-        script = self.recipe("With other tools")
-        self.assertIn("xmlstarlet pyx document.xml", script)
-        self.write("document.xml", '<!DOCTYPE a><a x="1"><!-- c --><![CDATA[t]]></a>')
+        # The page's transcript runs them behind a real xmlstarlet; here what that writes is stood in for.
+        script = re.search(r"sed -e '/.*?(?= \|)", self.PAGE)[0]
         self.write("document.pyx", "Da\n(a\nAx 1\nC c \n[t\n)a\n")
-        if not shutil.which("xmlstarlet"):
-            script = script.replace("xmlstarlet pyx document.xml", "cat document.pyx")
-        self.assertEqual(self.shell(script), ("valid\n", 0))
+        self.assertEqual(self.shell(f"{script} document.pyx | rncv valid schema.rnc"), ("valid\n", 0))
 
 
 if __name__ == "__main__":

@@ -1,0 +1,20 @@
+#!/bin/sh
+# Tests of what stands around the program, in less than a minute:   tools/test.sh [PROGRAM]     (PROGRAM: the built rncv, else crates/rncv/out/rncv,
+# where `rt ci` and `rt run` leave it). They want Python 3 and no package; what else is not installed is told, and what wants it is skipped. The three
+# parts run side by side, and what they print comes in order.
+here=$(cd "$(dirname "$0")" && pwd)
+program=${1:-$here/../crates/rncv/out/rncv}
+RNCV_REQUIRED=1
+export RNCV_REQUIRED
+room=$(mktemp -d)
+trap 'rm -rf "$room"' EXIT
+"$here/xml/test.sh" "$program" >"$room/xml" 2>&1 & xml=$!
+"$here/schema/test.sh" "$program" >"$room/schema" 2>&1 & schema=$!
+python3 -B "$here/transcripts/test.py" "$program" >"$room/transcripts" 2>&1 & transcripts=$!
+status=0
+wait "$xml" || status=1
+wait "$schema" || status=1
+wait "$transcripts" || status=1
+cat "$room/xml" "$room/schema" "$room/transcripts"
+[ "$status" = 0 ] && echo "tools/test.sh: ok" || echo "tools/test.sh: FAILED"
+exit "$status"

@@ -1,0 +1,154 @@
+#!/usr/bin/env python3
+"""Runs the transcripts of README.md and of docs/*.md, and wants what is printed there.
+
+    tools/transcripts/test.py [PROGRAM]      (PROGRAM: the built rncv, else crates/rncv/out/rncv)
+
+Each fenced block of a page says behind its fence what it is:
+
+- `KIND FILE`, as in "rnc order.rnc": a file, written before the commands of the page run.
+- `console`: a transcript. Each line `$ COMMAND` (which goes on in lines `> ..`) is run by `sh`, and what it prints, on both streams, has to stand
+  below it. It has to end with status 0, unless the next command begins with `echo $?`.
+- `console wants PROGRAM..`: the same, skipped aloud where one of these is not installed.
+- `console unrun`: commands that are too long for a test; they are told and not run.
+- A word of ELSEWHERE: what is tested by another script, or is no example.
+
+A block that says nothing, or has a line `$ ..` and is no transcript, is a fault, so that no example stands untested by mistake. Each page has a copy of
+README.md, docs, examples and tools for itself, each block begins at its top, and there the built program is crates/rncv/out/rncv and on the path.
+"""
+import dataclasses
+import difflib
+import os
+import pathlib
+import re
+import shutil
+import subprocess
+import sys
+import tempfile
+
+TOP = pathlib.Path(__file__).resolve().parents[2]
+COPIED = ("README.md", "docs", "examples", "tools")
+BLOCK = re.compile(r"^```([^`\n]*)\n(.*?)^```$", re.M | re.S)
+COMMAND = re.compile(r"^\$ (.*\n(?:> .*\n)*)((?:(?!\$ ).*\n)*)", re.M)
+MARK = "-- this command ended with"
+ELSEWHERE = {
+    "broken": "tools/schema/clauses_test.py",
+    "repair": "tools/schema/clauses_test.py",
+    "recipe": "tools/xml/test_xml.py",
+    "text": "no example: grammars, drawings, forms of command lines",
+}
+
+
+@dataclasses.dataclass
+class Block:
+    """A fenced block: its page, the line of its fence, what it says it is, and its text."""
+    page: str
+    line: int
+    words: list
+    text: str
+
+    def place(self):
+        return f"{self.page}:{self.line}"
+
+    def is_file(self):
+        return len(self.words) == 2 and self.words[0] not in ("console", *ELSEWHERE)
+
+    def commands(self):
+        """The commands, each with what is to be printed."""
+        return [(command.replace("\n> ", "\n"), wanted) for command, wanted in COMMAND.findall(self.text)]
+
+    def fault(self):
+        """What is wrong with the block as it stands, if anything."""
+        if not self.words:
+            return "the block does not say what it is"
+        if self.words[0] == "console":
+            known = self.words[1:] in ([], ["unrun"]) or self.words[1:2] == ["wants"] and len(self.words) > 2
+            return None if known and self.text.startswith("$ ") else "no transcript: `console`, `console wants PROGRAM..` or `console unrun`"
+        if re.search(r"^\$ ", self.text, re.M):
+            return "the block has commands and is no transcript"
+        return None if self.is_file() or self.words[0] in ELSEWHERE and len(self.words) == 1 else f"no kind of block: {' '.join(self.words)}"
+
+    def skipped(self):
+        """Why the transcript is not run, if it is not."""
+        if self.words[1:] == ["unrun"]:
+            return "it says so"
+        lacking = [program for program in self.words[2:] if not shutil.which(program)]
+        return f"not installed: {' '.join(lacking)}" if lacking else None
+
+
+def blocks_of(page, text):
+    """The fenced blocks of a page; a fence that belongs to none is told as a block without a kind."""
+    found = [Block(page, text.count("\n", 0, at.start()) + 1, at[1].split(), at[2]) for at in BLOCK.finditer(text)]
+    fences = len(re.findall(r"^[ >]*(?:```|~~~)", text, re.M))
+    return found + [Block(page, 1, [], "")] * (fences != 2 * len(found))
+
+
+def scratch(folder, program):
+    """A copy of what the pages speak of, with the program where `rt ci` leaves it."""
+    for name in COPIED:
+        if (TOP / name).is_dir():
+            shutil.copytree(TOP / name, folder / name, ignore=shutil.ignore_patterns("__pycache__"))
+        else:
+            shutil.copy(TOP / name, folder / name)
+    built = folder / "crates/rncv/out"
+    built.mkdir(parents=True)
+    (built / "rncv").symlink_to(program)
+    path = [built, folder / "tools/xml", folder / "tools/schema", os.environ["PATH"]]
+    kept = {name: value for name, value in os.environ.items() if name not in ("RNCV", "RNCV_REQUIRED")}
+    return {**kept, "PATH": os.pathsep.join(map(str, path)), "LC_ALL": "C", "PYTHONDONTWRITEBYTECODE": "1"}
+
+
+def ran(commands, folder, environment):
+    """What each command printed, and its status; of one that is not come to, nothing."""
+    told = "told=$?; printf '\\n%s %s\\n' '" + MARK + "' \"$told\"; (exit \"$told\")\n"
+    script = "exec 2>&1\n" + "".join(f"{command}{told}" for command in commands)
+    run = subprocess.run(["sh", "-c", script], cwd=folder, env=environment, stdin=subprocess.DEVNULL, stdout=subprocess.PIPE, timeout=60, check=False)
+    parts = re.split(rf"\n{MARK} (\d+)\n", run.stdout.decode("utf-8", "replace"))
+    found = list(zip(parts[::2], map(int, parts[1::2])))
+    return found + [(parts[-1], None)] * (len(found) < len(commands))
+
+
+def faults_of(block, folder, environment):
+    """A line or more for each command that does not do what the transcript says."""
+    commands = block.commands()
+    followed = [command for command, _ in commands[1:]] + [""]
+    for (command, wanted), (printed, status), after in zip(commands, ran([command for command, _ in commands], folder, environment), followed):
+        if printed != wanted:
+            yield f"{block.place()}: $ {command}" + "".join(difflib.unified_diff(wanted.splitlines(True), printed.splitlines(True), "page", "run"))
+        elif status != 0 and not after.startswith("echo $?"):
+            yield f"{block.place()}: $ {command}it ended with status {status}, and the page does not say so\n"
+
+
+def tested(page, program):
+    """Runs a page, tells what was found, and answers how many commands were run and how many faults there are."""
+    blocks = blocks_of(page, (TOP / page).read_text(encoding="utf-8"))
+    faults = [f"{block.place()}: {block.fault()}\n" for block in blocks if block.fault()]
+    count = 0
+    with tempfile.TemporaryDirectory(prefix="transcripts-") as room:
+        folder = pathlib.Path(room)
+        environment = scratch(folder, program)
+        for block in (block for block in blocks if block.is_file()):
+            (folder / block.words[1]).parent.mkdir(parents=True, exist_ok=True)
+            (folder / block.words[1]).write_text(block.text, encoding="utf-8")
+        for block in (block for block in blocks if block.words[:1] == ["console"] and not block.fault()):
+            if block.skipped():
+                print(f"{block.place()}: skipped: {block.skipped()}")
+                continue
+            faults += faults_of(block, folder, environment)
+            count += len(block.commands())
+    print("".join(faults) + f"{page}: {count} commands, {len(faults)} faults", flush=True)
+    return count, len(faults)
+
+
+def main():
+    program = pathlib.Path(sys.argv[1] if len(sys.argv) > 1 else TOP / "crates/rncv/out/rncv").resolve()
+    if not os.access(program, os.X_OK):
+        print(f"transcripts: no program at {program}", file=sys.stderr)
+        return 1
+    pages = ["README.md", *sorted(f"docs/{path.name}" for path in (TOP / "docs").glob("*.md"))]
+    found = [tested(page, program) for page in pages]
+    print(f"transcripts: {sum(count for count, _ in found)} commands, {sum(faults for _, faults in found)} faults")
+    return 1 if any(faults for _, faults in found) else 0
+
+
+if __name__ == "__main__":
+    sys.exit(main())
