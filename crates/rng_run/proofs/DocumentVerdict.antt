@@ -1,6 +1,6 @@
 -- A document has one verdict but for the line of what is invalid, and the same one wherever the same documents are valid.
-use Rattle.std.proofs.Common.{◌≡◌, ◌↔◌, ◌≤◌, ℕ, zero, suc, List, [], ◌∷◌, Option, Result, Ok, Err, IfOk, length, take, sym, ap, subst, refl, ap₂, ◌∙◌, arith, inl, inr}
-use Rattle.std.proofs.Common.{All}
+use Rattle.std.proofs.Common.{◌≡◌, ◌↔◌, ◌≤◌, ℕ, zero, suc, List, [], ◌∷◌, Option, Result, Ok, Err, IfOk, All, length, take}
+use Rattle.std.proofs.Common.{sym, ap, subst, refl, ap₂, ◌∙◌, arith, inl, inr}
 use Rattle.std.proofs.lemmas.List.Elements.{All-append, All-cons, All-weaker}
 use Rattle.rng_model.specs.Document.{Item}
 use Rattle.rng_model.specs.Lines.{Line, lines}

@@ -18,5 +18,6 @@ returns-in-Ok-Valid-clause-judged g c = matcher_judged (λ m. reading_of m.0.0) 
 
 pub returns-in-Ok-Invalid-clause-judged : goal.returns-in-Ok-Invalid-clause-judged
 returns-in-Ok-Invalid-clause-judged g c = matcher_judged (λ m. reading_of m.0.0) (λ m es. IsKnown (reading_of m.0.0) (trees m.0.0 m.0.1) m.1 es)
-    c.in-Ok.matcher c.take_document.new.events (reading_of c.args.grammar.now) _ _ c.in-Ok-Invalid.field-0 (outcome.Invalid c.in-Ok-Invalid.line) c.in-Ok-Invalid.field-0-is
+    c.in-Ok.matcher c.take_document.new.events (reading_of c.args.grammar.now) _ _ c.in-Ok-Invalid.field-0 (outcome.Invalid c.in-Ok-Invalid.line)
+    c.in-Ok-Invalid.field-0-is
     c.in-Ok.ensures.reading c.in-Ok.ensures.stands c.in-Ok-take_document.ensures.taken c.in-Ok-Invalid.ensures.outcome
