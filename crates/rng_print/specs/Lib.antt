@@ -6,4 +6,3 @@ pub mod Literals
 pub mod Prefixes
 pub mod Parts
 pub mod Items
-pub mod Writing

@@ -11,6 +11,5 @@ mod laws;
 mod literal;
 mod name_class;
 mod prefixes;
-mod writing;
 
 pub use laws::printing_laws;
