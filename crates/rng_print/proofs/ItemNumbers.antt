@@ -1,5 +1,5 @@
 -- Items of the tables stand for items of the grammar, one to one.
-use Rattle.std.proofs.Common.{◌≡◌, ◌∙◌, ℕ, ◌<◌, Bool, true, false, cond, not, List, [], ◌∷◌, ◌++◌, length, map, refl, sym, ap, subst, Option, Some, None, codes}
+use Rattle.std.proofs.Common.{◌≡◌, ◌∙◌, ℕ, ◌<◌, Bool, true, false, cond, List, [], ◌∷◌, ◌++◌, length, map, refl, sym, ap, subst, codes}
 use Rattle.std.specs.Prelude.{◌==◌, decimal}
 use Rattle.std.specs.List.{AllByRecursion, filter_map, list_any, position_or_len}
 use Rattle.std.proofs.lemmas.Bool.{eqb-true}

@@ -12,3 +12,4 @@ pub mod ItemNumbers
 pub mod ItemTables
 pub mod ItemLines
 pub mod ClassTexts
+pub mod LineTexts

@@ -2,7 +2,6 @@
 use Rattle.std.proofs.Common.{◌≡◌, ◌∙◌, ℕ, suc, ◌+◌, ◌≤◌, arith, ◌<◌, Bool, true, false, cond, List, [], ◌∷◌, ◌++◌, flat_map, length, drop, get_or, refl, sym, ap, append_assoc, codes, drop-cons}
 use Rattle.std.specs.Prelude.{◌==◌}
 use Rattle.std.proofs.lemmas.Bool.{eqb-true}
-use Rattle.std.proofs.lemmas.List.{append-nil}
 use Rattle.rng_print.specs.PrintedText.{delimiter, with_character, runs_of, escaped, more_runs, joined_runs, literal}
 use Rattle.rng_print.specs.Literals.{byte_text, open_text}
 use Rattle.rng_print.proofs.Equal.{number_itself}

@@ -1,5 +1,5 @@
 -- What is looked up in lists.
-use Rattle.std.proofs.Common.{◌≡◌, ◌∙◌, ℕ, zero, suc, ◌<◌, ◌≤◌, Bool, true, false, cond, not, nat_lt, List, [], ◌∷◌, length, map, refl, sym, ap, subst, Option, Some, None, Ok, Err, Result, position, arith}
+use Rattle.std.proofs.Common.{◌≡◌, ◌∙◌, ℕ, zero, suc, ◌<◌, Bool, true, false, cond, not, nat_lt, List, [], ◌∷◌, length, refl, sym, ap, subst, Option, Some, None, Ok, Err, Result, position, arith}
 use Rattle.std.specs.Prelude.{All, OnOk, slice_get, slice_index_or}
 use Rattle.std.specs.Option.{unwrap_or}
 use Rattle.std.specs.List.{AllByRecursion, position_or_len}

@@ -1,5 +1,5 @@
 -- Namespaces of a class, and where they stand.
-use Rattle.std.proofs.Common.{◌≡◌, ◌∙◌, ℕ, ◌+◌, ◌<◌, length, take, get_or, Bool, cond, not, List, [], ◌∷◌, ◌++◌, map, flat_map, refl, sym, ap, Bor, Vec, Global, rules, bytes_eq}
+use Rattle.std.proofs.Common.{◌≡◌, ◌∙◌, ℕ, ◌+◌, ◌<◌, length, take, get_or, cond, not, List, [], ◌∷◌, ◌++◌, map, flat_map, refl, sym, ap, Bor, Vec, Global, rules, bytes_eq}
 use Rattle.std.specs.List.{AllByRecursion, position_or_len}
 use Rattle.std.proofs.lemmas.List.{append-nil, take_more}
 use Rattle.std.proofs.lemmas.Grind.{flat_map-append}
@@ -42,12 +42,15 @@ module _ {A : Type 0} (view : A → names.NameClass) where
   namespaces_of_members (x ∷ []) = sym (append-nil (namespaces_in (view x)))
   namespaces_of_members (x ∷ (y ∷ xs)) = ap (λ z. namespaces_in (view x) ++ (namespaces_in (view y) ++ z)) (among xs)
 
--- one member more
-pub member_added : {A : Type 0} (f : A → List (List ℕ)) (old was new : List (List ℕ)) (xs : List A) (i : ℕ) (d : A) → i < length xs → d ≡ get_or xs i d
-    → was ≡ and_new bytes_eq old (flat_map f (take i xs)) → new ≡ and_new bytes_eq was (f d) → new ≡ and_new bytes_eq old (flat_map f (take (i + 1) xs))
-member_added f old was new xs i d l is w n =
-    let more : flat_map f (take (i + 1) xs) ≡ flat_map f (take i xs) ++ f d =
-    ap (flat_map f) (take_more xs i d l) ∙ flat_map-append f (take i xs) (get_or xs i d ∷ []) ∙ ap (λ x. flat_map f (take i xs) ++ (f x ++ [])) (sym is)
-    ∙ ap (λ z. flat_map f (take i xs) ++ z) (append-nil (f d)) in
-    n ∙ ap (λ z. and_new bytes_eq z (f d)) w ∙ sym (and_append bytes_eq bytes_exact bytes_itself old (flat_map f (take i xs)) (f d))
-    ∙ ap (and_new bytes_eq old) (sym more)
+-- one more
+module _ {A : Type 0} (f : A → List (List ℕ)) (old was new : List (List ℕ)) (xs : List A) (i : ℕ) (d : A) (l : i < length xs)
+    (w : was ≡ and_new bytes_eq old (flat_map f (take i xs))) where
+  pub one_added : new ≡ and_new bytes_eq was (f (get_or xs i d)) → new ≡ and_new bytes_eq old (flat_map f (take (i + 1) xs))
+  one_added n =
+      let more : flat_map f (take (i + 1) xs) ≡ flat_map f (take i xs) ++ f (get_or xs i d) =
+      ap (flat_map f) (take_more xs i d l) ∙ flat_map-append f (take i xs) (get_or xs i d ∷ []) ∙ ap (λ z. flat_map f (take i xs) ++ z) (append-nil (f (get_or xs i d))) in
+      n ∙ ap (λ z. and_new bytes_eq z (f (get_or xs i d))) w ∙ sym (and_append bytes_eq bytes_exact bytes_itself old (flat_map f (take i xs)) (f (get_or xs i d)))
+      ∙ ap (and_new bytes_eq old) (sym more)
+
+  pub member_added : d ≡ get_or xs i d → new ≡ and_new bytes_eq was (f d) → new ≡ and_new bytes_eq old (flat_map f (take (i + 1) xs))
+  member_added is n = one_added (n ∙ ap (λ x. and_new bytes_eq was (f x)) is)

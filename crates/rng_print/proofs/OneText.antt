@@ -1,17 +1,14 @@
 -- Each grammar has one printed text.
-use Rattle.std.proofs.Common.{◌≡◌, ◌∙◌, inl, inr, ℕ, zero, suc, ◌≤◌, ◌<◌, ◌^◌, Bool, true, List, [], ◌∷◌, ◌++◌, length, flat_map, refl, sym, ap, subst, arith, codes}
-use Rattle.std.specs.Prelude.{◌==◌, Contains, Option, Some, None}
-use Rattle.std.specs.List.{AllByRecursion, slice_index_or, filter_map, cons_option}
-use Rattle.std.proofs.lemmas.Bool.{or_cases, eqb-true}
-use Rattle.std.proofs.lemmas.List.{length-append}
+use Rattle.std.proofs.Common.{◌≡◌, ◌∙◌, ℕ, zero, suc, ◌≤◌, true, List, [], ◌∷◌, ◌++◌, length, flat_map, refl, sym, ap}
+use Rattle.std.specs.Prelude.{Contains}
+use Rattle.std.specs.List.{AllByRecursion, slice_index_or}
 use Rattle.rng_model.specs.Names.{NameClass, any_name}
 use Rattle.rng_model.specs.Tree.{Simple, s_not_allowed, s_empty, s_text, s_leaf, s_attribute, s_list, s_data, s_data_except, s_value, s_one_or_more, s_joined}
 use Rattle.rng_model.specs.Table.{Grammar}
 use Rattle.rng_print.specs.Numbering.{has, IsReached, at_start, in_line, numbered}
-use Rattle.rng_print.specs.PrintedText.{Item, element, pattern, same_item, item_of, element_at, parts_of, mentions, IsItemsOf, namespaces, element_in, pattern_in, item_name, item_text, item_line, namespace_line, prefix_of, literal, reference, line, text_of, IsPrinted}
-use Rattle.rng_print.proofs.Equal.{item_exact, item_itself, tree_exact, tree_itself, number_itself}
-use Rattle.rng_print.proofs.Numberings.{one_numbering, numbering_found, numbering_there, has_contained, or_first, or_second, all_each, all_contained}
-use Rattle.rng_print.specs.Same.{same_tree}
+use Rattle.rng_print.specs.PrintedText.{Item, element, pattern, same_item, item_of, element_at, parts_of, mentions, IsItemsOf, text_of, IsPrinted}
+use Rattle.rng_print.proofs.Equal.{item_exact, item_itself}
+use Rattle.rng_print.proofs.Numberings.{one_numbering, numbering_found, numbering_there, has_contained, all_each, all_contained}
 
 -- ---- one text
 

@@ -6,3 +6,4 @@ pub mod Literals
 pub mod Prefixes
 pub mod Parts
 pub mod Items
+pub mod Lines

@@ -8,8 +8,11 @@
 mod datatype;
 mod items;
 mod laws;
+mod lines;
 mod literal;
 mod name_class;
 mod prefixes;
+mod printing;
 
 pub use laws::printing_laws;
+pub use printing::printed_text;

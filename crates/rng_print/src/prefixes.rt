@@ -1,14 +1,17 @@
 // The namespaces that are written as prefixes, by number.
 ghost use Rattle.std.specs.Prelude.{◌≡◌, ◌++◌, [], OnOk, IfOk, List, map};
+ghost use Rattle.std.specs.List.{AllByRecursion};
 ghost use Rattle.std.specs.Str.{bytes_eq};
+ghost use Rattle.rng_model.specs.Table.{grammar_of};
 ghost use Rattle.rng_model.specs.View.{class_of};
 ghost use Rattle.rng_print.specs.Numbering.{and_new, with_new};
-ghost use Rattle.rng_print.specs.PrintedText.{namespaces_in, prefix_of};
+ghost use Rattle.rng_print.specs.PrintedText.{namespaces, namespaces_in, namespaces_of, prefix_of};
+ghost use Rattle.rng_print.specs.Items.{IsInside, item_at};
 ghost use Rattle.rng_print.specs.Prefixes.{namespaces_seen};
 
-use crate::items::write_numbered;
+use crate::items::{Item, write_numbered};
 use indexmap::IndexSet;
-use rng_model::{NameClass, OutOfMemory};
+use rng_model::{NameClass, OutOfMemory, Simple, SimpleGrammar};
 use std::alloc::Global;
 
 /// Namespaces, in the order in which they are first written as prefixes.
@@ -24,6 +27,39 @@ impl<'a> Prefixes<'a> {
     {
         Prefixes {
             namespaces: IndexSet::new(alloc),
+        }
+    }
+
+    /// Those that the lines of these items write.
+    pub(crate) fn of_items(
+        alloc: Global,
+        grammar: &'a SimpleGrammar,
+        items: &[Item],
+    ) -> Result<Self, OutOfMemory>
+        requires { AllByRecursion (IsInside grammar.now) items.now }
+        ensures { IfOk result (λ prefixes. namespaces_seen prefixes ≡ namespaces (grammar_of grammar.now) (map (item_at grammar.now) items.now)) }
+    {
+        let mut prefixes = Prefixes::new(alloc);
+        'items: for item in items {
+            prefixes.add_item(grammar, *item)?;
+        }
+        Ok(prefixes)
+    }
+
+    /// Adds those that the line of an item writes.
+    fn add_item(&mut self, grammar: &'a SimpleGrammar, item: Item) -> Result<(), OutOfMemory>
+        requires { IsInside grammar.now item }
+        ensures { OnOk result (namespaces_seen self.new ≡ and_new bytes_eq (namespaces_seen self.old) (namespaces_of (grammar_of grammar.now) (item_at grammar.now item))) }
+    {
+        match item {
+            Item::Element(id) => match grammar.element(id) {
+                Some((class, _)) => self.add_class(class),
+                None => Ok(()),
+            },
+            Item::Pattern(id) => match grammar.pattern(id) {
+                Some(Simple::Attribute(class, _)) => self.add_class(class),
+                _ => Ok(()),
+            },
         }
     }
 

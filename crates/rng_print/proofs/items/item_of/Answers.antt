@@ -1,4 +1,4 @@
-use Rattle.std.proofs.Common.{◌≡◌, ◌∙◌, sym, Some, rules, slice_get}
+use Rattle.std.proofs.Common.{◌≡◌, Some, rules, slice_get}
 use Rattle.rng_model.specs.declared.simple.Simple.TheVariants as simple
 use Rattle.rng_print.proofs.ItemTables.{leaf_listed}
 use Rattle.rng_print.proofs.items.item_of.Goals as goal

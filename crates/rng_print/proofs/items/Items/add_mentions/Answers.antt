@@ -1,4 +1,4 @@
-use Rattle.std.proofs.Common.{◌≡◌, ◌∙◌, sym, ap, subst, Some, None, rules, slice_get}
+use Rattle.std.proofs.Common.{◌≡◌, ◌∙◌, sym, ap, subst}
 use Rattle.std.specs.Prelude.{OnOk}
 use Rattle.rng_model.specs.Table.{grammar_of}
 use Rattle.rng_print.specs.Numbering.{and_new}

@@ -1,4 +1,4 @@
-use Rattle.std.proofs.Common.{◌≡◌, ◌∙◌, ◌<◌, [], length, map, ap, get_or, rules, arith}
+use Rattle.std.proofs.Common.{◌≡◌, ◌∙◌, ◌<◌, [], length, map, ap, get_or, rules}
 use Rattle.rng_model.specs.Table.{tree_at}
 use Rattle.rng_print.specs.Numbering.{and_new}
 use Rattle.rng_print.specs.PrintedText.{item_of, same_item}

@@ -20,5 +20,5 @@ returns-after-members t c =
 
 pub members-preserved : goal.members-preserved
 members-preserved t c =
-    member_added (λ c. namespaces_in (class_of c)) _ _ _ c.deref-member-items.result.now c.members.member-index c.member-item.result c.members-test.true c.member-item.is
-    c.members.invariant c.in_ok-add_class-in-Choice.ensures
+    member_added (λ c. namespaces_in (class_of c)) _ _ _ c.deref-member-items.result.now c.members.member-index c.member-item.result c.members-test.true
+    c.members.invariant c.member-item.is c.in_ok-add_class-in-Choice.ensures
