@@ -9,7 +9,7 @@ use Rattle.std.proofs.lemmas.Str.{IsUtf8-string_bytes}
 use Rattle.clap.specs.Lexer.{usize_max}
 use Rattle.clap.specs.Words.{fault_of, matches_of}
 use Rattle.rng_run.specs.declared.running.Command.{Command}
-use Rattle.rng_run.specs.declared.running.Command.TheVariants.{Valid, Check}
+use Rattle.rng_run.specs.declared.running.Command.TheVariants.{Valid, Check, Simple}
 use Rattle.rncv_cli.specs.CommandLine.{IsCommandLine, Text, WithoutDashes, name_of}
 use Rattle.rncv_cli.specs.CommandLineForm.{command_in, command_named, files_in, form}
 use Rattle.rncv_cli.proofs.FormWalk.{are_found, is_read}
@@ -19,22 +19,27 @@ all_utf8 [] = tt
 all_utf8 (text ∷ texts) = (IsUtf8-string_bytes text, all_utf8 texts)
 
 -- the command of a name is the one with that name
-named_by : (name : Text) (command : Command) (valid check : Bool) → bytes_eq name (name_of Valid) ≡ valid → bytes_eq name (name_of Check) ≡ check
-    → (if valid then Some Valid else (if check then Some Check else None)) ≡ Some command → name ≡ name_of command
-named_by name command true check v c is =
+named_by : (name : Text) (command : Command) (valid check simple : Bool) → bytes_eq name (name_of Valid) ≡ valid → bytes_eq name (name_of Check) ≡ check
+    → bytes_eq name (name_of Simple) ≡ simple → (if valid then Some Valid else (if check then Some Check else (if simple then Some Simple else None))) ≡ Some command
+    → name ≡ name_of command
+named_by name command true check simple v c s is =
     let same : Valid ≡ command = cc in
     (bytes_eq-Decides name (name_of Valid)).0 v ∙ ap name_of same
-named_by name command false true v c is =
+named_by name command false true simple v c s is =
     let same : Check ≡ command = cc in
     (bytes_eq-Decides name (name_of Check)).0 c ∙ ap name_of same
-named_by name command false false v c is = cc
+named_by name command false false true v c s is =
+    let same : Simple ≡ command = cc in
+    (bytes_eq-Decides name (name_of Simple)).0 s ∙ ap name_of same
+named_by name command false false false v c s is = cc
 
 is_name : (name : Text) (command : Command) → command_named name ≡ Some command → name ≡ name_of command
-is_name name command is = named_by name command _ _ refl refl is
+is_name name command is = named_by name command _ _ _ refl refl refl is
 
 has_name : (command : Command) → command_named (name_of command) ≡ Some command
 has_name Valid = refl
 has_name Check = refl
+has_name Simple = refl
 
 same_in_some : {A : Type 0} (x y : A) → Some x ≡ Some y → x ≡ y
 same_in_some x y e = cc

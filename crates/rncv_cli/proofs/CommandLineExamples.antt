@@ -6,7 +6,7 @@ use Rattle.clap.specs.Kinds.{Kinds}
 use Rattle.clap.specs.Words.{fault_of, matches_of}
 use Rattle.clap.proofs.OnLiterals.{clap_on_literals}
 use Rattle.rng_run.specs.declared.running.Command.{Command}
-use Rattle.rng_run.specs.declared.running.Command.TheVariants.{Valid, Check}
+use Rattle.rng_run.specs.declared.running.Command.TheVariants.{Valid, Check, Simple}
 use Rattle.rncv_cli.specs.CommandLine.{IsCommandLine, IsOption, Text, WithoutDashes, none, dashes, plain, name_of}
 use Rattle.rncv_cli.specs.CommandLineForm.{command_in, form}
 use Rattle.rncv_cli.proofs.CommandLine.{is_accepted}
@@ -33,6 +33,9 @@ valid_a = line Valid _ _ (name _ refl (name _ refl none))
 
 check_a_b_a : IsCommandLine (codes "check" ∷ codes "a" ∷ codes "b" ∷ codes "a" ∷ []) Check (codes "a" ∷ codes "b" ∷ codes "a" ∷ [])
 check_a_b_a = line Check _ _ (name _ refl (name _ refl (name _ refl (name _ refl none))))
+
+simple_a : IsCommandLine (codes "simple" ∷ codes "a" ∷ []) Simple (codes "a" ∷ [])
+simple_a = line Simple _ _ (name _ refl (name _ refl none))
 
 dashes_first : IsCommandLine (codes "--" ∷ codes "valid" ∷ codes "a" ∷ []) Valid (codes "a" ∷ [])
 dashes_first = line Valid _ _ (dashes refl)

@@ -1,7 +1,7 @@
 -- The command lines of the program: a command, and the names of one file or more.
 use Rattle.std.specs.Prelude.{◌≡◌, ◌<◌, ◌++◌, ℕ, List, [], ◌∷◌, codes, length}
 use Rattle.rng_run.specs.declared.running.Command.{Command}
-use Rattle.rng_run.specs.declared.running.Command.TheVariants.{Valid, Check}
+use Rattle.rng_run.specs.declared.running.Command.TheVariants.{Valid, Check, Simple}
 
 -- a text, as its bytes
 abbrev pub Text : Type 0
@@ -21,6 +21,7 @@ pub data WithoutDashes : List Text → List Text → Type 0 where
 abbrev pub name_of : Command → Text
 name_of Valid = codes "valid"
 name_of Check = codes "check"
+name_of Simple = codes "simple"
 
 -- the words are a command line: the name of the command, and then one file or more
 pub record IsCommandLine (words : List Text) (command : Command) (files : List Text) : Type 0 where

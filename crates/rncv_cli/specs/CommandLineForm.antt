@@ -6,7 +6,7 @@ use Rattle.clap.specs.Words.{App, Row, Rule, Text, all_of, first_of, new_app, ne
 use Rattle.clap.specs.Simple.{on_top}
 use Rattle.clap.specs.declared.builder.action.ArgAction.TheVariants.{Set}
 use Rattle.rng_run.specs.declared.running.Command.{Command}
-use Rattle.rng_run.specs.declared.running.Command.TheVariants.{Valid, Check}
+use Rattle.rng_run.specs.declared.running.Command.TheVariants.{Valid, Check, Simple}
 use Rattle.rncv_cli.specs.CommandLine.{name_of}
 
 -- the first argument
@@ -27,7 +27,10 @@ form = with_rule (with_rule bare_form command_rule) files_rule
 
 -- the command of this name
 abbrev pub command_named : Text → Option Command
-command_named name = if bytes_eq name (name_of Valid) then Some Valid else (if bytes_eq name (name_of Check) then Some Check else None)
+command_named name =
+    if bytes_eq name (name_of Valid) then Some Valid else (
+    if bytes_eq name (name_of Check) then Some Check else (
+    if bytes_eq name (name_of Simple) then Some Simple else None))
 
 -- the command that was found
 abbrev pub command_in : List Row → Option Command

@@ -1,7 +1,7 @@
 // From the words of a command line to one line.
 ghost use Rattle.std.specs.Prelude.{◌-◌, ◌^◌, ◌<◌, vec_len, IfOk, IfErr};
 ghost use Rattle.rng_model.specs.Device.{device_inner, device_failures};
-ghost use Rattle.rng_run.specs.Run.{WritesLine};
+ghost use Rattle.rng_run.specs.Run.{WritesAnswer};
 ghost use Rattle.rncv_cli.specs.Answering.{IsAnswerOver, IsAnswerOverSome, LeavesWritten};
 ghost use Rattle.rncv_cli.specs.Faults.{IsFaultOver};
 
@@ -26,7 +26,7 @@ pub fn answer_command_line<E: Env + AllocGlobal, F: Files + AllocGlobal, R: Read
     reader: R,
     writer: W,
 ) -> (Result<Status, Fault>, W)
-    ensures line { IfOk result.0 (λ status. WritesLine (IsAnswerOverSome (R.remaining reader))
+    ensures answer { IfOk result.0 (λ status. WritesAnswer (IsAnswerOverSome (R.remaining reader))
         status (W.contents writer) (W.contents result.1)) }
     ensures written { IfErr result.0 (λ fault. LeavesWritten (IsAnswerOverSome (R.remaining reader))
         fault (W.contents writer) (W.contents result.1)) }
@@ -50,7 +50,7 @@ pub fn answer_words<F: Files + AllocGlobal, R: Read + Drop, W: Write>(
     writer: W,
 ) -> (Result<Status, Fault>, W)
     requires { 0 < vec_len words.files }
-    ensures line { IfOk result.0 (λ status. WritesLine (IsAnswerOver words.command words.files.items (R.remaining reader))
+    ensures answer { IfOk result.0 (λ status. WritesAnswer (IsAnswerOver words.command words.files.items (R.remaining reader))
         status (W.contents writer) (W.contents result.1)) }
     ensures fault { IfErr result.0 (IsFaultOver words.files.items) }
     ensures written { IfErr result.0 (λ fault. LeavesWritten (IsAnswerOver words.command words.files.items (R.remaining reader))
@@ -71,7 +71,7 @@ fn answer_over<F: Files + AllocGlobal, R: Read + Drop, W: Write>(
     requires files { 0 < vec_len words.files }
     requires input { device_failures input < 2 ^ 64 - 1 }
     requires output { device_failures output.old < 2 ^ 64 - 1 }
-    ensures line { IfOk result (λ status. WritesLine (IsAnswerOver words.command words.files.items (R.remaining (device_inner input)))
+    ensures answer { IfOk result (λ status. WritesAnswer (IsAnswerOver words.command words.files.items (R.remaining (device_inner input)))
         status (W.contents (device_inner output.old)) (W.contents (device_inner output.new))) }
     ensures fault { IfErr result (IsFaultOver words.files.items) }
     ensures written { IfErr result (λ fault. LeavesWritten (IsAnswerOver words.command words.files.items (R.remaining (device_inner input)))

@@ -55,7 +55,8 @@ fn all_but_first(alloc: Global, mut given: Args) -> Result<Vec<String>, AllocErr
     Ok(all)
 }
 
-/// Reads the words after the program's name as a command line: a command, `valid` or `check`, and then one file or more.
+/// Reads the words after the program's name as a command line: a command, `valid`, `check` or `simple`, and then one file or
+/// more.
 ///
 /// The first `--`, wherever it stands, is dropped. Before it, and anywhere where there is none, no word is an option: a
 /// word that begins with `-` and is longer. The command and the files of a command line are answered, `Usage` only for
@@ -86,6 +87,7 @@ fn command_of(matches: &ArgMatches<'_>) -> Option<Command>
     match matches.get_str("command")? {
         "valid" => Some(Command::Valid),
         "check" => Some(Command::Check),
+        "simple" => Some(Command::Simple),
         _ => None,
     }
 }

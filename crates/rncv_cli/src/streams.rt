@@ -2,7 +2,7 @@
 ghost use Rattle.std.specs.Prelude.{◌≡◌, ◌-◌, ◌^◌, ◌<◌, length, true, IfOk, IfErr, OnOk};
 ghost use Rattle.rng_model.specs.Device.{device_inner, device_failures, device_flushed};
 ghost use Rattle.rng_load.specs.FilesView.{named_files};
-ghost use Rattle.rng_run.specs.Run.{IsAnswer, WritesLine, main_name};
+ghost use Rattle.rng_run.specs.Run.{IsAnswer, WritesAnswer, main_name};
 ghost use Rattle.rncv_cli.specs.Answering.{LeavesWritten};
 ghost use Rattle.rncv_cli.specs.Faults.{IsMemoryOrDevice};
 
@@ -29,7 +29,7 @@ pub fn run_and_flush<R: Read, W: Write>(
     requires output { device_failures output.old < 2 ^ 64 - 1 }
 
     // Where it answers, the line of the answer is all that was written, and it was flushed.
-    ensures line { IfOk result (λ status. WritesLine
+    ensures answer { IfOk result (λ status. WritesAnswer
         (IsAnswer command (named_files files.now) (main_name files.now) (R.remaining (device_inner input.old)) (R.remaining (device_inner input.new)))
         status (W.contents (device_inner output.old)) (W.contents (device_inner output.new))) }
     ensures flushed { OnOk result (device_flushed output.new ≡ true) }

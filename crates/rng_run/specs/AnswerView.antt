@@ -8,4 +8,5 @@ abbrev pub answer_of : Answer → answer.Answer
 answer_of (answers.Refused clause) = answer.refused clause
 answer_of (answers.RefusedFile clause name) = answer.refused_file clause (string_bytes name)
 answer_of answers.SchemaOk = answer.schema_ok
+answer_of (answers.Printed text) = answer.printed text.items
 answer_of (answers.Judged verdict) = answer.judged verdict

@@ -4,17 +4,19 @@ use Rattle.std.specs.Io.KnownBytes.{Appends, Keeps}
 use Rattle.rng_model.specs.Names.{In, Name}
 use Rattle.rng_model.specs.Schema.{Schema}
 use Rattle.rng_model.specs.SchemaClauses.{BreaksNoClause, IsLeastClause}
-use Rattle.rng_model.specs.SchemaForm.{SimpleForm, IsSimpleFormOfSchema}
+use Rattle.rng_model.specs.SchemaForm.{SimpleForm, IsOnlySimpleGrammarOf, IsSimpleFormOfSchema, IsSimpleGrammarOf}
 use Rattle.rng_model.specs.SchemaMatching.{IsValidBySchema}
-use Rattle.rng_run.specs.Answer.{Answer, refused, refused_file, schema_ok, judged, line_of, status_of}
+use Rattle.rng_model.specs.Table.{Grammar}
+use Rattle.rng_run.specs.Answer.{Answer, refused, refused_file, schema_ok, printed, judged, output_of, status_of}
 use Rattle.rng_load.specs.Loading.{FilesVerdict, file_breaks, together_break, are_taken, IsTheFilesVerdict}
 use Rattle.rng_load.specs.LoadedSchema.{AreSchema}
 use Rattle.rng_load.specs.SchemaFile.{NamedFile}
+use Rattle.rng_print.specs.PrintedText.{IsPrinted}
 use Rattle.rng_run.specs.Verdict.{IsJudgedBy}
 use Rattle.rng_run.specs.declared.answer.Status.{Status}
 use Rattle.rng_run.specs.declared.answer.Verdict.{Verdict}
 use Rattle.rng_run.specs.declared.running.Command.{Command}
-use Rattle.rng_run.specs.declared.running.Command.TheVariants.{Valid, Check}
+use Rattle.rng_run.specs.declared.running.Command.TheVariants.{Valid, Check, Simple}
 use Rattle.rng_run.specs.declared.running.RunFault.{RunFault}
 use Rattle.rng_run.specs.declared.running.RunFault.TheVariants.{Memory, Read, Write}
 use Rattle.std.proofs.Common.{String, Vec, Global}
@@ -24,10 +26,18 @@ abbrev pub main_name : List (String Global × Vec ℕ Global) → List ℕ
 main_name [] = []
 main_name (file ∷ files) = string_bytes file.0
 
--- what is told of the schema alone: the least clause that it breaks; or, by `check`, that it breaks none
+-- the text is that of a grammar which is a simple form of the schema, and the only one up to the numbers of its elements
+pub record IsPrintedForm (s : Schema) (text : List ℕ) : Type 0 where
+  pub grammar : Grammar
+  pub is_form : IsSimpleGrammarOf s grammar
+  pub only : IsOnlySimpleGrammarOf s grammar
+  pub is_printed : IsPrinted grammar text
+
+-- what is told of the schema alone: the least clause that it breaks; or that it breaks none, by `check`, and its simple form, by `simple`
 pub data IsTold (command : Command) (s : Schema) : Answer → Type 0 where
   breaks_clause : {clause : ℕ} → IsLeastClause s clause → IsTold command s (refused clause)
   is_good : command ≡ Check → BreaksNoClause s → IsTold command s schema_ok
+  has_form : {text : List ℕ} → command ≡ Simple → BreaksNoClause s → IsPrintedForm s text → IsTold command s (printed text)
 
 -- the command judges documents by the schema, which breaks no clause
 pub record JudgesDocuments (command : Command) (s : Schema) : Type 0 where
@@ -67,24 +77,24 @@ pub record IsAnswer (command : Command) (files : List NamedFile) (main : List �
   pub is_verdict : IsTheFilesVerdict files main verdict
   pub follows : IsAnswerTo command main verdict input_old input_new answer
 
--- The line of the answer is all that was written, and the status is that of the line.
-pub record WritesLine (answers : Answer → Type 0) (status : Status) (old new : Option (List ℕ)) : Type 0 where
+-- The answer is all that was written, and the status is that of the answer.
+pub record WritesAnswer (answers : Answer → Type 0) (status : Status) (old new : Option (List ℕ)) : Type 0 where
   pub answer : Answer
   pub is : answers answer
   pub status_is : status ≡ status_of answer
-  pub line : Appends old new (line_of answer)
+  pub output : Appends old new (output_of answer)
 
 -- the known bytes grow by a beginning of these
 abbrev pub AppendsBeginning : Option (List ℕ) → Option (List ℕ) → List ℕ → Type 0
 AppendsBeginning old new bytes = (n : ℕ) × Appends old new (take n bytes)
 
--- a beginning of the line of the answer is all that was written
+-- a beginning of the answer is all that was written
 pub record WritesBeginning (answers : Answer → Type 0) (old new : Option (List ℕ)) : Type 0 where
   pub answer : Answer
   pub is : answers answer
-  pub front : AppendsBeginning old new (line_of answer)
+  pub front : AppendsBeginning old new (output_of answer)
 
--- what a fault leaves written: nothing, or after a failed write a beginning of the line
+-- what a fault leaves written: nothing, or after a failed write a beginning of the answer
 abbrev pub WrittenAfter : (Answer → Type 0) → RunFault → Option (List ℕ) → Option (List ℕ) → Type 0
 WrittenAfter answers Memory old new = Keeps old new
 WrittenAfter answers Read old new = Keeps old new

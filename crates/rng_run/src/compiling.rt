@@ -3,15 +3,17 @@ ghost use Rattle.std.specs.Prelude.{IfErr, IfOk, OnOk};
 ghost use Rattle.rng_load.specs.PlacedGrammars.{schema_of};
 ghost use Rattle.rng_model.specs.Schema.{IsWellPlaced};
 ghost use Rattle.rng_model.specs.SchemaClauses.{BreaksNoClause};
-ghost use Rattle.rng_model.specs.SchemaForm.{IsOnlySimpleGrammarOf};
+ghost use Rattle.rng_model.specs.SchemaForm.{IsOnlySimpleGrammarOf, IsSimpleGrammarOf};
 ghost use Rattle.rng_model.specs.SchemaMatching.{AreSameDocuments};
 ghost use Rattle.rng_model.specs.Table.{grammar_of};
 ghost use Rattle.rng_matching.specs.Laws.{BreaksNone};
+ghost use Rattle.rng_print.specs.Items.{AreToldApart};
 ghost use Rattle.rng_run.specs.Compiled.{IsCompiled, IsLeastFault};
 
 use crate::running::Command;
 use rng_load::Schema;
 use rng_model::{OutOfMemory, SchemaFault, SimpleGrammar};
+use rng_print::printed_text;
 use rng_rules::restrict;
 use rng_simple::simplify_schema;
 use std::alloc::Global;
@@ -23,6 +25,8 @@ pub enum Compiled {
     Refused(u8),
     /// It breaks no clause, and no more is asked.
     Good,
+    /// Its simple form, printed.
+    Printed(Vec<u8>),
     /// The grammar by which documents are judged.
     Grammar(SimpleGrammar),
 }
@@ -44,6 +48,7 @@ pub(crate) fn compile(
     };
     match command {
         Command::Check => Ok(Compiled::Good),
+        Command::Simple => Ok(Compiled::Printed(printed_text(alloc, &grammar)?)),
         Command::Valid => Ok(Compiled::Grammar(grammar)),
     }
 }
@@ -51,7 +56,9 @@ pub(crate) fn compile(
 /// The simple form of a schema that breaks no clause, or the least clause that it breaks, 11 to 27.
 fn good_grammar(alloc: Global, schema: &Schema) -> Result<SimpleGrammar, SchemaFault>
     requires { IsWellPlaced (schema_of schema.now) }
+    ensures form { IfOk result (λ g. IsSimpleGrammarOf (schema_of schema.now) (grammar_of g)) }
     ensures only { IfOk result (λ g. IsOnlySimpleGrammarOf (schema_of schema.now) (grammar_of g)) }
+    ensures apart { IfOk result AreToldApart }
     ensures documents { IfOk result (λ g. AreSameDocuments (schema_of schema.now) (grammar_of g)) }
     ensures restricted { IfOk result (λ g. BreaksNone (grammar_of g)) }
     ensures kept { OnOk result (BreaksNoClause (schema_of schema.now)) }

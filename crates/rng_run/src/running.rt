@@ -1,4 +1,4 @@
-// From files and a document to one line.
+// From files and a document to an answer.
 ghost use Rattle.std.specs.Prelude.{◌≡◌, ◌-◌, ◌^◌, ◌<◌, length, IfOk, IfErr, OnOk, IsErrOf};
 ghost use Rattle.rng_model.specs.Device.{device_inner, device_failures};
 ghost use Rattle.rng_run.specs.Answer.{status_of};
@@ -7,7 +7,7 @@ ghost use Rattle.rng_load.specs.FilesView.{named_files};
 ghost use Rattle.rng_load.specs.Loading.{FilesVerdict, IsTheFilesVerdict};
 ghost use Rattle.rng_load.specs.PlacedGrammars.{schema_of};
 ghost use Rattle.rng_model.specs.Schema.{IsWellPlaced};
-ghost use Rattle.rng_run.specs.Run.{IsAnswer, IsAnswerBy, JudgesDocuments, JudgesNone, WritesLine, WrittenAfter, main_name};
+ghost use Rattle.rng_run.specs.Run.{IsAnswer, IsAnswerBy, JudgesDocuments, JudgesNone, WritesAnswer, WrittenAfter, main_name};
 
 use crate::answer::{Answer, Status};
 use crate::compiling::{Compiled, compile};
@@ -25,6 +25,8 @@ pub enum Command {
     Valid,
     /// Judge the schema alone. The document is not read.
     Check,
+    /// Print the simple form of the schema. The document is not read.
+    Simple,
 }
 
 /// Why a run gave no answer.
@@ -38,19 +40,20 @@ pub enum RunFault {
     Memory,
 }
 
-/// Does what the command asks for with the schema of these files, of which the first is the main one, and writes one
-/// line.
+/// Does what the command asks for with the schema of these files, of which the first is the main one, and writes what it
+/// answers: one line, or a simple form.
 ///
 /// The line is `refused Sk file NAME` where a file breaks a clause by itself, with the first such file in load order
 /// and the clause that it breaks first, 1 to 8; else `refused S9` or `refused S10` where the files break that together,
 /// S9 before S10; else `refused Sk` with the least clause that their schema breaks, 11 to 27; else `schema ok` for
-/// `Check`, and for `Valid` what the document is that `input` has left: `malformed Pk line N` with its first fault where it
+/// `Check`; for `Simple` the simple form of the schema, printed as `printed_text` of `rng_print` says; and for `Valid` what the
+/// document is that `input` has left: `malformed Pk line N` with its first fault where it
 /// is no document; else `valid` exactly if it matches the schema by the rules of section 6 of the RELAX NG Specification, read
 /// over the files as they are written; else `invalid line N`, where nothing that begins with its lines up to line N is valid,
 /// and no element starts before with a name that no element of the schema's simple form may have. A line feed ends it. A
 /// refused schema leaves the input unread; the bytes of files that are not reached from the main one are not looked at.
 /// `RunFault::Read` and `RunFault::Write` come only where that device counted a failed call, `RunFault::Memory` only where
-/// neither did; after `Read` and `Memory` nothing was written, after `Write` a beginning of the line was. A document is read
+/// neither did; after `Read` and `Memory` nothing was written, after `Write` a beginning of the answer was. A document is read
 /// to its end, or in pieces of 32,768 bytes to the one with the first fault, and judged as it goes by: no more of it is kept
 /// than a tag, a text, the open elements, and what the matcher keeps. The files are kept whole; time is what `load` takes,
 /// and then what `simplify_schema` and `restrict` take, and `Matcher` for each event.
@@ -65,10 +68,10 @@ pub fn run<R: Read, W: Write>(
     requires input { device_failures input.old < 2 ^ 64 - 1 }
     requires output { device_failures output.old < 2 ^ 64 - 1 }
 
-    // Where it answers, no call failed, and the line of the answer is all that was written.
+    // Where it answers, no call failed, and the answer is all that was written.
     ensures calm_input { OnOk result (device_failures input.new ≡ device_failures input.old) }
     ensures calm_output { OnOk result (device_failures output.new ≡ device_failures output.old) }
-    ensures line { IfOk result (λ status. WritesLine
+    ensures answer { IfOk result (λ status. WritesAnswer
         (IsAnswer command (named_files files.now) (main_name files.now) (R.remaining (device_inner input.old)) (R.remaining (device_inner input.new)))
         status (W.contents (device_inner output.old)) (W.contents (device_inner output.new))) }
 
@@ -85,13 +88,14 @@ pub fn run<R: Read, W: Write>(
         fault (W.contents (device_inner output.old)) (W.contents (device_inner output.new))) }
 {
     let answer = answer_for(alloc, command, files, first_name(files), input)?;
-    let Ok(line) = answer.line(alloc) else {
+    let status = answer.status();
+    let Ok(text) = answer.into_output(alloc) else {
         return Err(RunFault::Memory);
     };
-    if write_whole(output, line.as_bytes()).is_err() {
+    if write_whole(output, text.as_slice()).is_err() {
         return Err(RunFault::Write);
     }
-    Ok(answer.status())
+    Ok(status)
 }
 
 /// The name of the first file.
@@ -149,6 +153,7 @@ fn answer_by<R: Read>(
         Ok(Compiled::Grammar(grammar)) => grammar,
         Ok(Compiled::Refused(clause)) => return Ok(Answer::Refused(clause)),
         Ok(Compiled::Good) => return Ok(Answer::SchemaOk),
+        Ok(Compiled::Printed(text)) => return Ok(Answer::Printed(text)),
         Err(OutOfMemory) => return Err(RunFault::Memory),
     };
     match document_verdict(alloc, &grammar, input) {

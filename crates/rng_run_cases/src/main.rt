@@ -51,7 +51,7 @@ fn main(rt: HostRuntime) -> io::Result<()> {
     Ok(())
 }
 
-/// The status and the line of a run.
+/// The status of a run, and what it writes.
 fn outcome(
     alloc: Global,
     command: Command,
@@ -110,6 +110,7 @@ fn line_over(
 ) -> io::Result<String> {
     let command = match row.text(0)? {
         "check" => Command::Check,
+        "simple" => Command::Simple,
         _ => Command::Valid,
     };
     let mut lines = line_by(alloc, command, files, document, usize::MAX)?;

@@ -1,4 +1,5 @@
-use Rattle.rng_run.specs.Run.{breaks_clause, is_good}
+use Rattle.rng_model.specs.Table.{grammar_of}
+use Rattle.rng_run.specs.Run.{breaks_clause, has_form, is_good}
 use Rattle.rng_run.proofs.compiling.compile.Goals as goal
 
 pub returns-in-Err-Clause : goal.returns-in-Err-Clause
@@ -6,6 +7,14 @@ returns-in-Err-Clause c = rw c.in-Err-Clause.field-0-is (breaks_clause (rw c.in-
 
 pub returns-in-Check : goal.returns-in-Check
 returns-in-Check c = is_good c.in-Check.is c.in-Ok.ensures.kept
+
+pub returns-in_ok-printed_text-in-Simple : goal.returns-in_ok-printed_text-in-Simple
+returns-in_ok-printed_text-in-Simple c = has_form c.in-Simple.is c.in-Ok.ensures.kept (record {
+  grammar = grammar_of c.in-Ok.grammar;
+  is_form = c.in-Ok.ensures.form;
+  only = c.in-Ok.ensures.only;
+  is_printed = c.in_ok-printed_text-in-Simple.ensures;
+})
 
 pub returns-in-Valid : goal.returns-in-Valid
 returns-in-Valid c = record {

@@ -31,6 +31,10 @@ pub returns-in-Ok-Refused-clause-answer : goal.returns-in-Ok-Refused-clause-answ
 returns-in-Ok-Refused-clause-answer g c =
     schema_is_told (subst (IsCompiled c.args.command (schema_of c.args.schema.now)) c.in-Ok-Refused.field-0-is c.in-Ok-Refused.ensures)
 
+pub returns-in-Ok-Printed-clause-answer : goal.returns-in-Ok-Printed-clause-answer
+returns-in-Ok-Printed-clause-answer g c =
+    schema_is_told (subst (IsCompiled c.args.command (schema_of c.args.schema.now)) c.in-Ok-Printed.field-0-is c.in-Ok-Printed.ensures)
+
 pub returns-in-Ok-Good-clause-answer : goal.returns-in-Ok-Good-clause-answer
 returns-in-Ok-Good-clause-answer g c =
     schema_is_told (subst (IsCompiled c.args.command (schema_of c.args.schema.now)) c.in-Ok-Good.field-0-is c.in-Ok-Good.ensures)
