@@ -18,6 +18,11 @@ returns-in-check c =
     let first = first_is_value (codes "command") (found_of c.args.matches.now) in
     rw (first, ← c.get_str.ensures) (search rules)
 
+pub returns-in-simple : goal.returns-in-simple
+returns-in-simple c =
+    let first = first_is_value (codes "command") (found_of c.args.matches.now) in
+    rw (first, ← c.get_str.ensures) (search rules)
+
 pub returns-in_default : goal.returns-in_default
 returns-in_default c =
     let first = first_is_value (codes "command") (found_of c.args.matches.now) in
