@@ -2,7 +2,7 @@
 # Runs the built program over schema files and a document with each growth of memory refused in turn, by a shim that is loaded
 # before the C library, and says what it answered. It is no proof and no part of the gate. It asks for a C compiler.
 #
-#   tools/refused_growths/run.sh valid|check DOCUMENT FILE..
+#   tools/refused_growths/run.sh valid|check|simple DOCUMENT FILE..
 #
 # Each line must be the answer without a refusal and status, or `rncv: out of memory` with status 4 and nothing written.
 set -eu
