@@ -20,8 +20,8 @@ all_utf8 (text ∷ texts) = (IsUtf8-string_bytes text, all_utf8 texts)
 
 -- the command of a name is the one with that name
 named_by : (name : Text) (command : Command) (valid check simple : Bool) → bytes_eq name (name_of Valid) ≡ valid → bytes_eq name (name_of Check) ≡ check
-    → bytes_eq name (name_of Simple) ≡ simple → (if valid then Some Valid else (if check then Some Check else (if simple then Some Simple else None))) ≡ Some command
-    → name ≡ name_of command
+    → bytes_eq name (name_of Simple) ≡ simple
+    → (if valid then Some Valid else (if check then Some Check else (if simple then Some Simple else None))) ≡ Some command → name ≡ name_of command
 named_by name command true check simple v c s is =
     let same : Valid ≡ command = cc in
     (bytes_eq-Decides name (name_of Valid)).0 v ∙ ap name_of same

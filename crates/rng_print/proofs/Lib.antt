@@ -13,3 +13,5 @@ pub mod ItemTables
 pub mod ItemLines
 pub mod ClassTexts
 pub mod LineTexts
+pub mod Shapes
+pub mod OneForm

@@ -7,3 +7,4 @@ pub mod Prefixes
 pub mod Parts
 pub mod Items
 pub mod Lines
+pub mod SchemaText

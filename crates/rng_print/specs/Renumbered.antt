@@ -5,7 +5,7 @@ use Rattle.rng_model.specs.Table.{Grammar}
 use Rattle.rng_print.specs.PrintedText.{element_at}
 
 -- the tree with other names for its leaves
-abbrev pub renumbered : (ℕ → ℕ) → Simple ℕ → Simple ℕ
+abbrev pub renumbered : {K L : Type 0} → (K → L) → Simple K → Simple L
 renumbered f s_not_allowed = s_not_allowed
 renumbered f s_empty = s_empty
 renumbered f s_text = s_text

@@ -4,14 +4,13 @@ use Rattle.std.specs.Io.KnownBytes.{Appends, Keeps}
 use Rattle.rng_model.specs.Names.{In, Name}
 use Rattle.rng_model.specs.Schema.{Schema}
 use Rattle.rng_model.specs.SchemaClauses.{BreaksNoClause, IsLeastClause}
-use Rattle.rng_model.specs.SchemaForm.{SimpleForm, IsOnlySimpleGrammarOf, IsSimpleFormOfSchema, IsSimpleGrammarOf}
+use Rattle.rng_model.specs.SchemaForm.{SimpleForm, IsSimpleFormOfSchema}
 use Rattle.rng_model.specs.SchemaMatching.{IsValidBySchema}
-use Rattle.rng_model.specs.Table.{Grammar}
 use Rattle.rng_run.specs.Answer.{Answer, refused, refused_file, schema_ok, printed, judged, output_of, status_of}
 use Rattle.rng_load.specs.Loading.{FilesVerdict, file_breaks, together_break, are_taken, IsTheFilesVerdict}
 use Rattle.rng_load.specs.LoadedSchema.{AreSchema}
 use Rattle.rng_load.specs.SchemaFile.{NamedFile}
-use Rattle.rng_print.specs.PrintedText.{IsPrinted}
+use Rattle.rng_print.specs.SchemaText.{IsPrintedForm}
 use Rattle.rng_run.specs.Verdict.{IsJudgedBy}
 use Rattle.rng_run.specs.declared.answer.Status.{Status}
 use Rattle.rng_run.specs.declared.answer.Verdict.{Verdict}
@@ -25,13 +24,6 @@ use Rattle.std.proofs.Common.{String, Vec, Global}
 abbrev pub main_name : List (String Global × Vec ℕ Global) → List ℕ
 main_name [] = []
 main_name (file ∷ files) = string_bytes file.0
-
--- the text is that of a grammar which is a simple form of the schema, and the only one up to the numbers of its elements
-pub record IsPrintedForm (s : Schema) (text : List ℕ) : Type 0 where
-  pub grammar : Grammar
-  pub is_form : IsSimpleGrammarOf s grammar
-  pub only : IsOnlySimpleGrammarOf s grammar
-  pub is_printed : IsPrinted grammar text
 
 -- what is told of the schema alone: the least clause that it breaks; or that it breaks none, by `check`, and its simple form, by `simple`
 pub data IsTold (command : Command) (s : Schema) : Answer → Type 0 where

@@ -1,3 +1,4 @@
+use Rattle.rng_print.proofs.OneForm as form
 use Rattle.rng_print.proofs.OneText as text
 use Rattle.rng_print.proofs.SameText as renumbered
 use Rattle.rng_print.proofs.laws.printing_laws.Goals as goal
@@ -7,3 +8,6 @@ returns-clause-one c = text.one_text
 
 pub returns-clause-same : goal.returns-clause-same
 returns-clause-same c = renumbered.same_text
+
+pub returns-clause-schema : goal.returns-clause-schema
+returns-clause-schema c = form.one_form
