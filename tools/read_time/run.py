@@ -61,6 +61,21 @@ def blank_texts():
         yield part
 
 
+def namespaced_records():
+    """The records in an element that declares a default namespace."""
+    yield "(records\nAxmlns urn:x:records\n"
+    yield from records()
+    yield ")records\n"
+
+
+def prefixed_records():
+    """The records, each of its elements named by a prefix."""
+    yield "(r:records\nAxmlns:r urn:x:records\n"
+    for part in records():
+        yield "".join(f"{line[0]}r:{line[1:]}" if line[0] in "()" else line for line in part.splitlines(keepends=True))
+    yield ")r:records\n"
+
+
 def deep():
     yield from (f"(node\nAd {i}\n" for i in range(510))
     yield element("leaf", "x")
@@ -101,6 +116,8 @@ SHAPES = [
     ("records", 100, records),
     ("records with blank texts between elements", 10, blank_texts),
     ("records with blank texts between elements", 100, blank_texts),
+    ("records in a default namespace", 10, namespaced_records),
+    ("records whose elements have a prefix", 10, prefixed_records),
     ("511 elements in one another", 10, deep),
     ("texts of a megabyte", 100, long_texts),
     ("the same of other letters than Latin ones", 100, other_texts),

@@ -7,7 +7,7 @@ use Rattle.rng_model.specs.PyxNamespaces.{WrittenAttribute}
 use Rattle.pyx.specs.declared.fault.LineFault.{LineFault}
 use Rattle.pyx.specs.declared.fault.LineFault.TheVariants as faults
 use Rattle.pyx.specs.TagReader.{Declared, attribute_name, expanded, and_more}
-use Rattle.pyx.specs.View.{clause_of, resolved}
+use Rattle.pyx.specs.ElementView.{clause_of, resolved}
 
 abbrev with_attributes : List Attribute → Option (List Attribute) → Option (List Attribute)
 with_attributes front None = None

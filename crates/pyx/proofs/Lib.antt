@@ -3,6 +3,7 @@ pub mod TextCuts
 pub mod ReplacedEscapes
 pub mod WrittenNames
 pub mod OpenStack
+pub mod KnownNames
 pub mod ExpandedAttributes
 pub mod LineCounts
 pub mod FirstLines

@@ -1,5 +1,5 @@
 -- What a line says, or the least clause that it breaks by itself.
-use Rattle.std.proofs.Common.{◌≡◌, ℕ, ◌≤◌, ◌<◌, Bool, true, false, cond, eqb, List, [], ◌∷◌, ◌++◌, length, Option, Some, None, Result, Ok, Err, refl, sym, ap}
+use Rattle.std.proofs.Common.{◌≡◌, ℕ, ◌≤◌, ◌<◌, Bool, true, false, cond, eqb, List, [], ◌∷◌, ◌++◌, length, Option, Some, None, Ok, Err, refl, sym, ap}
 use Rattle.std.proofs.Common.{subst, ◌∙◌, arith, rules, lit≤, lit<}
 use Rattle.std.specs.Prelude.{nat_le, ◌≢◌}
 use Rattle.std.specs.List.{All, AllByRecursion, list_all}

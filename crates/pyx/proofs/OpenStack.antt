@@ -4,9 +4,9 @@ use Rattle.rng_model.specs.PyxNamespaces.{WrittenAttribute}
 use Rattle.pyx.specs.DocumentReader.{Open, declared_in}
 use Rattle.pyx.specs.TagReader.{namespace_of, found_in, or_else}
 use Rattle.std.proofs.lemmas.List.{reverse-append}
-use Rattle.std.proofs.lemmas.List.{map-append}
+use Rattle.std.proofs.lemmas.List.{length-map, map-append}
 use Rattle.pyx.specs.declared.scope.OpenElement.{OpenElement}
-use Rattle.pyx.specs.View.{open_of, stack_of}
+use Rattle.pyx.specs.ElementView.{open_of, scope_of, stack_of, written_attribute}
 
 pub stack_push : (xs : List OpenElement) (x : OpenElement) → stack_of (xs ++ x ∷ []) ≡ open_of x ∷ stack_of xs
 stack_push xs x = ap reverse (map-append open_of xs (x ∷ [])) ∙ reverse-append (map open_of xs) (open_of x ∷ [])
@@ -20,3 +20,9 @@ passed_over stack outer element prefix e h = rw e (go element.declared h) where
       → namespace_of (declared_in outer) prefix ≡ or_else (found_in prefix ds) (namespace_of (declared_in outer) prefix)
   go [] k = refl
   go (d ∷ ds) k = absurd (omega (arith, k))
+
+pub namespaces_same : (opened outer : List OpenElement) (e : OpenElement) → opened ≡ outer ++ e ∷ [] → length e.declarations.items ≡ 0
+    → (p : Option (List ℕ)) → namespace_of (scope_of outer) p ≡ namespace_of (scope_of opened) p
+namespaces_same opened outer e parts none p =
+    passed_over (stack_of opened) (stack_of outer) (open_of e) p (ap stack_of parts ∙ stack_push outer e)
+    (omega (arith, none, length-map e.declarations.items written_attribute))

@@ -3,6 +3,7 @@ pub mod LineReader
 pub mod TagReader
 pub mod DocumentReader
 pub mod Pieces
+pub mod ElementView
 pub mod View
 pub mod Documents
 pub mod Standing

@@ -1,58 +1,23 @@
 -- What the values of the code are, and what a call that may run out of memory answers.
-use Rattle.std.specs.Prelude.{◌≡◌, ℕ, List, [], ◌∷◌, ◌++◌, map, reverse, if◌then◌else◌}
+use Rattle.std.specs.Prelude.{◌≡◌, List, [], ◌++◌, map, if◌then◌else◌}
 use Rattle.std.specs.Prelude.{Result, Ok, Err, Option, Some, None, string_bytes}
 use Rattle.rng_model.specs.Lines as lines
 use Rattle.rng_model.specs.PyxFaults.{Fault}
-use Rattle.rng_model.specs.PyxNamespaces.{WrittenAttribute}
 use Rattle.rng_model.specs.PyxTrees.{Event}
-use Rattle.rng_model.specs.View.{name_of, attribute_of}
-use Rattle.pyx.specs.declared.fault.LineFault.{LineFault}
-use Rattle.pyx.specs.declared.fault.LineFault.TheVariants as faults
 use Rattle.pyx.specs.declared.line.Line.{Line}
-use Rattle.pyx.specs.declared.written.WrittenAttribute as written
-use Rattle.pyx.specs.declared.scope.OpenElement.{OpenElement}
-use Rattle.pyx.specs.declared.scope.Scope.{Scope}
 use Rattle.pyx.specs.LineReader.{written_of}
 use Rattle.pyx.specs.declared.fault.PyxFault.{PyxFault}
 use Rattle.pyx.specs.declared.fault.PyxFault.TheVariants as faults_at
 use Rattle.pyx.specs.declared.pieces.Pieces.{Pieces}
-use Rattle.pyx.specs.declared.scope.Element.{Element}
 use Rattle.pyx.specs.declared.state.State.{State}
 use Rattle.pyx.specs.declared.state.Tag.{Tag}
-use Rattle.pyx.specs.TagReader as tags
-use Rattle.pyx.specs.TagReader.{Declared}
 use Rattle.pyx.specs.DocumentReader as reader
-use Rattle.pyx.specs.DocumentReader.{Open, Turn, declared_in}
+use Rattle.pyx.specs.DocumentReader.{Turn}
+use Rattle.pyx.specs.ElementView.{written_attribute}
 use Rattle.pyx.specs.Pieces.{Progress}
-
--- what a fault of a tag says: nothing, where memory ran out
-abbrev pub clause_of : LineFault → Option ℕ
-clause_of faults.Memory = None
-clause_of (faults.Clause k) = Some k
 
 abbrev pub line_of : Line → lines.Line
 line_of l = record { bytes = l.bytes.now; ended = l.ended }
-
-abbrev pub written_attribute : written.WrittenAttribute → WrittenAttribute
-written_attribute a = record { name = written_of (string_bytes a.name); content = string_bytes a.value }
-
-abbrev pub open_of : OpenElement → Open
-open_of e = record { name = written_of (string_bytes e.name); declared = map written_attribute e.declarations.items }
-
--- the open elements, the innermost first
-abbrev pub stack_of : List OpenElement → List Open
-stack_of opened = reverse (map open_of opened)
-
-abbrev pub scope_of : Scope → Declared
-scope_of s = map written_attribute s.declarations.now ∷ declared_in (stack_of s.opened.now)
-
--- what a name stands for, or P11
-abbrev pub resolved : {A : Type 0} → Option A → Result A ℕ
-resolved None = Err 11
-resolved (Some a) = Ok a
-
-abbrev pub element_of : Element → tags.Element
-element_of e = record { name = name_of e.name; attrs = map attribute_of e.attrs.items }
 
 abbrev pub tag_of : Tag → reader.Tag
 tag_of t = record {
@@ -65,7 +30,7 @@ tag_of t = record {
 abbrev pub state_of : State → reader.State
 state_of s = record {
   tag = if s.in_tag then Some (tag_of s.tag) else None;
-  opened = stack_of s.opened.items;
+  opened = s.elements.opened;
   joined = string_bytes s.joined;
   root = s.root;
   count = s.lines;

@@ -4,7 +4,9 @@
 mod cuts;
 mod escapes;
 mod fault;
+mod known;
 mod line;
+mod opened;
 mod pieces;
 mod plain;
 mod reader;

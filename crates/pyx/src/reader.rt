@@ -51,7 +51,8 @@ impl Reader {
     /// How many bytes are kept: of the line that has begun, of the lines of the tag that is being read, of the name and
     /// the declarations of each open element, and of the text that is joined so far.
     ///
-    /// It is at most 8,641,445,888; after a fault it is 0. Takes no memory. It goes over what is open.
+    /// It is at most 8,641,445,888; after a fault it is 0. Buffers that are used again and at most 256 names that were looked
+    /// up are not counted. Takes no memory. It goes over what is open.
     pub fn held(&self) -> u64
         ensures held { IsHeld self.now result }
         ensures fault { IfSome self.now.fault (λ f. result ≡ 0) }

@@ -1,21 +1,17 @@
-// What names stand for inside the tags that are open.
-ghost use Rattle.std.specs.Prelude.{◌≡◌, ◌<◌, ◌≤◌, ℕ, List, Option, [], ◌∷◌, MatchOption, IfSome, Ok, map, length, string_bytes};
+// What names stand for inside the elements that are open.
+ghost use Rattle.std.specs.Prelude.{◌≡◌, ◌<◌, ◌≤◌, ℕ, List, Option, [], ◌∷◌, MatchOption, IfSome, map, length, string_bytes};
 ghost use Rattle.std.specs.Option.{option_map};
 ghost use Rattle.rng_model.specs.Answers.{Gives};
 ghost use Rattle.rng_model.specs.View.{name_of, attribute_of};
 ghost use Rattle.pyx.specs.LineReader.{written_of};
-ghost use Rattle.pyx.specs.TagReader.{beforehand, namespace_of, element_name, attribute_name, expanded, same_name, is_named_in, is_named_twice, tag_read};
-ghost use Rattle.pyx.specs.View.{clause_of, element_of, resolved, written_attribute, open_of, stack_of, scope_of};
-ghost use Rattle.pyx.specs.DocumentReader.{declared_in};
+ghost use Rattle.pyx.specs.TagReader.{namespace_of, attribute_name, expanded, is_named_in, is_named_twice};
+ghost use Rattle.pyx.specs.ElementView.{clause_of, open_of, resolved, scope_of, stack_of, written_attribute};
 ghost use Rattle.pyx.specs.Held.{opened_held};
 
 use crate::cuts::cut_at;
 use crate::fault::LineFault;
 use crate::spares::Spares;
-use crate::written::{
-    WrittenAttribute, XML_URI, any_forbidden, declarations_len, found_in, is_written_twice,
-    name_len,
-};
+use crate::written::{WrittenAttribute, XML_URI, declarations_len, found_in, name_len};
 use rng_model::{Attr, Name};
 use std::alloc::Global;
 use std::mem;
@@ -27,24 +23,6 @@ pub struct OpenElement {
     pub name: String,
     /// The declarations of its tag, in order.
     pub declarations: Vec<WrittenAttribute>,
-}
-
-/// The declarations of a tag, and the elements that are open around it, the innermost last.
-#[derive(Clone, Copy)]
-pub struct Scope<'a> {
-    pub declarations: &'a [WrittenAttribute],
-    pub opened: &'a [OpenElement],
-}
-
-/// What is declared beforehand: `xml`, and that names without a prefix have no namespace.
-fn beforehand(prefix: Option<&str>) -> Option<&'static str>
-    ensures { option_map (λ x. x.now) result ≡ beforehand (option_map (λ x. x.now) prefix.entry) }
-{
-    match prefix {
-        None => Some(""),
-        Some("xml") => Some(XML_URI),
-        Some(_) => None,
-    }
 }
 
 /// The innermost of the elements, and those around it.
@@ -74,8 +52,7 @@ pub fn opened_len(opened: &[OpenElement]) -> u64
 /// These elements without the innermost ones that declare nothing.
 #[inline(always)]
 fn declaring(opened: &[OpenElement]) -> &[OpenElement]
-    ensures same { (prefix : Option (List ℕ)) → namespace_of (declared_in (stack_of result.now)) prefix
-        ≡ namespace_of (declared_in (stack_of opened.now)) prefix }
+    ensures same { (prefix : Option (List ℕ)) → namespace_of (scope_of result.now) prefix ≡ namespace_of (scope_of opened.now) prefix }
     ensures within { length result.now ≤ length opened.now }
 {
     let mut rest = opened;
@@ -91,8 +68,8 @@ fn declaring(opened: &[OpenElement]) -> &[OpenElement]
 /// The namespace of a prefix, or the default one, inside these elements.
 #[tactic(auto, unfolding(crate::specs::TagReader::namespace_of))]
 #[inline(always)]
-fn outer_namespace<'a>(opened: &'a [OpenElement], prefix: Option<&str>) -> Option<&'a str>
-    ensures { option_map (λ x. x.now) result ≡ namespace_of (declared_in (stack_of opened.now)) (option_map (λ x. x.now) prefix.entry) }
+pub fn namespace<'a>(opened: &'a [OpenElement], prefix: Option<&str>) -> Option<&'a str>
+    ensures { option_map (λ x. x.now) result ≡ namespace_of (scope_of opened.now) (option_map (λ x. x.now) prefix.entry) }
 {
     let mut rest = declaring(opened);
     'elements: while let Some((element, outer)) = innermost(rest) {
@@ -101,135 +78,89 @@ fn outer_namespace<'a>(opened: &'a [OpenElement], prefix: Option<&str>) -> Optio
         }
         rest = declaring(outer);
     }
-    match beforehand(prefix) {
-        Some(uri) => Some(uri),
-        None => None,
+    // what is declared beforehand
+    match prefix {
+        None => Some(""),
+        Some("xml") => Some(XML_URI),
+        Some(_) => None,
     }
 }
 
-/// Makes a name this one, in the buffers that it has.
-#[inline(always)]
-fn set_name(name: &mut Name, uri: &str, local: &str) -> Result<(), LineFault>
-    ensures { Gives clause_of (λ _. name_of name.new) result (Ok (record { ns = uri.now; local = local.now })) }
+/// The expanded name of an attribute inside these elements. A prefix that is not declared breaks P11.
+#[tactic(auto, unfolding(crate::specs::TagReader::attribute_name, crate::specs::LineReader::written_of))]
+fn attribute_name(
+    alloc: Global,
+    opened: &[OpenElement],
+    spares: &mut Spares,
+    name: String,
+) -> Result<Name, LineFault>
+    ensures { Gives clause_of name_of result (resolved (attribute_name (scope_of opened.now) (written_of (string_bytes name)))) }
 {
-    name.ns.clear();
-    if !uri.is_empty() {
-        name.ns.push_str(uri)?;
+    match cut_at(b':', name.as_str()) {
+        Some((prefix, local)) => match namespace(opened, Some(prefix)) {
+            Some(uri) => {
+                let expanded = Name {
+                    ns: spares.copy(alloc, uri)?,
+                    local: spares.copy(alloc, local)?,
+                };
+                spares.keep(name);
+                Ok(expanded)
+            }
+            None => Err(LineFault::Clause(11)),
+        },
+        None => Ok(Name {
+            ns: String::new(alloc),
+            local: name,
+        }),
     }
-    name.local.clear();
-    name.local.push_str(local)?;
+}
+
+/// Puts the attributes with their expanded names where none are.
+#[inline(never)]
+fn fill(
+    alloc: Global,
+    opened: &[OpenElement],
+    spares: &mut Spares,
+    others: Vec<WrittenAttribute>,
+    attrs: &mut Vec<Attr>,
+) -> Result<(), LineFault>
+    requires { attrs.old.items ≡ [] }
+    ensures { Gives clause_of (λ _. map attribute_of attrs.new.items) result
+        (resolved (expanded (scope_of opened.now) (map written_attribute others.items))) }
+{
+    'others: for attribute in others {
+        let name = attribute_name(alloc, opened, spares, attribute.name)?;
+        attrs.push(Attr {
+            name,
+            value: attribute.value,
+        })?;
+    }
     Ok(())
 }
 
-impl<'a> Scope<'a> {
-    /// The namespace of a prefix, or the default one.
-    #[tactic(auto, unfolding(crate::specs::TagReader::namespace_of, crate::specs::TagReader::found_in))]
-    #[inline(always)]
-    fn namespace(self, prefix: Option<&str>) -> Option<&'a str>
-        ensures { option_map (λ x. x.now) result ≡ namespace_of (scope_of self.entry) (option_map (λ x. x.now) prefix.entry) }
-    {
-        if self.declarations.is_empty() {
-            return outer_namespace(self.opened, prefix);
-        }
-        match found_in(prefix, self.declarations) {
-            Some(uri) => Some(uri),
-            None => outer_namespace(self.opened, prefix),
-        }
-    }
-
-    /// The expanded name of an element. A prefix that is not declared breaks P11.
-    #[tactic(auto, unfolding(crate::specs::TagReader::element_name, crate::specs::LineReader::written_of))]
-    #[inline(always)]
-    fn element_name(self, written: &str, name: &mut Name) -> Result<(), LineFault>
-        ensures { Gives clause_of (λ _. name_of name.new) result (resolved (element_name (scope_of self.entry) (written_of written.now))) }
-    {
-        let (prefix, local) = match cut_at(b':', written) {
-            Some((prefix, local)) => (Some(prefix), local),
-            None => (None, written),
-        };
-        match self.namespace(prefix) {
-            Some(uri) => set_name(name, uri, local),
-            None => Err(LineFault::Clause(11)),
-        }
-    }
-
-    /// That of an attribute.
-    #[tactic(auto, unfolding(crate::specs::TagReader::attribute_name, crate::specs::LineReader::written_of))]
-    fn attribute_name(
-        self,
-        alloc: Global,
-        spares: &mut Spares,
-        name: String,
-    ) -> Result<Name, LineFault>
-        ensures { Gives clause_of name_of result (resolved (attribute_name (scope_of self.entry) (written_of (string_bytes name)))) }
-    {
-        match cut_at(b':', name.as_str()) {
-            Some((prefix, local)) => match self.namespace(Some(prefix)) {
-                Some(uri) => {
-                    let expanded = Name {
-                        ns: spares.copy(alloc, uri)?,
-                        local: spares.copy(alloc, local)?,
-                    };
-                    spares.keep(name);
-                    Ok(expanded)
-                }
-                None => Err(LineFault::Clause(11)),
-            },
-            None => Ok(Name {
-                ns: String::new(alloc),
-                local: name,
-            }),
-        }
-    }
-
-    /// Puts the attributes with their expanded names where none are.
-    #[inline(never)]
-    fn fill(
-        self,
-        alloc: Global,
-        spares: &mut Spares,
-        others: Vec<WrittenAttribute>,
-        attrs: &mut Vec<Attr>,
-    ) -> Result<(), LineFault>
-        requires { attrs.old.items ≡ [] }
-        ensures { Gives clause_of (λ _. map attribute_of attrs.new.items) result
-            (resolved (expanded (scope_of self.entry) (map written_attribute others.items))) }
-    {
-        'others: for attribute in others {
-            let name = self.attribute_name(alloc, spares, attribute.name)?;
-            attrs.push(Attr {
-                name,
-                value: attribute.value,
-            })?;
-        }
-        Ok(())
-    }
-
-    /// The attributes with their expanded names, in place of those before.
-    #[inline(always)]
-    fn attributes(
-        self,
-        alloc: Global,
-        spares: &mut Spares,
-        others: &mut Vec<WrittenAttribute>,
-        attrs: &mut Vec<Attr>,
-    ) -> Result<(), LineFault>
-        ensures { Gives clause_of (λ _. map attribute_of attrs.new.items) result
-            (resolved (expanded (scope_of self.entry) (map written_attribute others.old.items))) }
-    {
-        attrs.clear();
-        if others.as_slice().is_empty() {
-            return Ok(());
-        }
-        self.fill(alloc, spares, mem::replace(others, Vec::new(alloc)), attrs)
-    }
-}
-
-/// Two expanded names are one.
-fn is_same_name(name: &Name, other: &Name) -> bool
-    ensures { result ≡ same_name (name_of name.now) (name_of other.now) }
+/// The attributes of the innermost element with their expanded names, in place of those before.
+#[inline(always)]
+pub fn expand_attributes(
+    alloc: Global,
+    opened: &[OpenElement],
+    spares: &mut Spares,
+    others: &mut Vec<WrittenAttribute>,
+    attrs: &mut Vec<Attr>,
+) -> Result<(), LineFault>
+    ensures { Gives clause_of (λ _. map attribute_of attrs.new.items) result
+        (resolved (expanded (scope_of opened.now) (map written_attribute others.old.items))) }
 {
-    name.local == other.local && name.ns == other.ns
+    attrs.clear();
+    if others.as_slice().is_empty() {
+        return Ok(());
+    }
+    fill(
+        alloc,
+        opened,
+        spares,
+        mem::replace(others, Vec::new(alloc)),
+        attrs,
+    )
 }
 
 /// One of these attributes has this name.
@@ -238,7 +169,9 @@ fn is_named_in(name: &Name, attrs: &[Attr]) -> bool
     ensures { result ≡ is_named_in (name_of name.now) (map attribute_of attrs.now) }
 {
     match attrs {
-        [first, rest @ ..] => is_same_name(&first.name, name) || is_named_in(name, rest),
+        [first, rest @ ..] => {
+            (first.name.local == name.local && first.name.ns == name.ns) || is_named_in(name, rest)
+        }
         [] => false,
     }
 }
@@ -252,40 +185,4 @@ pub fn is_named_twice(attrs: &[Attr]) -> bool
         [first, rest @ ..] => is_named_in(&first.name, rest) || is_named_twice(rest),
         [] => false,
     }
-}
-
-/// The start of an element, its names expanded.
-#[derive(Drop)]
-pub struct Element {
-    pub name: Name,
-    pub attrs: Vec<Attr>,
-}
-
-/// Makes an element that of a tag with this name, these declarations and these other `A` lines, inside the elements that are open.
-///
-/// P11 is broken where a declaration is not allowed or a prefix is not declared, else P12 where two of its `A` lines
-/// have one name or two attributes one expanded name. Namespaces in XML 1.0, sections 3 to 6.
-#[tactic(auto, unfolding(crate::specs::TagReader::tag_read))]
-#[inline(always)]
-pub fn expand_element(
-    alloc: Global,
-    scope: Scope<'_>,
-    spares: &mut Spares,
-    name: &str,
-    others: &mut Vec<WrittenAttribute>,
-    element: &mut Element,
-) -> Result<(), LineFault>
-    ensures { Gives clause_of (λ _. element_of element.new) result
-        (tag_read (declared_in (stack_of scope.entry.opened.now)) (written_of name.now)
-        (map written_attribute scope.entry.declarations.now) (map written_attribute others.old.items)) }
-{
-    if any_forbidden(scope.declarations) {
-        return Err(LineFault::Clause(11));
-    }
-    scope.element_name(name, &mut element.name)?;
-    scope.attributes(alloc, spares, others, &mut element.attrs)?;
-    if is_written_twice(scope.declarations) || is_named_twice(element.attrs.as_slice()) {
-        return Err(LineFault::Clause(12));
-    }
-    Ok(())
 }

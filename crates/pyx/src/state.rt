@@ -1,23 +1,25 @@
 // A document line by line.
-ghost use Rattle.std.specs.Prelude.{◌≡◌, ◌+◌, ◌<◌, ◌^◌, length, is_some, OnOk, string_bytes, true};
+ghost use Rattle.std.specs.Prelude.{◌≡◌, ◌+◌, ◌<◌, ◌^◌, length, is_some, IfOk, OnOk, string_bytes, true};
+ghost use Rattle.rng_model.specs.Answers.{Gives};
 ghost use Rattle.rng_model.specs.PyxLines as lines;
 ghost use Rattle.pyx.specs.DocumentReader as reader;
 ghost use Rattle.pyx.specs.DocumentReader.{declared_in};
+ghost use Rattle.pyx.specs.ElementView.{clause_of, element_at, written_attribute};
 ghost use Rattle.pyx.specs.Held.{state_held};
 ghost use Rattle.pyx.specs.LineReader.{attribute_of, kind_of, named, said_of, text_of, written_of};
 ghost use Rattle.pyx.specs.Pieces.{ended_line};
 ghost use Rattle.pyx.specs.TagReader.{declared_by, tag_read};
-ghost use Rattle.pyx.specs.View.{Adds, EndsBy, Hands, IsFault, Takes};
-ghost use Rattle.pyx.specs.View.{tag_of, line_of, state_of, stack_of, open_of, written_attribute};
+ghost use Rattle.pyx.specs.View.{Adds, EndsBy, Hands, Takes, line_of, state_of, tag_of};
 
 use crate::cuts::{behind, cut_at};
 use crate::escapes::append;
 use crate::fault::{LineFault, PyxFault};
 use crate::line::{Line, is_name, line_text};
-use crate::scope::{Element, OpenElement, Scope, expand_element, innermost, opened_len};
+use crate::opened::OpenElements;
+use crate::scope::{OpenElement, expand_attributes, innermost, is_named_twice, opened_len};
 use crate::spares::Spares;
-use crate::written::{WrittenAttribute, declared_by, is_same};
-use rng_model::{Event, EventKind, Events, Name, OutOfMemory};
+use crate::written::{WrittenAttribute, any_forbidden, declared_by, is_same, is_written_twice};
+use rng_model::{Attr, Event, EventKind, Events, OutOfMemory};
 use std::alloc::Global;
 use std::mem;
 
@@ -49,10 +51,10 @@ pub struct State {
     in_tag: bool,
     /// This tag, or buffers for the next.
     tag: Tag,
-    /// Buffers for the start that a tag is.
-    element: Element,
-    /// The elements that are open, the innermost last, without that of the tag.
-    opened: Vec<OpenElement>,
+    /// The attributes of the start that a tag is, or room for them.
+    attrs: Vec<Attr>,
+    /// The elements that are open, without that of the tag.
+    elements: OpenElements,
     /// The text since the last tag.
     joined: String,
     /// A root has begun.
@@ -83,17 +85,6 @@ impl Tag {
     }
 }
 
-/// Takes the innermost element away.
-#[inline(always)]
-fn close_innermost(opened: &mut Vec<OpenElement>, spares: &mut Spares)
-    ensures { stack_of opened.new.items ≡ reader.around (stack_of opened.old.items) }
-{
-    let closed = opened.pop();
-    if let Some(element) = closed {
-        spares.keep(element.name);
-    }
-}
-
 impl State {
     /// Nothing was read. Takes no memory.
     pub fn new(alloc: Global) -> Self
@@ -108,14 +99,8 @@ impl State {
                 others: Vec::new(alloc),
                 bytes: 0,
             },
-            element: Element {
-                name: Name {
-                    ns: String::new(alloc),
-                    local: String::new(alloc),
-                },
-                attrs: Vec::new(alloc),
-            },
-            opened: Vec::new(alloc),
+            attrs: Vec::new(alloc),
+            elements: OpenElements::new(alloc),
             joined: String::new(alloc),
             root: false,
             lines: 0,
@@ -127,7 +112,7 @@ impl State {
     pub fn held(&self) -> u64
         ensures { result ≡ state_held (state_of self.now) }
     {
-        let opened = opened_len(self.opened.as_slice());
+        let opened = opened_len(self.elements.elements());
         let tag = if self.in_tag { self.tag.bytes } else { 0 };
         tag.saturating_add(opened)
             .saturating_add(self.joined.len() as u64)
@@ -143,16 +128,40 @@ impl State {
         }
     }
 
-    /// The element of the tag is open, and its start is no longer in use.
-    fn open_tag(&mut self) -> Result<(), OutOfMemory>
-        ensures { OnOk result (state_of self.new ≡ reader.opened_by (tag_of self.old.tag) (state_of self.old)) }
+    /// The tag is whole: its element is open, with its attributes, and its name stands in the place that is told.
+    ///
+    /// P11 is broken where a declaration is not allowed or a prefix is not declared, else P12 where two of the `A` lines
+    /// have one name or two attributes one expanded name. Namespaces in XML 1.0, sections 3 to 6.
+    #[tactic(auto, unfolding(crate::specs::TagReader::tag_read))]
+    #[inline(always)]
+    fn open_tag(&mut self) -> Result<usize, LineFault>
+        ensures element { Gives clause_of (element_at self.new.elements.names self.new.attrs.items) result
+            (tag_read (declared_in self.old.elements.opened) (tag_of self.old.tag).name (tag_of self.old.tag).declared (tag_of self.old.tag).others) }
+        ensures inside { IfOk result (λ at. at < length self.new.elements.names) }
+        ensures opened { OnOk result (state_of self.new ≡ reader.opened_by (tag_of self.old.tag) (state_of self.old)) }
+        ensures lines { self.new.lines ≡ self.old.lines }
     {
-        self.spares.keep_all(&mut self.element.attrs);
         let name = mem::replace(&mut self.tag.name, String::new(self.alloc));
         let declarations = mem::replace(&mut self.tag.declarations, Vec::new(self.alloc));
-        self.opened.push(OpenElement { name, declarations })?;
+        if any_forbidden(declarations.as_slice()) {
+            return Err(LineFault::Clause(11));
+        }
+        let twice = is_written_twice(declarations.as_slice());
         self.in_tag = false;
-        Ok(())
+        let at = self
+            .elements
+            .open(self.alloc, OpenElement { name, declarations })?;
+        expand_attributes(
+            self.alloc,
+            self.elements.elements(),
+            &mut self.spares,
+            &mut self.tag.others,
+            &mut self.attrs,
+        )?;
+        if twice || is_named_twice(self.attrs.as_slice()) {
+            return Err(LineFault::Clause(12));
+        }
+        Ok(at)
     }
 
     /// Hands out the start of the tag that was read.
@@ -161,29 +170,17 @@ impl State {
         requires tag { self.old.in_tag ≡ true }
         ensures { Takes result (state_of self.new) (Hands E.stands events.old events.new) (reader.close_tag (state_of self.old).tag (state_of self.old)) }
     {
-        let scope = Scope {
-            declarations: self.tag.declarations.as_slice(),
-            opened: self.opened.as_slice(),
-        };
-        let name = self.tag.name.as_str();
-        match expand_element(
-            self.alloc,
-            scope,
-            &mut self.spares,
-            name,
-            &mut self.tag.others,
-            &mut self.element,
-        ) {
-            Ok(()) => {
+        match self.open_tag() {
+            Ok(at) => {
                 let kind = EventKind::Start {
-                    name: &self.element.name,
-                    attrs: self.element.attrs.as_slice(),
+                    name: self.elements.name(at),
+                    attrs: self.attrs.as_slice(),
                 };
                 events.event(Event {
                     line: self.lines + 1,
                     kind,
                 })?;
-                self.open_tag()?;
+                self.spares.keep_all(&mut self.attrs);
                 Ok(())
             }
             Err(LineFault::Clause(clause)) => Err(self.fault(clause)),
@@ -234,10 +231,10 @@ impl State {
         if !is_name(name) {
             return Err(self.fault(6));
         }
-        if self.root && self.opened.is_empty() {
+        if self.root && self.elements.elements().is_empty() {
             return Err(self.fault(9));
         }
-        if self.opened.len() >= OPEN_LIMIT {
+        if self.elements.elements().len() >= OPEN_LIMIT {
             return Err(self.fault(10));
         }
         self.end_text(events)?;
@@ -300,7 +297,7 @@ impl State {
         if !append(&mut self.joined, text)? {
             return Err(self.fault(5));
         }
-        if self.opened.is_empty() {
+        if self.elements.elements().is_empty() {
             return Err(self.fault(9));
         }
         if self.joined.len() > TEXT_LIMIT {
@@ -319,7 +316,7 @@ impl State {
         if !is_name(name) {
             return Err(self.fault(6));
         }
-        let Some((element, _)) = innermost(self.opened.as_slice()) else {
+        let Some((element, _)) = innermost(self.elements.elements()) else {
             return Err(self.fault(8));
         };
         if !is_same(element.name.as_str(), name) {
@@ -331,7 +328,7 @@ impl State {
             line: self.lines,
             kind,
         })?;
-        close_innermost(&mut self.opened, &mut self.spares);
+        self.elements.close(&mut self.spares);
         Ok(())
     }
 
@@ -393,61 +390,21 @@ impl State {
         }
     }
 
-    /// Nothing comes behind these lines.
+    /// Nothing comes behind these lines. A tag that nothing follows is judged, and its element is not ended.
     #[tactic(auto, unfolding(crate::specs::DocumentReader::at_end))]
-    pub fn finish(self) -> Result<(), PyxFault>
+    pub fn finish(mut self) -> Result<(), PyxFault>
         ensures { EndsBy result (reader.at_end (state_of self)) }
     {
-        let State {
-            alloc,
-            in_tag,
-            tag,
-            element,
-            opened,
-            root,
-            lines,
-            spares,
-            ..
-        } = self;
-        if in_tag {
-            return Err(unfinished(alloc, opened.as_slice(), spares, tag, element, lines));
+        if !self.in_tag {
+            if self.root && self.elements.elements().is_empty() {
+                return Ok(());
+            }
+            return Err(self.fault(13));
         }
-        if root && opened.is_empty() {
-            return Ok(());
+        match self.open_tag() {
+            Ok(_) => Err(self.fault(13)),
+            Err(LineFault::Clause(clause)) => Err(self.fault(clause)),
+            Err(LineFault::Memory) => Err(PyxFault::Memory),
         }
-        Err(PyxFault::At {
-            clause: 13,
-            line: lines,
-        })
-    }
-}
-
-/// A tag that nothing follows, which ends at this line: what it breaks itself, or that its element is not ended.
-fn unfinished(
-    alloc: Global,
-    opened: &[OpenElement],
-    mut spares: Spares,
-    tag: Tag,
-    mut element: Element,
-    line: u64,
-) -> PyxFault
-    ensures { IsFault result (reader.unfinished line
-        (tag_read (declared_in (stack_of opened.now)) (tag_of tag).name (tag_of tag).declared (tag_of tag).others)) }
-{
-    let Tag {
-        name,
-        declarations,
-        mut others,
-        ..
-    } = tag;
-    let scope = Scope {
-        declarations: declarations.as_slice(),
-        opened,
-    };
-    let name = name.as_str();
-    match expand_element(alloc, scope, &mut spares, name, &mut others, &mut element) {
-        Err(LineFault::Clause(clause)) => PyxFault::At { clause, line },
-        Err(LineFault::Memory) => PyxFault::Memory,
-        Ok(()) => PyxFault::At { clause: 13, line },
     }
 }

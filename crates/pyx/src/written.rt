@@ -6,7 +6,7 @@ ghost use Rattle.pyx.specs.LineReader.{written_of};
 ghost use Rattle.pyx.specs.TagReader.{declared_by, declares, found_in, is_forbidden, any_forbidden, is_written_in, is_written_twice, same_written};
 ghost use Rattle.rng_model.specs.PyxHeld.{name_length};
 ghost use Rattle.pyx.specs.Held.{declarations_held};
-ghost use Rattle.pyx.specs.View.{written_attribute};
+ghost use Rattle.pyx.specs.ElementView.{written_attribute};
 
 use crate::cuts::cut_at;
 

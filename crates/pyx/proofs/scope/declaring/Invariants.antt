@@ -1,12 +1,11 @@
 use Rattle.std.proofs.Common.{◌≡◌, ◌≤◌, ℕ, List, Option, length}
-use Rattle.pyx.specs.DocumentReader.{declared_in}
 use Rattle.pyx.specs.TagReader.{namespace_of}
-use Rattle.pyx.specs.View.{stack_of}
+use Rattle.pyx.specs.ElementView.{scope_of}
 use Rattle.pyx.proofs.scope.declaring.Given as goal
 
 abbrev pub invariant-elements : goal.invariant-elements
 invariant-elements l = record {
-  same : (prefix : Option (List ℕ)) → namespace_of (declared_in (stack_of l.rest)) prefix ≡ namespace_of (declared_in (stack_of l.fn.opened)) prefix;
+  same : (prefix : Option (List ℕ)) → namespace_of (scope_of l.rest) prefix ≡ namespace_of (scope_of l.fn.opened) prefix;
   within : length l.rest ≤ length l.fn.opened;
 }
 

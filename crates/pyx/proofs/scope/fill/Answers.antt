@@ -4,9 +4,9 @@ use Rattle.std.proofs.lemmas.Result.{err_from_is_err_and}
 use Rattle.std.specs.Vec.Iter.{into_iter_items}
 use Rattle.rng_model.specs.View.{attribute_of, name_of}
 use Rattle.pyx.specs.TagReader.{attribute_name, expanded}
-use Rattle.pyx.specs.View.{scope_of, written_attribute}
+use Rattle.pyx.specs.ElementView.{scope_of, written_attribute}
 use Rattle.pyx.proofs.ExpandedAttributes.{one_more, is_stuck, resolved_some, refuses_all}
-use Rattle.pyx.proofs.scope.Scope.fill.Goals as goal
+use Rattle.pyx.proofs.scope.fill.Goals as goal
 
 pub others-init : goal.others-init
 unfolding expanded
@@ -20,16 +20,16 @@ returns-in_err-name c =
     written_attribute rest =
     ap (map written_attribute) (sym c.others.invariant.all ∙ ap (λ r. c.others.yielded ++ r) c.in-Some.ensures.steps.0)
     ∙ map-append written_attribute c.others.yielded (c.in-Some.attribute ∷ rest) in
-    rw (p.1, p.2, parts) (refuses_all (attribute_name (scope_of c.args.self) (written_attribute c.in-Some.attribute).name) _ c.in_err-name.field-0.0
-    (is_stuck (scope_of c.args.self) (map written_attribute c.others.yielded) (map written_attribute rest) (written_attribute c.in-Some.attribute) _
+    rw (p.1, p.2, parts) (refuses_all (attribute_name (scope_of c.args.opened.now) (written_attribute c.in-Some.attribute).name) _ c.in_err-name.field-0.0
+    (is_stuck (scope_of c.args.opened.now) (map written_attribute c.others.yielded) (map written_attribute rest) (written_attribute c.in-Some.attribute) _
     c.others.invariant.so_far)
     (search rules))
 
 pub others-preserved : goal.others-preserved
 others-preserved c = record {
   so_far = rw (map_push written_attribute c.others.yielded c.in-Some.attribute, c.in_ok-push.ensures.items, map_push attribute_of)
-      (one_more (scope_of c.args.self) (map written_attribute c.others.yielded) (written_attribute c.in-Some.attribute) (map attribute_of c.others.attrs.items)
-      (name_of c.in_ok-name.name) c.others.invariant.so_far (resolved_some _ _ (search rules)));
+      (one_more (scope_of c.args.opened.now) (map written_attribute c.others.yielded) (written_attribute c.in-Some.attribute)
+      (map attribute_of c.others.attrs.items) (name_of c.in_ok-name.name) c.others.invariant.so_far (resolved_some _ _ (search rules)));
   all = append_assoc c.others.yielded (c.in-Some.attribute ∷ []) (into_iter_items c.next.new.self)
       ∙ ap (λ r. c.others.yielded ++ r) (sym c.in-Some.ensures.steps.0) ∙ c.others.invariant.all;
 }

@@ -1,0 +1,130 @@
+// Names that were looked up.
+ghost use Rattle.std.specs.Prelude.{◌≡◌, ◌<◌, ◌≤◌, ℕ, length, IfOk, IfSome, OnOk, Some};
+ghost use Rattle.rng_model.specs.View.{name_of};
+ghost use Rattle.pyx.specs.LineReader.{written_of};
+ghost use Rattle.pyx.specs.TagReader.{Declared, element_name};
+ghost use Rattle.pyx.specs.ElementView.{AreKnown, IsKnown, name_at, names_of};
+
+use rng_model::{Name, OutOfMemory};
+use std::alloc::Global;
+
+/// How many names are kept, a power of two.
+const COUNT: usize = 256;
+
+/// How many bytes a name may have, and its namespace, to be kept in a place of its own.
+const SIZE_LIMIT: usize = 1_024;
+
+/// A name as it is written, and what it stood for when it was looked up.
+#[derive(Drop)]
+pub struct KnownName {
+    /// The round in which it was looked up; before the first, nothing was.
+    pub round: u64,
+    pub written: String,
+    pub name: Name,
+}
+
+impl KnownName {
+    /// Makes it this name, looked up in this round, in the buffers that it has.
+    fn learn(
+        &mut self,
+        round: u64,
+        written: &str,
+        uri: &str,
+        local: &str,
+    ) -> Result<(), OutOfMemory>
+        requires { 0 < round }
+        ensures known { (scope : Declared) → element_name scope (written_of written.now) ≡ Some (record { ns = uri.now; local = local.now })
+            → IsKnown scope round self.new }
+        ensures name { OnOk result (name_of self.new.name ≡ record { ns = uri.now; local = local.now }) }
+    {
+        self.round = 0;
+        self.written.clear();
+        self.written.push_str(written)?;
+        self.name.ns.clear();
+        if !uri.is_empty() {
+            self.name.ns.push_str(uri)?;
+        }
+        self.name.local.clear();
+        self.name.local.push_str(local)?;
+        self.round = round;
+        Ok(())
+    }
+}
+
+/// No name that is known stays so: the next round begins.
+pub fn forget(round: &mut u64, known: &mut Vec<KnownName>)
+    ensures { (old new : Declared) → AreKnown old round.old known.old.items → AreKnown new round.new known.new.items }
+{
+    match round.checked_add(1) {
+        Some(next) => *round = next,
+        None => known.clear(),
+    }
+}
+
+/// The place of a name, by its bytes.
+#[inline(always)]
+fn place_of(written: &str) -> usize
+    ensures { result < 256 }
+{
+    let mut sum: u32 = 0;
+    for byte in written.as_bytes() {
+        sum = (sum ^ (*byte as u32)).wrapping_mul(16_777_619);
+    }
+    ((sum >> 8) as usize) % COUNT
+}
+
+/// A place is there for each name.
+fn make_places(alloc: Global, known: &mut Vec<KnownName>) -> Result<(), OutOfMemory>
+    ensures known { (scope : Declared) (round : ℕ) → AreKnown scope round known.old.items → AreKnown scope round known.new.items }
+    ensures places { OnOk result (256 ≤ length known.new.items) }
+{
+    'places: while known.len() < COUNT {
+        known.push(KnownName {
+            round: 0,
+            written: String::new(alloc),
+            name: Name {
+                ns: String::new(alloc),
+                local: String::new(alloc),
+            },
+        })?;
+    }
+    Ok(())
+}
+
+/// The place of a name that was looked up in this round, if it is kept there.
+#[inline(always)]
+pub fn find(known: &[KnownName], round: u64, written: &str) -> Option<usize>
+    ensures { IfSome result (λ at. (at < length known.now) × ((scope : Declared) → AreKnown scope round known.now
+        → element_name scope (written_of written.now) ≡ Some (name_at (names_of known.now) at))) }
+{
+    let at = place_of(written);
+    match known.get(at) {
+        Some(name) if name.round == round && name.written.as_str() == written => Some(at),
+        _ => None,
+    }
+}
+
+/// Keeps what a name stands for, looked up in this round, and tells its place. One with many bytes goes to the first place.
+pub fn learn(
+    alloc: Global,
+    known: &mut Vec<KnownName>,
+    round: u64,
+    written: &str,
+    uri: &str,
+    local: &str,
+) -> Result<usize, OutOfMemory>
+    requires { 0 < round }
+    ensures known { (scope : Declared) → element_name scope (written_of written.now) ≡ Some (record { ns = uri.now; local = local.now })
+        → AreKnown scope round known.old.items → AreKnown scope round known.new.items }
+    ensures name { IfOk result (λ at. (at < length known.new.items) × (name_at (names_of known.new.items) at ≡ record { ns = uri.now; local = local.now })) }
+{
+    make_places(alloc, known)?;
+    let at = if written.len() <= SIZE_LIMIT && uri.len() <= SIZE_LIMIT {
+        place_of(written)
+    } else {
+        0
+    };
+    let name = &mut known[at];
+    name.learn(round, written, uri, local)?;
+    Ok(at)
+}
