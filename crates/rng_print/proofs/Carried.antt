@@ -23,7 +23,8 @@ each_of : {A : Type 0} (P Q : A → Type 0) (xs : List A) → ((a : A) → P a �
 each_of P Q [] f h = tt
 each_of P Q (x ∷ xs) f h = (f x h.0, each_of P Q xs f h.1)
 
-module _ {A B : Type 0} (same : A → A → Bool) (alike : B → B → Bool) (f : A → B) (R : A → Type 0) (tests : (a b : A) → R a → R b → alike (f a) (f b) ≡ same a b) where
+module _ {A B : Type 0} (same : A → A → Bool) (alike : B → B → Bool) (f : A → B) (R : A → Type 0)
+    (tests : (a b : A) → R a → R b → alike (f a) (f b) ≡ same a b) where
   has_map : (w : List A) (z : A) → AllByRecursion R w → R z → has alike (map f w) (f z) ≡ has same w z
   has_map [] z h r = refl
   has_map (x ∷ w) z h r = rw (tests z x r h.0, has_map w z h.1 r) refl
@@ -50,14 +51,16 @@ module _ {A B : Type 0} (same : A → A → Bool) (alike : B → B → Bool) (f 
   and_map w [] h i = refl
   and_map w (z ∷ zs) h i = and_map (with_new same w z) zs (with_all w z h i.0) i.1 ∙ ap (λ (x : List B). and_new alike x (map f zs)) (with_map w z h i.0)
 
-  module _ (start : List A) (line : A → List A) (begin : List B) (lane : B → List B) (starts : begin ≡ map f start) (lines : (a : A) → R a → lane (f a) ≡ map f (line a)) (start_all : AllByRecursion R start) (line_all : (a : A) → R a → AllByRecursion R (line a)) where
+  module _ (start : List A) (line : A → List A) (begin : List B) (lane : B → List B) (starts : begin ≡ map f start)
+      (lines : (a : A) → R a → lane (f a) ≡ map f (line a)) (start_all : AllByRecursion R start) (line_all : (a : A) → R a → AllByRecursion R (line a)) where
     reached_all : (a : A) → IsReached same start line a → R a
     reached_all a (at_start {a = x} c) = all_contained R start start_all x c
     reached_all a (in_line {a = y} {x} r c) = all_contained R (line x) (line_all x (reached_all x r)) y c
 
     reached_map : (a : A) → IsReached same start line a → IsReached alike begin lane (f a)
     reached_map a (at_start {a = x} c) = at_start (subst (λ (z : List B). Contains z (f x)) (sym starts) (contains_map f start x c))
-    reached_map a (in_line {a = y} {x} r c) = in_line (reached_map x r) (subst (λ (z : List B). Contains z (f y)) (sym (lines x (reached_all x r))) (contains_map f (line x) y c))
+    reached_map a (in_line {a = y} {x} r c) =
+        in_line (reached_map x r) (subst (λ (z : List B). Contains z (f y)) (sym (lines x (reached_all x r))) (contains_map f (line x) y c))
 
     flat_map_map : (xs : List A) → AllByRecursion R xs → map f (flat_map line xs) ≡ flat_map lane (map f xs)
     flat_map_map [] h = refl
@@ -77,10 +80,12 @@ module _ {A B : Type 0} (same : A → A → Bool) (alike : B → B → Bool) (f 
     pub carried : (xs : List A) → IsNumbering same start line xs → AllByRecursion R xs × IsNumbering alike begin lane (map f xs)
     carried xs n =
         let h = all_of xs n in
-        let e : map f (start ++ flat_map line xs) ≡ begin ++ flat_map lane (map f xs) = map_append f start (flat_map line xs) ∙ rw (starts, flat_map_map xs h) refl in (
+        let e : map f (start ++ flat_map line xs) ≡ begin ++ flat_map lane (map f xs) =
+        map_append f start (flat_map line xs) ∙ rw (starts, flat_map_map xs h) refl in (
           h,
           record {
-            in_order = ap (map f) n.in_order ∙ and_map [] (start ++ flat_map line xs) tt (all_append R start (flat_map line xs) start_all (flat_all xs h)) ∙ ap (first_times alike) e;
+            in_order = ap (map f) n.in_order ∙ and_map [] (start ++ flat_map line xs) tt (all_append R start (flat_map line xs) start_all (flat_all xs h))
+                ∙ ap (first_times alike) e;
             reached = map_reached xs n.reached;
           },
         )

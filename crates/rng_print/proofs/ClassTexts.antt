@@ -1,5 +1,6 @@
 -- The text of a choice of two name classes.
-use Rattle.std.proofs.Common.{◌≡◌, ◌∙◌, ℕ, ◌≤◌, ◌<◌, Bool, true, false, cond, List, [], ◌∷◌, ◌++◌, length, map, get_or, refl, sym, ap, append_assoc, codes, arith, Vec, Global}
+use Rattle.std.proofs.Common.{◌≡◌, ◌∙◌, ℕ, ◌≤◌, ◌<◌, Bool, true, false, cond, List, [], ◌∷◌, ◌++◌, length, map, get_or, refl, sym, ap, append_assoc, codes}
+use Rattle.std.proofs.Common.{arith, Vec, Global}
 use Rattle.std.specs.Prelude.{◌||◌}
 use Rattle.std.proofs.lemmas.List.{append-nil}
 use Rattle.rng_model.specs.Names.{no_classes, one_of, some_of}
@@ -20,18 +21,23 @@ parted true old w = simp append_assoc refl
 parted false old w = append-nil ((old ++ []) ++ w) ∙ ap (λ x. x ++ w) (append-nil old)
 
 -- a choice of two members
-pub choice_written : (class : NameClass) (members : Vec NameClass Global) (xs : List NameClass) (ns : List (List ℕ)) (l r : NameClass) (first second : Bool) (old : List ℕ)
+pub choice_written : (class : NameClass) (members : Vec NameClass Global) (xs : List NameClass) (ns : List (List ℕ)) (l r : NameClass) (first second : Bool)
+    (old : List ℕ)
     → class ≡ Choice members → xs ≡ members.items → 2 ≤ length xs → length xs < 3 → l ≡ get_or xs 0 l → r ≡ get_or xs 1 r
     → first ≡ is_except (class_of l) → second ≡ (is_choice (class_of r) || is_except (class_of r))
-    → ((((((old ++ cond first (codes "(") []) ++ class_text ns (class_of l)) ++ cond first (codes ")") []) ++ codes " | ") ++ cond second (codes "(") []) ++ class_text ns (class_of r)) ++ cond second (codes ")") []
+    → ((((((old ++ cond first (codes "(") []) ++ class_text ns (class_of l)) ++ cond first (codes ")") []) ++ codes " | ") ++ cond second (codes "(") [])
+    ++ class_text ns (class_of r)) ++ cond second (codes ")") []
     ≡ old ++ class_text ns (class_of class)
 choice_written class members xs ns l r first second old is items a b e f p q =
-    let two : class_of class ≡ one_of (class_of l) (class_of r) no_classes = choice_is class members xs is items ∙ ap (λ ys. some_of (map class_of ys)) (two_items xs l r a b e f) in
+    let two : class_of class ≡ one_of (class_of l) (class_of r) no_classes =
+    choice_is class members xs is items ∙ ap (λ ys. some_of (map class_of ys)) (two_items xs l r a b e f) in
     parted second _ (class_text ns (class_of r))
     ∙ ap (λ x. (x ++ codes " | ") ++ in_parentheses_if second (class_text ns (class_of r))) (parted first old (class_text ns (class_of l)))
     ∙ ap (λ x. ((old ++ in_parentheses_if x (class_text ns (class_of l))) ++ codes " | ") ++ in_parentheses_if second (class_text ns (class_of r))) p
-    ∙ ap (λ x. ((old ++ in_parentheses_if (is_except (class_of l)) (class_text ns (class_of l))) ++ codes " | ") ++ in_parentheses_if x (class_text ns (class_of r))) q
+    ∙ ap (λ x. ((old ++ in_parentheses_if (is_except (class_of l)) (class_text ns (class_of l))) ++ codes " | ")
+    ++ in_parentheses_if x (class_text ns (class_of r))) q
     ∙ append_assoc (old ++ in_parentheses_if (is_except (class_of l)) (class_text ns (class_of l))) (codes " | ") _
     ∙ append_assoc old (in_parentheses_if (is_except (class_of l)) (class_text ns (class_of l))) _
-    ∙ ap (λ x. old ++ (in_parentheses_if (is_except (class_of l)) (class_text ns (class_of l)) ++ (codes " | " ++ x))) (sym (append-nil (in_parentheses_if (is_choice (class_of r) || is_except (class_of r)) (class_text ns (class_of r)))))
+    ∙ ap (λ x. old ++ (in_parentheses_if (is_except (class_of l)) (class_text ns (class_of l)) ++ (codes " | " ++ x)))
+    (sym (append-nil (in_parentheses_if (is_choice (class_of r) || is_except (class_of r)) (class_text ns (class_of r)))))
     ∙ ap (λ x. old ++ class_text ns x) (sym two)

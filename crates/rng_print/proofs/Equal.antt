@@ -4,7 +4,8 @@ use Rattle.std.specs.Prelude.{◌&&◌, ◌==◌}
 use Rattle.std.specs.Str.{bytes_eq}
 use Rattle.std.proofs.lemmas.Bool.{and_parts, eqb-true, eq-eqb, false_from_ne_true}
 use Rattle.rng_model.specs.Names.{Name, NameClass, any_name, any_except, ns_name, ns_except, name_is, one_of, NameClasses, no_classes, class_and}
-use Rattle.rng_model.specs.Tree.{Datatype, Connector, choice, group, interleave, Simple, s_not_allowed, s_empty, s_text, s_leaf, s_attribute, s_list, s_data, s_data_except, s_value, s_one_or_more, s_joined}
+use Rattle.rng_model.specs.Tree.{Datatype, Connector, choice, group, interleave, Simple, s_not_allowed, s_empty, s_text, s_leaf, s_attribute, s_list, s_data}
+use Rattle.rng_model.specs.Tree.{s_data_except, s_value, s_one_or_more, s_joined}
 use Rattle.rng_print.specs.Same.{same_name, same_class, same_classes, same_parameters, same_datatype, same_connector, same_tree}
 use Rattle.rng_print.specs.PrintedText.{Item, element, pattern, same_item}
 use Rattle.rng_print.proofs.Booleans.{false_true}
@@ -52,7 +53,8 @@ mutual
   class_itself (ns_name u) = bytes_itself u
   class_itself (ns_except u c) = both_true (bytes_eq u u) (same_class c c) (bytes_itself u) (class_itself c)
   class_itself (name_is n) = name_itself n
-  class_itself (one_of c d cs) = both_true (same_class c c) _ (class_itself c) (both_true (same_class d d) (same_classes cs cs) (class_itself d) (classes_itself cs))
+  class_itself (one_of c d cs) =
+      both_true (same_class c c) _ (class_itself c) (both_true (same_class d d) (same_classes cs cs) (class_itself d) (classes_itself cs))
 
   classes_itself : (cs : NameClasses) → same_classes cs cs ≡ true
   classes_itself no_classes = refl
@@ -89,7 +91,8 @@ mutual
 
 parameters_itself : (ps : List (List ℕ × List ℕ)) → same_parameters ps ps ≡ true
 parameters_itself [] = refl
-parameters_itself (p ∷ ps) = both_true (bytes_eq p.0 p.0 && bytes_eq p.1 p.1) _ (both_true (bytes_eq p.0 p.0) _ (bytes_itself p.0) (bytes_itself p.1)) (parameters_itself ps)
+parameters_itself (p ∷ ps) =
+    both_true (bytes_eq p.0 p.0 && bytes_eq p.1 p.1) _ (both_true (bytes_eq p.0 p.0) _ (bytes_itself p.0) (bytes_itself p.1)) (parameters_itself ps)
 
 parameters_exact : (ps qs : List (List ℕ × List ℕ)) → same_parameters ps qs ≡ true → ps ≡ qs
 parameters_exact [] [] e = refl
@@ -104,7 +107,9 @@ parameters_exact (p ∷ ps) (q ∷ qs) e =
     ap (λ (x : List ℕ). (x, p.1) ∷ ps) a ∙ ap (λ (x : List ℕ). (q.0, x) ∷ ps) b ∙ ap (λ (x : List (List ℕ × List ℕ)). q ∷ x) c
 
 datatype_itself : (d : Datatype) → same_datatype d d ≡ true
-datatype_itself d = both_true (bytes_eq d.library d.library) _ (bytes_itself d.library) (both_true (bytes_eq d.name d.name) _ (bytes_itself d.name) (parameters_itself d.parameters))
+datatype_itself d =
+    both_true (bytes_eq d.library d.library) _ (bytes_itself d.library)
+    (both_true (bytes_eq d.name d.name) _ (bytes_itself d.name) (parameters_itself d.parameters))
 
 datatype_exact : (d e : Datatype) → same_datatype d e ≡ true → d ≡ e
 datatype_exact d e h =
@@ -113,7 +118,9 @@ datatype_exact d e h =
     let a = bytes_exact d.library e.library p.0 in
     let b = bytes_exact d.name e.name q.0 in
     let c = parameters_exact d.parameters e.parameters q.1 in
-    ap (λ (x : List ℕ). record { library = x; name = d.name; parameters = d.parameters }) a ∙ ap (λ (x : List ℕ). record { library = e.library; name = x; parameters = d.parameters }) b ∙ ap (λ (x : List (List ℕ × List ℕ)). record { library = e.library; name = e.name; parameters = x }) c
+    ap (λ (x : List ℕ). record { library = x; name = d.name; parameters = d.parameters }) a
+    ∙ ap (λ (x : List ℕ). record { library = e.library; name = x; parameters = d.parameters }) b
+    ∙ ap (λ (x : List (List ℕ × List ℕ)). record { library = e.library; name = e.name; parameters = x }) c
 
 connector_itself : (k : Connector) → same_connector k k ≡ true
 connector_itself choice = refl

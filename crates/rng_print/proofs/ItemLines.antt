@@ -35,7 +35,8 @@ module _ (t : Table) where
     are = h;
     order = e ∙ ap (first_times same_item) (sym (append-nil first));
     reached = subst (AllByRecursion (IsReached same_item first line)) (sym e)
-        (and_all same_item item_exact item_itself first line (IsReached same_item first line) [] first tt (all_each (IsReached same_item first line) first (λ a c. at_start c)));
+        (and_all same_item item_exact item_itself first line (IsReached same_item first line) [] first tt
+        (all_each (IsReached same_item first line) first (λ a c. at_start c)));
   }
 
   -- one line more

@@ -32,7 +32,8 @@ pattern_test : (t : Table) → AreToldApart t → (p q : PatternId) → p.0 < le
 pattern_test t apart p q i j =
     same_truth (same_tree (tree_at t.patterns p) (tree_at t.patterns q)) (p.0 == q.0)
     (λ e. subst (λ n. (p.0 == n) ≡ true) (apart p.0 q.0 i j (tree_exact (tree_at t.patterns p) (tree_at t.patterns q) e)) (number_itself p.0))
-    (λ e. subst (λ n. same_tree (tree_at t.patterns p) (tree_at t.patterns (record { 0 = n })) ≡ true) (eqb-true p.0 q.0 e) (tree_itself (tree_at t.patterns p)))
+    (λ e. subst (λ n. same_tree (tree_at t.patterns p) (tree_at t.patterns (record { 0 = n })) ≡ true) (eqb-true p.0 q.0 e)
+    (tree_itself (tree_at t.patterns p)))
 
 item_test : (t : Table) → AreToldApart t → (x y : Item) → IsInside t x → IsInside t y → same_item (item_at t x) (item_at t y) ≡ same_number x y
 item_test t apart (variants.Element d) (variants.Element e) i j = refl
@@ -42,11 +43,13 @@ item_test t apart (variants.Pattern p) (variants.Pattern q) i j = pattern_test t
 
 -- ---- one more item
 
-pub items_with : (t : Table) (old new : Items) (x : Item) → AreItems t old → IsInside t x → AreIndexed new → new.all.items ≡ with_new same_number old.all.items x → AreItems t new
+pub items_with : (t : Table) (old new : Items) (x : Item) → AreItems t old → IsInside t x → AreIndexed new
+    → new.all.items ≡ with_new same_number old.all.items x → AreItems t new
 items_with t old new x h i indexed e = record {
   table = h.table;
   apart = h.apart;
-  inside = subst (AllByRecursion (IsInside t)) (sym e) (with_all same_number same_item (item_at t) (IsInside t) (item_test t h.apart) old.all.items x h.inside i);
+  inside = subst (AllByRecursion (IsInside t)) (sym e)
+      (with_all same_number same_item (item_at t) (IsInside t) (item_test t h.apart) old.all.items x h.inside i);
   indexed = indexed;
 }
 
@@ -89,7 +92,8 @@ module _ (old new : Items) (e : ElementId) (h : AreIndexed old) (patterns : new.
     all ∙ ap (λ b. cond b old.all.items (old.all.items ++ variants.Element e ∷ [])) (sym w ∙ was_is),
   )
 
-  pub element_new : was ≡ false → new.elements.keys ≡ cond was old.elements.keys (old.elements.keys ++ e ∷ []) → new.all.items ≡ old.all.items ++ variants.Element e ∷ []
+  pub element_new : was ≡ false → new.elements.keys ≡ cond was old.elements.keys (old.elements.keys ++ e ∷ [])
+      → new.all.items ≡ old.all.items ++ variants.Element e ∷ []
       → AreIndexed new × (new.all.items ≡ with_new same_number old.all.items (variants.Element e))
   element_new w keys all = (
     record {
@@ -121,7 +125,8 @@ module _ (old new : Items) (p : PatternId) (h : AreIndexed old) (elements : new.
     all ∙ ap (λ b. cond b old.all.items (old.all.items ++ variants.Pattern p ∷ [])) (sym w ∙ stood_is),
   )
 
-  pub pattern_new : stood ≡ false → new.patterns.keys ≡ cond stood old.patterns.keys (old.patterns.keys ++ p ∷ []) → new.all.items ≡ old.all.items ++ variants.Pattern p ∷ []
+  pub pattern_new : stood ≡ false → new.patterns.keys ≡ cond stood old.patterns.keys (old.patterns.keys ++ p ∷ [])
+      → new.all.items ≡ old.all.items ++ variants.Pattern p ∷ []
       → AreIndexed new × (new.all.items ≡ with_new same_number old.all.items (variants.Pattern p))
   pattern_new w keys all = (
     record {
@@ -161,11 +166,13 @@ pub name_is : (t : Table) (items : Items) (x : Item) → AreItems t items → Is
 name_is t items (variants.Element e) h i =
     ap (λ n. codes "e" ++ decimal n)
     (ap (position_or_len (λ d. e.0 == d.0)) h.indexed.elements
-    ∙ sym (place_map (λ d e. d.0 == e.0) (λ k l. k == l) (λ e. e.0) (λ e. Unit {0}) (λ a b p q. refl) (filter_map element_of items.all.items) e (any_elements _) tt)
+    ∙ sym (place_map (λ d e. d.0 == e.0) (λ k l. k == l) (λ e. e.0) (λ e. Unit {0}) (λ a b p q. refl) (filter_map element_of items.all.items) e
+    (any_elements _) tt)
     ∙ ap (λ ks. place_in (λ k l. k == l) ks e.0) (sym (elements_seen t items.all.items)))
 name_is t items (variants.Pattern p) h i =
     ap (λ n. codes "p" ++ decimal n)
     (ap (position_or_len (λ q. p.0 == q.0)) h.indexed.patterns
-    ∙ sym (place_map (λ p q. p.0 == q.0) same_tree (tree_at t.patterns) (λ p. p.0 < length t.patterns) (pattern_test t h.apart) (filter_map pattern_of items.all.items) p
+    ∙ sym (place_map (λ p q. p.0 == q.0) same_tree (tree_at t.patterns) (λ p. p.0 < length t.patterns) (pattern_test t h.apart)
+    (filter_map pattern_of items.all.items) p
     (patterns_inside t items.all.items h.inside) i)
     ∙ ap (λ ts. place_in same_tree ts (tree_at t.patterns p)) (sym (patterns_seen t items.all.items)))

@@ -39,7 +39,8 @@ element_by t k o e =
     sym (unwrap_or-slice_get (map (seen t) t.elements) k (any_name, tree.s_not_allowed))
     ∙ ap (λ o. unwrap_or o (any_name, tree.s_not_allowed)) (slice_get-map (seen t) t.elements k ∙ ap (option_map (seen t)) e)
 
-pub element_is : (t : Table) (k : ℕ) (e : NameClass × PatternId) → slice_get t.elements k ≡ Some e → element_at (grammar_of t) k ≡ (class_of e.0, tree_at t.patterns e.1)
+pub element_is : (t : Table) (k : ℕ) (e : NameClass × PatternId) → slice_get t.elements k ≡ Some e
+    → element_at (grammar_of t) k ≡ (class_of e.0, tree_at t.patterns e.1)
 element_is t k e is = element_by t k (Some e) is
 
 pub element_none : (t : Table) (k : ℕ) → slice_get t.elements k ≡ None → element_at (grammar_of t) k ≡ (any_name, tree.s_not_allowed)

@@ -13,11 +13,13 @@ module _ {A B : Type 0} (f : B → List ℕ) (v : A → B) (old : List ℕ) wher
       n ∙ ap (λ x. x ++ f (v (get_or xs i d))) w ∙ flat_map_more f old (map v (take i xs)) (v (get_or xs i d)) ∙ ap (λ ys. old ++ flat_map f ys) (sym more)
 
   -- all lines
-  pub all_written : (new : List ℕ) (xs ys : List A) (i : ℕ) → length xs ≤ i → xs ≡ ys → new ≡ old ++ flat_map f (map v (take i xs)) → new ≡ old ++ flat_map f (map v ys)
+  pub all_written : (new : List ℕ) (xs ys : List A) (i : ℕ) → length xs ≤ i → xs ≡ ys → new ≡ old ++ flat_map f (map v (take i xs))
+      → new ≡ old ++ flat_map f (map v ys)
   all_written new xs ys i l e h = h ∙ ap (λ zs. old ++ flat_map f (map v zs)) (take_all i xs l ∙ e)
 
 -- a line, part by part
-pub line_written : (old name w given named tied texted new : List ℕ) → named ≡ old ++ given → given ≡ name → tied ≡ named ++ codes " = " → texted ≡ tied ++ w → new ≡ texted ++ 0xA ∷ []
+pub line_written : (old name w given named tied texted new : List ℕ) → named ≡ old ++ given → given ≡ name → tied ≡ named ++ codes " = " → texted ≡ tied ++ w
+    → new ≡ texted ++ 0xA ∷ []
     → new ≡ old ++ line name w
 line_written old name w given named tied texted new a b c d e =
     e ∙ ap (λ x. x ++ 0xA ∷ []) (d ∙ ap (λ x. x ++ w) (c ∙ ap (λ x. x ++ codes " = ") (a ∙ ap (λ x. old ++ x) b)))

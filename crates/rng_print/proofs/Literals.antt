@@ -1,5 +1,6 @@
 -- A literal, byte by byte, is the literal.
-use Rattle.std.proofs.Common.{◌≡◌, ◌∙◌, ℕ, suc, ◌+◌, ◌≤◌, arith, ◌<◌, Bool, true, false, cond, List, [], ◌∷◌, ◌++◌, flat_map, length, drop, get_or, refl, sym, ap, append_assoc, codes, drop-cons}
+use Rattle.std.proofs.Common.{◌≡◌, ◌∙◌, ℕ, suc, ◌+◌, ◌≤◌, arith, ◌<◌, Bool, true, false, cond, List, [], ◌∷◌, ◌++◌, flat_map, length, drop, get_or, refl, sym}
+use Rattle.std.proofs.Common.{ap, append_assoc, codes, drop-cons}
 use Rattle.std.specs.Prelude.{◌==◌}
 use Rattle.std.proofs.lemmas.Bool.{eqb-true}
 use Rattle.rng_print.specs.PrintedText.{delimiter, with_character, runs_of, escaped, more_runs, joined_runs, literal}
@@ -17,7 +18,8 @@ before b quote d = cond b [] (quote ∷ (codes " ~ " ++ d ∷ []))
 
 -- a run that begins with the character
 run_begins : (quote d : ℕ) (w rest : List ℕ) (runs : List (ℕ × List ℕ)) (b : Bool) →
-    (before b quote d ++ w) ++ (rest ++ d ∷ more_runs runs) ≡ cond b ((w ++ rest) ++ d ∷ more_runs runs) (quote ∷ (codes " ~ " ++ d ∷ ((w ++ rest) ++ d ∷ [])) ++ more_runs runs)
+    (before b quote d ++ w) ++ (rest ++ d ∷ more_runs runs)
+    ≡ cond b ((w ++ rest) ++ d ∷ more_runs runs) (quote ∷ (codes " ~ " ++ d ∷ ((w ++ rest) ++ d ∷ [])) ++ more_runs runs)
 run_begins quote d w rest runs true = sym (append_assoc w rest (d ∷ more_runs runs))
 run_begins quote d w rest runs false = simp append_assoc refl
 
@@ -25,7 +27,8 @@ byte_then : (c quote : ℕ) (runs : List (ℕ × List ℕ)) → byte_text quote 
 byte_then c quote [] = run_begins quote (delimiter c) (escaped c) [] [] (quote == delimiter c)
 byte_then c quote (run ∷ runs) = at_test (delimiter c == run.0) refl
   where
-    at_test : (b : Bool) → (delimiter c == run.0) ≡ b → byte_text quote c ++ cond b (flat_map escaped run.1 ++ run.0 ∷ more_runs runs) (delimiter c ∷ more_runs (run ∷ runs))
+    at_test : (b : Bool) → (delimiter c == run.0) ≡ b
+        → byte_text quote c ++ cond b (flat_map escaped run.1 ++ run.0 ∷ more_runs runs) (delimiter c ∷ more_runs (run ∷ runs))
         ≡ rest_text quote (cond b ((run.0, c ∷ run.1) ∷ runs) ((delimiter c, c ∷ []) ∷ run ∷ runs))
     at_test true e =
         ap (λ d. (before (quote == d) quote d ++ escaped c) ++ (flat_map escaped run.1 ++ run.0 ∷ more_runs runs)) (eqb-true (delimiter c) run.0 e)
@@ -36,7 +39,8 @@ open_is : (cs : List ℕ) (quote : ℕ) → open_text quote cs ≡ rest_text quo
 open_is [] quote = refl
 open_is (c ∷ cs) quote = ap (λ x. byte_text quote c ++ x) (open_is cs (delimiter c)) ∙ byte_then c quote (runs_of cs)
 
-joined_is : (quote : ℕ) (run : ℕ × List ℕ) (runs : List (ℕ × List ℕ)) → (quote == run.0) ≡ true → joined_runs (run ∷ runs) ≡ quote ∷ rest_text quote (run ∷ runs)
+joined_is : (quote : ℕ) (run : ℕ × List ℕ) (runs : List (ℕ × List ℕ)) → (quote == run.0) ≡ true
+    → joined_runs (run ∷ runs) ≡ quote ∷ rest_text quote (run ∷ runs)
 joined_is quote run runs e =
     ap (λ x. run.0 ∷ x) (append_assoc (flat_map escaped run.1) (run.0 ∷ []) (more_runs runs))
     ∙ ap (λ d. d ∷ (flat_map escaped run.1 ++ run.0 ∷ more_runs runs)) (sym (eqb-true quote run.0 e))
@@ -56,7 +60,8 @@ pub literal_is : (c : ℕ) (cs : List ℕ) → literal (c ∷ cs) ≡ delimiter 
 literal_is c cs = begins c (runs_of cs) ∙ ap (λ x. delimiter c ∷ x) (sym (open_is (c ∷ cs) (delimiter c)))
 
 -- one byte more
-pub byte_written : (old new bytes total : List ℕ) (quote next i : ℕ) → i < length bytes → next ≡ delimiter (get_or bytes i 0) → new ≡ old ++ byte_text quote (get_or bytes i 0)
+pub byte_written : (old new bytes total : List ℕ) (quote next i : ℕ) → i < length bytes → next ≡ delimiter (get_or bytes i 0)
+    → new ≡ old ++ byte_text quote (get_or bytes i 0)
     → old ++ open_text quote (drop i bytes) ≡ total → new ++ open_text next (drop (i + 1) bytes) ≡ total
 byte_written old new bytes total quote next i l n w h =
     let one : suc i ≡ i + 1 = omega arith in

@@ -1,5 +1,6 @@
 -- What is looked up in lists.
-use Rattle.std.proofs.Common.{◌≡◌, ◌∙◌, ℕ, zero, suc, ◌<◌, Bool, true, false, cond, not, nat_lt, List, [], ◌∷◌, length, refl, sym, ap, subst, Option, Some, None, Ok, Err, Result, position, arith}
+use Rattle.std.proofs.Common.{◌≡◌, ◌∙◌, ℕ, zero, suc, ◌<◌, Bool, true, false, cond, not, nat_lt, List, [], ◌∷◌, length, refl, sym, ap, subst, Option, Some}
+use Rattle.std.proofs.Common.{None, Ok, Err, Result, position, arith}
 use Rattle.std.specs.Prelude.{All, OnOk, slice_get, slice_index_or}
 use Rattle.std.specs.Option.{unwrap_or}
 use Rattle.std.specs.List.{AllByRecursion, position_or_len}
@@ -31,13 +32,19 @@ each_at P (x ∷ xs) zero d h l = h.0
 each_at P (x ∷ xs) (suc k) d h l = each_at P xs k d h.1 (omega (arith, l))
 
 -- the number of what is found, or how many there are
-pub number_is : {X : Type 0} (p : X → Bool) (xs : List X) (found : Option ℕ) (len number : ℕ) → found ≡ position p xs → len ≡ length xs → number ≡ unwrap_or found len
+pub number_is : {X : Type 0} (p : X → Bool) (xs : List X) (found : Option ℕ) (len number : ℕ) → found ≡ position p xs → len ≡ length xs
+    → number ≡ unwrap_or found len
     → number ≡ position_or_len p xs
-number_is p xs found len number f l n = n ∙ ap (λ o. unwrap_or o len) f ∙ ap (unwrap_or (position p xs)) l ∙ at_test (nat_lt (position_or_len p xs) (length xs)) refl
+number_is p xs found len number f l n =
+    n ∙ ap (λ o. unwrap_or o len) f ∙ ap (unwrap_or (position p xs)) l ∙ at_test (nat_lt (position_or_len p xs) (length xs)) refl
   where
-    at_test : (b : Bool) → nat_lt (position_or_len p xs) (length xs) ≡ b → unwrap_or (cond b (Some (position_or_len p xs)) None) (length xs) ≡ position_or_len p xs
+    at_test : (b : Bool) → nat_lt (position_or_len p xs) (length xs) ≡ b
+        → unwrap_or (cond b (Some (position_or_len p xs)) None) (length xs) ≡ position_or_len p xs
     at_test true e = refl
-    at_test false e = let over = ltb-false (position_or_len p xs) (length xs) e in let under = prefix_len-le-length (λ x. not (p x)) xs in omega (arith, over, under)
+    at_test false e =
+        let over = ltb-false (position_or_len p xs) (length xs) e in
+        let under = prefix_len-le-length (λ x. not (p x)) xs in
+        omega (arith, over, under)
 
 -- a test whose opposite is known
 pub is_old : (flag was : Bool) → flag ≡ not was → flag ≡ false → was ≡ true

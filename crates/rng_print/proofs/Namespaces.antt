@@ -1,5 +1,6 @@
 -- Namespaces of a class, and where they stand.
-use Rattle.std.proofs.Common.{◌≡◌, ◌∙◌, ℕ, ◌+◌, ◌<◌, length, take, get_or, cond, not, List, [], ◌∷◌, ◌++◌, map, flat_map, refl, sym, ap, Bor, Vec, Global, rules, bytes_eq}
+use Rattle.std.proofs.Common.{◌≡◌, ◌∙◌, ℕ, ◌+◌, ◌<◌, length, take, get_or, cond, not, List, [], ◌∷◌, ◌++◌, map, flat_map, refl, sym, ap, Bor, Vec, Global}
+use Rattle.std.proofs.Common.{rules, bytes_eq}
 use Rattle.std.specs.List.{AllByRecursion, position_or_len}
 use Rattle.std.proofs.lemmas.List.{append-nil, take_more}
 use Rattle.std.proofs.lemmas.Grind.{flat_map-append}
@@ -24,7 +25,8 @@ any_names [] = tt
 any_names (n ∷ ns) = (tt, any_names ns)
 
 -- a new namespace goes last, and one that is there stays where it is
-pub with_namespace : (ks : List (Bor (List ℕ))) (k : Bor (List ℕ)) → map (λ n. n.now) (insert_key (λ a b. bytes_eq a.now b.now) ks k) ≡ with_new bytes_eq (map (λ n. n.now) ks) k.now
+pub with_namespace : (ks : List (Bor (List ℕ))) (k : Bor (List ℕ))
+    → map (λ n. n.now) (insert_key (λ a b. bytes_eq a.now b.now) ks k) ≡ with_new bytes_eq (map (λ n. n.now) ks) k.now
 with_namespace ks k = with_map (λ a b. bytes_eq a.now b.now) bytes_eq (λ n. n.now) (λ n. Unit {0}) (λ a b p q. refl) ks k (any_names ks) tt
 
 pub place_seen : (u : List ℕ) (ks : List (Bor (List ℕ))) → position_or_len (λ n. bytes_eq u n.now) ks ≡ position_or_len (bytes_eq u) (map (λ n. n.now) ks)
@@ -48,8 +50,10 @@ module _ {A : Type 0} (f : A → List (List ℕ)) (old was new : List (List ℕ)
   pub one_added : new ≡ and_new bytes_eq was (f (get_or xs i d)) → new ≡ and_new bytes_eq old (flat_map f (take (i + 1) xs))
   one_added n =
       let more : flat_map f (take (i + 1) xs) ≡ flat_map f (take i xs) ++ f (get_or xs i d) =
-      ap (flat_map f) (take_more xs i d l) ∙ flat_map-append f (take i xs) (get_or xs i d ∷ []) ∙ ap (λ z. flat_map f (take i xs) ++ z) (append-nil (f (get_or xs i d))) in
-      n ∙ ap (λ z. and_new bytes_eq z (f (get_or xs i d))) w ∙ sym (and_append bytes_eq bytes_exact bytes_itself old (flat_map f (take i xs)) (f (get_or xs i d)))
+      ap (flat_map f) (take_more xs i d l) ∙ flat_map-append f (take i xs) (get_or xs i d ∷ [])
+      ∙ ap (λ z. flat_map f (take i xs) ++ z) (append-nil (f (get_or xs i d))) in
+      n ∙ ap (λ z. and_new bytes_eq z (f (get_or xs i d))) w
+      ∙ sym (and_append bytes_eq bytes_exact bytes_itself old (flat_map f (take i xs)) (f (get_or xs i d)))
       ∙ ap (and_new bytes_eq old) (sym more)
 
   pub member_added : d ≡ get_or xs i d → new ≡ and_new bytes_eq was (f d) → new ≡ and_new bytes_eq old (flat_map f (take (i + 1) xs))

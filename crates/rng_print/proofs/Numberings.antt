@@ -1,5 +1,6 @@
 -- There is one numbering at most, and the steps find it.
-use Rattle.std.proofs.Common.{◌≡◌, ◌∙◌, ◌⊎◌, inl, inr, ℕ, zero, suc, ◌+◌, ◌≤◌, ◌<◌, Bool, true, false, cond, List, [], ◌∷◌, ◌++◌, length, flat_map, refl, sym, ap, subst, Some, None, append_assoc, arith}
+use Rattle.std.proofs.Common.{◌≡◌, ◌∙◌, ◌⊎◌, inl, inr, ℕ, zero, suc, ◌+◌, ◌≤◌, ◌<◌, Bool, true, false, cond, List, [], ◌∷◌, ◌++◌, length, flat_map, refl, sym}
+use Rattle.std.proofs.Common.{ap, subst, Some, None, append_assoc, arith}
 use Rattle.std.specs.Prelude.{◌||◌, Contains, slice_get}
 use Rattle.std.specs.List.{AllByRecursion}
 use Rattle.std.proofs.lemmas.Bool.{or_cases}
@@ -87,7 +88,8 @@ module _ {A : Type 0} (same : A → A → Bool) (exact : (a b : A) → same a b 
   and_fresh w [] = sym (append-nil w)
   and_fresh w (z ∷ zs) = at_test (has same w z) (and_fresh w zs) (and_fresh (w ++ z ∷ []) zs)
     where
-      at_test : (b : Bool) → and_new same w zs ≡ w ++ fresh w zs → and_new same (w ++ z ∷ []) zs ≡ (w ++ z ∷ []) ++ fresh (w ++ z ∷ []) zs → and_new same (cond b w (w ++ z ∷ [])) zs ≡ w ++ cond b (fresh w zs) (z ∷ fresh (w ++ z ∷ []) zs)
+      at_test : (b : Bool) → and_new same w zs ≡ w ++ fresh w zs → and_new same (w ++ z ∷ []) zs ≡ (w ++ z ∷ []) ++ fresh (w ++ z ∷ []) zs
+          → and_new same (cond b w (w ++ z ∷ [])) zs ≡ w ++ cond b (fresh w zs) (z ∷ fresh (w ++ z ∷ []) zs)
       at_test true e f = e
       at_test false e f = f ∙ append_assoc w (z ∷ []) (fresh (w ++ z ∷ []) zs)
 
@@ -100,7 +102,8 @@ module _ {A : Type 0} (same : A → A → Bool) (exact : (a b : A) → same a b 
   fresh_new w [] = tt
   fresh_new w (z ∷ zs) = at_test (has same w z) refl (fresh_new w zs) (fresh_new (w ++ z ∷ []) zs)
     where
-      at_test : (b : Bool) → has same w z ≡ b → AreNew w (fresh w zs) → AreNew (w ++ z ∷ []) (fresh (w ++ z ∷ []) zs) → AreNew w (cond b (fresh w zs) (z ∷ fresh (w ++ z ∷ []) zs))
+      at_test : (b : Bool) → has same w z ≡ b → AreNew w (fresh w zs) → AreNew (w ++ z ∷ []) (fresh (w ++ z ∷ []) zs)
+          → AreNew w (cond b (fresh w zs) (z ∷ fresh (w ++ z ∷ []) zs))
       at_test true e h i = h
       at_test false e h i = (e, i)
 
@@ -144,22 +147,32 @@ module _ {A : Type 0} (same : A → A → Bool) (exact : (a b : A) → same a b 
     written done = first_times same (start ++ flat_map line done)
 
     pub written_more : (done rest : List A) → written (done ++ rest) ≡ and_new same (written done) (flat_map line rest)
-    written_more done rest = ap (λ (x : List A). first_times same (start ++ x)) (flat_append line done rest) ∙ ap (first_times same) (sym (append_assoc start (flat_map line done) (flat_map line rest))) ∙ and_append [] (start ++ flat_map line done) (flat_map line rest)
+    written_more done rest =
+        ap (λ (x : List A). first_times same (start ++ x)) (flat_append line done rest)
+        ∙ ap (first_times same) (sym (append_assoc start (flat_map line done) (flat_map line rest)))
+        ∙ and_append [] (start ++ flat_map line done) (flat_map line rest)
 
     -- where each thing written has its line, all that is reached is written
     closed : (done : List A) → written done ≡ done → (a : A) → IsReached same start line a → has same done a ≡ true
-    closed done e a (at_start {a = x} c) = subst (λ (y : List A). has same y a ≡ true) e (and_has_right [] (start ++ flat_map line done) a (has_left start (flat_map line done) a (has_contained start a c)))
-    closed done e a (in_line {a = y} {x} r c) = subst (λ (y : List A). has same y a ≡ true) e (and_has_right [] (start ++ flat_map line done) a (has_right start (flat_map line done) a (flat_has line done x a (closed done e x r) (has_contained (line x) a c))))
+    closed done e a (at_start {a = x} c) =
+        subst (λ (y : List A). has same y a ≡ true) e
+        (and_has_right [] (start ++ flat_map line done) a (has_left start (flat_map line done) a (has_contained start a c)))
+    closed done e a (in_line {a = y} {x} r c) =
+        subst (λ (y : List A). has same y a ≡ true) e
+        (and_has_right [] (start ++ flat_map line done) a
+        (has_right start (flat_map line done) a (flat_has line done x a (closed done e x r) (has_contained (line x) a c))))
 
     -- ---- the steps, as a relation: these have lines, and these are written and have none
 
     data Follows : List A → List A → List A → Type 0 where
       ends : {done all : List A} → all ≡ done → Follows done [] all
-      next : {done waiting all : List A} {a : A} {after : List A} → written (done ++ a ∷ []) ≡ (done ++ a ∷ []) ++ after → Follows (done ++ a ∷ []) after all → Follows done (a ∷ waiting) all
+      next : {done waiting all : List A} {a : A} {after : List A} → written (done ++ a ∷ []) ≡ (done ++ a ∷ []) ++ after → Follows (done ++ a ∷ []) after all
+          → Follows done (a ∷ waiting) all
 
     one_end : {done waiting xs : List A} → Follows done waiting xs → (ys : List A) → Follows done waiting ys → xs ≡ ys
     one_end (ends e) ys (ends f) = e ∙ sym f
-    one_end (next {done} {a = a} {after} e f) ys (next {after = after'} g h) = one_end f ys (subst (λ (x : List A). Follows (done ++ a ∷ []) x ys) (same_rest (done ++ a ∷ []) after' after (sym g ∙ e)) h)
+    one_end (next {done} {a = a} {after} e f) ys (next {after = after'} g h) =
+        one_end f ys (subst (λ (x : List A). Follows (done ++ a ∷ []) x ys) (same_rest (done ++ a ∷ []) after' after (sym g ∙ e)) h)
 
     record Parts (rest done waiting : List A) : Type 0 where
       more : List A
@@ -168,10 +181,12 @@ module _ {A : Type 0} (same : A → A → Bool) (exact : (a b : A) → same a b 
 
     parts : (rest done waiting xs : List A) → xs ≡ done ++ rest → xs ≡ written xs → written done ≡ done ++ waiting → Parts rest done waiting
     parts rest done waiting xs e s w =
-        let all : done ++ rest ≡ (done ++ waiting) ++ fresh (done ++ waiting) (flat_map line rest) = sym e ∙ s ∙ ap written e ∙ written_more done rest ∙ ap (λ (x : List A). and_new same x (flat_map line rest)) w ∙ and_fresh (done ++ waiting) (flat_map line rest) in
+        let all : done ++ rest ≡ (done ++ waiting) ++ fresh (done ++ waiting) (flat_map line rest) = sym e ∙ s ∙ ap written e ∙ written_more done rest
+        ∙ ap (λ (x : List A). and_new same x (flat_map line rest)) w ∙ and_fresh (done ++ waiting) (flat_map line rest) in
         record {
           more = fresh (done ++ waiting) (flat_map line rest);
-          is = same_rest done rest (waiting ++ fresh (done ++ waiting) (flat_map line rest)) (all ∙ append_assoc done waiting (fresh (done ++ waiting) (flat_map line rest)));
+          is = same_rest done rest (waiting ++ fresh (done ++ waiting) (flat_map line rest))
+              (all ∙ append_assoc done waiting (fresh (done ++ waiting) (flat_map line rest)));
           new = fresh_new (done ++ waiting) (flat_map line rest);
         }
 
@@ -179,7 +194,8 @@ module _ {A : Type 0} (same : A → A → Bool) (exact : (a b : A) → same a b 
     no_items a xs e = let n : 0 ≡ suc (length xs) = ap length e in omega (arith, n)
 
     -- what is written behind one line more
-    after_line : (done waiting : List A) (a : A) → written done ≡ done ++ a ∷ waiting → written (done ++ a ∷ []) ≡ (done ++ a ∷ []) ++ (waiting ++ fresh (done ++ a ∷ waiting) (line a ++ []))
+    after_line : (done waiting : List A) (a : A) → written done ≡ done ++ a ∷ waiting
+        → written (done ++ a ∷ []) ≡ (done ++ a ∷ []) ++ (waiting ++ fresh (done ++ a ∷ waiting) (line a ++ []))
     after_line done waiting a w =
         written_more done (a ∷ [])
         ∙ ap (λ (x : List A). and_new same x (line a ++ [])) w
@@ -188,13 +204,15 @@ module _ {A : Type 0} (same : A → A → Bool) (exact : (a b : A) → same a b 
         ∙ sym (append_assoc done (a ∷ []) (waiting ++ fresh (done ++ a ∷ waiting) (line a ++ [])))
 
     -- a numbering follows the steps
-    follows : (rest done waiting xs : List A) → xs ≡ done ++ rest → xs ≡ written xs → AllByRecursion (IsReached same start line) xs → written done ≡ done ++ waiting → Follows done waiting xs
+    follows : (rest done waiting xs : List A) → xs ≡ done ++ rest → xs ≡ written xs → AllByRecursion (IsReached same start line) xs
+        → written done ≡ done ++ waiting → Follows done waiting xs
     follows [] done [] xs e s r w = ends (e ∙ append-nil done)
     follows [] done (a ∷ waiting) xs e s r w = let p = parts [] done (a ∷ waiting) xs e s w in absurd (no_items a (waiting ++ p.more) p.is)
     follows (b ∷ rest) done [] xs e s r w =
         let p = parts (b ∷ rest) done [] xs e s w in
         let n : AreNew (done ++ []) (b ∷ rest) = subst (AreNew (done ++ [])) (sym p.is) p.new in
-        let there : has same xs b ≡ true = subst (λ (x : List A). has same x b ≡ true) (sym e) (has_right done (b ∷ rest) b (or_first (same b b) _ (itself b))) in
+        let there : has same xs b ≡ true =
+        subst (λ (x : List A). has same x b ≡ true) (sym e) (has_right done (b ∷ rest) b (or_first (same b b) _ (itself b))) in
         let reached = all_contained (IsReached same start line) xs r b (contained_has xs b there) in
         absurd (false_true (sym n.0 ∙ ap (λ (x : List A). has same x b) (append-nil done) ∙ closed done (w ∙ append-nil done) b reached))
     follows (b ∷ rest) done (a ∷ waiting) xs e s r w =
@@ -223,23 +241,31 @@ module _ {A : Type 0} (same : A → A → Bool) (exact : (a b : A) → same a b 
 
     lines_reached : (done : List A) → AllByRecursion (IsReached same start line) done → AllByRecursion (IsReached same start line) (flat_map line done)
     lines_reached [] h = tt
-    lines_reached (x ∷ done) h = all_append (IsReached same start line) (line x) (flat_map line done) (all_each (IsReached same start line) (line x) (λ a c. in_line h.0 c)) (lines_reached done h.1)
+    lines_reached (x ∷ done) h =
+        all_append (IsReached same start line) (line x) (flat_map line done) (all_each (IsReached same start line) (line x) (λ a c. in_line h.0 c))
+        (lines_reached done h.1)
 
     written_reached : (done : List A) → AllByRecursion (IsReached same start line) done → AllByRecursion (IsReached same start line) (written done)
-    written_reached done h = and_all (IsReached same start line) [] (start ++ flat_map line done) tt (all_append (IsReached same start line) start (flat_map line done) (all_each (IsReached same start line) start (λ a c. at_start c)) (lines_reached done h))
+    written_reached done h =
+        and_all (IsReached same start line) [] (start ++ flat_map line done) tt
+        (all_append (IsReached same start line) start (flat_map line done) (all_each (IsReached same start line) start (λ a c. at_start c))
+        (lines_reached done h))
 
     all_parts : (P : A → Type 0) (xs ys : List A) → AllByRecursion P (xs ++ ys) → AllByRecursion P xs × AllByRecursion P ys
     all_parts P [] ys h = (tt, h)
     all_parts P (x ∷ xs) ys h = let r = all_parts P xs ys h.1 in ((h.0, r.0), r.1)
 
-    line_reached : (done waiting : List A) (a : A) → written done ≡ done ++ a ∷ waiting → AllByRecursion (IsReached same start line) done → AllByRecursion (IsReached same start line) (done ++ a ∷ [])
+    line_reached : (done waiting : List A) (a : A) → written done ≡ done ++ a ∷ waiting → AllByRecursion (IsReached same start line) done
+        → AllByRecursion (IsReached same start line) (done ++ a ∷ [])
     line_reached done waiting a w h =
         let all = all_parts (IsReached same start line) done (a ∷ waiting) (subst (AllByRecursion (IsReached same start line)) w (written_reached done h)) in
         all_append (IsReached same start line) done (a ∷ []) h (all.1.0, tt)
 
     -- what the steps find is a numbering
-    follows_numbering : {done waiting xs : List A} → Follows done waiting xs → written done ≡ done ++ waiting → AllByRecursion (IsReached same start line) done → IsNumbering same start line xs
-    follows_numbering (ends {done} {all = xs} e) w h = record { in_order = e ∙ sym (append-nil done) ∙ sym w ∙ ap written (sym e); reached = subst (AllByRecursion (IsReached same start line)) (sym e) h }
+    follows_numbering : {done waiting xs : List A} → Follows done waiting xs → written done ≡ done ++ waiting → AllByRecursion (IsReached same start line) done
+        → IsNumbering same start line xs
+    follows_numbering (ends {done} {all = xs} e) w h =
+        record { in_order = e ∙ sym (append-nil done) ∙ sym w ∙ ap written (sym e); reached = subst (AllByRecursion (IsReached same start line)) (sym e) h }
     follows_numbering (next {done} {waiting} {a = a} e f) w h = follows_numbering f e (line_reached done waiting a w h)
 
     -- ---- the steps as they are computed
@@ -260,27 +286,38 @@ module _ {A : Type 0} (same : A → A → Bool) (exact : (a b : A) → same a b 
     follows_long (ends {done} {all = xs} e) = let n = ap length e in omega (arith, n)
     follows_long (next {done} {a = a} e f) = let n = follows_long f in let m = one_longer done a in omega (arith, n, m)
 
-    next_written : (done waiting after : List A) (a : A) → written done ≡ done ++ a ∷ waiting → written (done ++ a ∷ []) ≡ (done ++ a ∷ []) ++ after → and_new same (done ++ a ∷ waiting) (line a) ≡ (done ++ a ∷ []) ++ after
-    next_written done waiting after a w e = ap (λ (x : List A). and_new same x (line a)) (sym w) ∙ ap (and_new same (written done)) (sym (append-nil (line a))) ∙ sym (written_more done (a ∷ [])) ∙ e
+    next_written : (done waiting after : List A) (a : A) → written done ≡ done ++ a ∷ waiting → written (done ++ a ∷ []) ≡ (done ++ a ∷ []) ++ after
+        → and_new same (done ++ a ∷ waiting) (line a) ≡ (done ++ a ∷ []) ++ after
+    next_written done waiting after a w e = ap (λ (x : List A). and_new same x (line a)) (sym w) ∙ ap (and_new same (written done)) (sym (append-nil (line a)))
+        ∙ sym (written_more done (a ∷ [])) ∙ e
 
     steps_end : (steps : ℕ) (done : List A) → numbered_from same line steps (length done) (done ++ []) ≡ done
     unfolding numbered_from
     steps_end zero done = append-nil done
     steps_end (suc steps) done = rw (get_none done) (append-nil done)
 
-    steps_next : (steps : ℕ) (done waiting after : List A) (a : A) → and_new same (done ++ a ∷ waiting) (line a) ≡ (done ++ a ∷ []) ++ after → numbered_from same line (suc steps) (length done) (done ++ a ∷ waiting) ≡ numbered_from same line steps (length (done ++ a ∷ [])) ((done ++ a ∷ []) ++ after)
+    steps_next : (steps : ℕ) (done waiting after : List A) (a : A) → and_new same (done ++ a ∷ waiting) (line a) ≡ (done ++ a ∷ []) ++ after
+        → numbered_from same line (suc steps) (length done) (done ++ a ∷ waiting)
+        ≡ numbered_from same line steps (length (done ++ a ∷ [])) ((done ++ a ∷ []) ++ after)
     unfolding numbered_from
     steps_next steps done waiting after a e = rw (get_here done waiting a, e, one_longer done a) refl
 
-    steps_find : {done waiting xs : List A} → Follows done waiting xs → (steps : ℕ) → length xs ≤ steps + length done → written done ≡ done ++ waiting → numbered_from same line steps (length done) (done ++ waiting) ≡ xs
+    steps_find : {done waiting xs : List A} → Follows done waiting xs → (steps : ℕ) → length xs ≤ steps + length done → written done ≡ done ++ waiting
+        → numbered_from same line steps (length done) (done ++ waiting) ≡ xs
     steps_find (ends {done} {all = xs} e) steps le w = steps_end steps done ∙ sym e
-    steps_find (next {done} {waiting} {all = xs} {a} {after} e f) zero le w = let n = follows_long f in let m = one_longer done a in absurd (omega (arith, n, m, le))
-    steps_find (next {done} {waiting} {all = xs} {a} {after} e f) (suc steps) le w = let m = one_longer done a in steps_next steps done waiting after a (next_written done waiting after a w e) ∙ steps_find f steps (omega (arith, m, le)) e
+    steps_find (next {done} {waiting} {all = xs} {a} {after} e f) zero le w =
+        let n = follows_long f in
+        let m = one_longer done a in
+        absurd (omega (arith, n, m, le))
+    steps_find (next {done} {waiting} {all = xs} {a} {after} e f) (suc steps) le w =
+        let m = one_longer done a in
+        steps_next steps done waiting after a (next_written done waiting after a w e) ∙ steps_find f steps (omega (arith, m, le)) e
 
     -- the numbering is what the steps find, if there are enough
     pub numbering_found : (xs : List A) → IsNumbering same start line xs → (steps : ℕ) → length xs ≤ steps → numbered same steps start line ≡ xs
     unfolding numbered
-    numbering_found xs n steps le = ap (λ (x : List A). numbered_from same line steps 0 (first_times same x)) (sym (append-nil start)) ∙ steps_find (start_follows xs n) steps (omega (arith, le)) refl
+    numbering_found xs n steps le = ap (λ (x : List A). numbered_from same line steps 0 (first_times same x)) (sym (append-nil start))
+        ∙ steps_find (start_follows xs n) steps (omega (arith, le)) refl
 
     -- ---- there is a numbering, where what is reached is among finitely many
 
@@ -310,7 +347,8 @@ module _ {A : Type 0} (same : A → A → Bool) (exact : (a b : A) → same a b 
     fewer : (done cs : List A) (a : A) → has same done a ≡ false → has same cs a ≡ true → missing (done ++ a ∷ []) cs < missing done cs
     fewer done [] a n h = absurd (false_true h)
     fewer done (c ∷ cs) a n h = elim (or_cases (same a c) (has same cs a) h) [
-      | inl e ↦ less_here (has same done c) (has same (done ++ a ∷ []) c) _ _ (sym (ap (has same done) (exact a c e)) ∙ n) (subst (λ (x : A). has same (done ++ a ∷ []) x ≡ true) (exact a c e) (has_last done a)) (fewer_or_same done cs a)
+      | inl e ↦ less_here (has same done c) (has same (done ++ a ∷ []) c) _ _ (sym (ap (has same done) (exact a c e)) ∙ n)
+          (subst (λ (x : A). has same (done ++ a ∷ []) x ≡ true) (exact a c e) (has_last done a)) (fewer_or_same done cs a)
       | inr d ↦ less (has same done c) (has same (done ++ a ∷ []) c) _ _ (λ k. has_left done (a ∷ []) c k) (fewer done cs a n d)
     ]
 
@@ -320,9 +358,11 @@ module _ {A : Type 0} (same : A → A → Bool) (exact : (a b : A) → same a b 
     new_there w (x ∷ done) waiting a n = ap (λ (y : List A). has same y a) (sym (append_assoc w (x ∷ []) done)) ∙ new_there (w ++ x ∷ []) done waiting a n.1
 
     written_new : (done waiting : List A) (a : A) → written done ≡ done ++ a ∷ waiting → has same done a ≡ false
-    written_new done waiting a w = new_there [] done waiting a (subst (AreNew []) (sym (and_fresh [] (start ++ flat_map line done)) ∙ w) (fresh_new [] (start ++ flat_map line done)))
+    written_new done waiting a w =
+        new_there [] done waiting a (subst (AreNew []) (sym (and_fresh [] (start ++ flat_map line done)) ∙ w) (fresh_new [] (start ++ flat_map line done)))
 
-    step_on : (cs : List A) → ((a : A) → IsReached same start line a → has same cs a ≡ true) → (n : ℕ) (done waiting : List A) → written done ≡ done ++ waiting → AllByRecursion (IsReached same start line) done → missing done cs ≤ n → (xs : List A) × Follows done waiting xs
+    step_on : (cs : List A) → ((a : A) → IsReached same start line a → has same cs a ≡ true) → (n : ℕ) (done waiting : List A) → written done ≡ done ++ waiting
+        → AllByRecursion (IsReached same start line) done → missing done cs ≤ n → (xs : List A) × Follows done waiting xs
     step_on cs among n done [] w h le = (done, ends refl)
     step_on cs among zero done (a ∷ waiting) w h le =
         let r = line_reached done waiting a w h in

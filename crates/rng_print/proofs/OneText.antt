@@ -19,7 +19,8 @@ pub one_text : (g : Grammar) (t u : List ℕ) → IsPrinted g t → IsPrinted g 
 one_text g t u p q = p.is ∙ ap (text_of g) (one_items g p.items q.items p.numbered q.numbered) ∙ sym q.is
 
 -- it is the one that the steps give, if there are as many as items
-pub items_found : (g : Grammar) (items : List Item) → IsItemsOf g items → (steps : ℕ) → length items ≤ steps → numbered same_item steps (item_of g.start) (mentions g) ≡ items
+pub items_found : (g : Grammar) (items : List Item) → IsItemsOf g items → (steps : ℕ) → length items ≤ steps
+    → numbered same_item steps (item_of g.start) (mentions g) ≡ items
 items_found g items n steps le = numbering_found same_item item_exact item_itself (item_of g.start) (mentions g) items n steps le
 
 -- ---- there is one
@@ -104,13 +105,16 @@ parts_whole g cs (s_attribute c a) h = written_whole g cs a h.1
 parts_whole g cs (s_list a) h = written_whole g cs a h.1
 parts_whole g cs (s_data_except d a) h = written_whole g cs a h.1
 parts_whole g cs (s_one_or_more a) h = written_whole g cs a h.1
-parts_whole g cs (s_joined k a b) h = let p = among_parts cs (inside a) (inside b) h.1 in both_whole (item_of a) (item_of b) (written_whole g cs a p.0) (written_whole g cs b p.1)
+parts_whole g cs (s_joined k a b) h =
+    let p = among_parts cs (inside a) (inside b) h.1 in
+    both_whole (item_of a) (item_of b) (written_whole g cs a p.0) (written_whole g cs b p.1)
   where
     both_whole : (xs ys : List Item) → AllByRecursion (Whole g cs) xs → AllByRecursion (Whole g cs) ys → AllByRecursion (Whole g cs) (xs ++ ys)
     both_whole [] ys h i = i
     both_whole (x ∷ xs) ys h i = (h.0, both_whole xs ys h.1 i)
 
-bodies_among : (cs : List Item) (es : List (NameClass × Simple ℕ)) → AllAmong cs (flat_map (λ e. inside e.1) es) → (k : ℕ) → AllAmong cs (inside (slice_index_or es k (any_name, s_not_allowed)).1)
+bodies_among : (cs : List Item) (es : List (NameClass × Simple ℕ)) → AllAmong cs (flat_map (λ e. inside e.1) es) → (k : ℕ)
+    → AllAmong cs (inside (slice_index_or es k (any_name, s_not_allowed)).1)
 bodies_among cs [] h k = tt
 bodies_among cs (e ∷ es) h zero = (among_parts cs (inside e.1) _ h).0
 bodies_among cs (e ∷ es) h (suc k) = bodies_among cs es (among_parts cs (inside e.1) _ h).1 k
@@ -122,15 +126,20 @@ all_among xs = each xs (λ i c. has_contained same_item item_exact item_itself x
     each ys f = all_each (Has xs) ys f
 
 reached_whole : (g : Grammar) (i : Item) → IsReached same_item (item_of g.start) (mentions g) i → Whole g (all_inside g) i
-reached_whole g i (at_start {a} c) = all_contained (Whole g (all_inside g)) (item_of g.start) (written_whole g (all_inside g) g.start (among_parts (all_inside g) (inside g.start) _ (all_among (all_inside g))).0) a c
+reached_whole g i (at_start {a} c) =
+    all_contained (Whole g (all_inside g)) (item_of g.start)
+    (written_whole g (all_inside g) g.start (among_parts (all_inside g) (inside g.start) _ (all_among (all_inside g))).0) a c
 reached_whole g i (in_line {a} {x} r c) = all_contained (Whole g (all_inside g)) (mentions g x) (line_whole x (reached_whole g x r)) a c
   where
     line_whole : (x : Item) → Whole g (all_inside g) x → AllByRecursion (Whole g (all_inside g)) (mentions g x)
-    line_whole (element k) h = written_whole g (all_inside g) (element_at g k).1 (bodies_among (all_inside g) g.elements (among_parts (all_inside g) (inside g.start) _ (all_among (all_inside g))).1 k)
+    line_whole (element k) h =
+        written_whole g (all_inside g) (element_at g k).1
+        (bodies_among (all_inside g) g.elements (among_parts (all_inside g) (inside g.start) _ (all_among (all_inside g))).1 k)
     line_whole (pattern s) h = parts_whole g (all_inside g) s h.1
 
 pub items_there : (g : Grammar) → (items : List Item) × IsItemsOf g items
-items_there g = numbering_there same_item item_exact item_itself (item_of g.start) (mentions g) (all_inside g) (λ i r. whole_has g (all_inside g) i (reached_whole g i r))
+items_there g =
+    numbering_there same_item item_exact item_itself (item_of g.start) (mentions g) (all_inside g) (λ i r. whole_has g (all_inside g) i (reached_whole g i r))
 
 -- each grammar has a printed text
 pub text_there : (g : Grammar) → (t : List ℕ) × IsPrinted g t

@@ -9,7 +9,9 @@ use Rattle.rng_model.specs.Tree.{Simple, s_not_allowed, s_empty, s_text, s_leaf,
 use Rattle.rng_model.specs.Table.{Grammar}
 use Rattle.rng_print.specs.Numbering.{place_in, first_times}
 use Rattle.rng_print.specs.Same.{same_tree}
-use Rattle.rng_print.specs.PrintedText.{Item, element, pattern, same_item, item_of, element_at, parts_of, mentions, IsItemsOf, element_in, pattern_in, item_name, namespaces_of, namespaces, reference, pattern_text, element_text, item_text, item_line, namespace_line, line, lines, text_of, IsPrinted, datatype_text, class_text, connector_text, namespaces_in}
+use Rattle.rng_print.specs.PrintedText.{Item, element, pattern, same_item, item_of, element_at, parts_of, mentions, IsItemsOf, element_in, pattern_in}
+use Rattle.rng_print.specs.PrintedText.{item_name, namespaces_of, namespaces, reference, pattern_text, element_text, item_text, item_line, namespace_line, line}
+use Rattle.rng_print.specs.PrintedText.{lines, text_of, IsPrinted, datatype_text, class_text, connector_text, namespaces_in}
 use Rattle.rng_print.specs.Renumbered.{renumbered, IsBelow, AreSameUpToNumbering}
 use Rattle.rng_print.proofs.Numberings.{all_append}
 use Rattle.rng_print.proofs.Booleans.{false_true}
@@ -18,12 +20,16 @@ use Rattle.rng_print.proofs.Carried.{map_append, place_map, carried}
 use Rattle.rng_print.proofs.OneText.{one_text}
 
 -- a test that is exact says of things carried over, and back again, what it says of them
-carried_test : {A B : Type 0} (same : A → A → Bool) (alike : B → B → Bool) → ((a b : A) → same a b ≡ true → a ≡ b) → ((a : A) → same a a ≡ true) → ((a b : B) → alike a b ≡ true → a ≡ b) → ((b : B) → alike b b ≡ true) → (f : A → B) (back : B → A) (a b : A) → back (f a) ≡ a → back (f b) ≡ b → alike (f a) (f b) ≡ same a b
+carried_test : {A B : Type 0} (same : A → A → Bool) (alike : B → B → Bool) → ((a b : A) → same a b ≡ true → a ≡ b) → ((a : A) → same a a ≡ true)
+    → ((a b : B) → alike a b ≡ true → a ≡ b) → ((b : B) → alike b b ≡ true) → (f : A → B) (back : B → A) (a b : A) → back (f a) ≡ a → back (f b) ≡ b
+    → alike (f a) (f b) ≡ same a b
 carried_test same alike exact itself only alone f back a b p q = at_test (same a b) refl
   where
     at_test : (t : Bool) → same a b ≡ t → alike (f a) (f b) ≡ t
     at_test true e = subst (λ (x : _). alike (f a) (f x) ≡ true) (exact a b e) (alone (f a))
-    at_test false e = false_from_ne_true (alike (f a) (f b)) (λ m. false_true (sym e ∙ subst (λ (x : _). same a x ≡ true) (sym p ∙ ap back (only (f a) (f b) m) ∙ q) (itself a)))
+    at_test false e =
+        false_from_ne_true (alike (f a) (f b))
+        (λ m. false_true (sym e ∙ subst (λ (x : _). same a x ≡ true) (sym p ∙ ap back (only (f a) (f b) m) ∙ q) (itself a)))
 
 renumbered_back : (f back : ℕ → ℕ) (n : ℕ) → ((k : ℕ) → k < n → back (f k) ≡ k) → (a : Simple ℕ) → IsBelow n a → renumbered back (renumbered f a) ≡ a
 renumbered_back f back n e s_not_allowed h = refl
@@ -128,10 +134,14 @@ module _ (f back : ℕ → ℕ) (n : ℕ) (there : (k : ℕ) → k < n → back 
   name_moved : (i : Item) → Below n i → item_name (map (moved f) items) (moved f i) ≡ item_name items i
   name_moved (element k) h = ap (λ (x : ℕ). 0x65 ∷ decimal x)
       (ap (λ (x : List ℕ). place_in (λ j l. j == l) x (f k)) (numbers_moved f items)
-      ∙ place_map (λ j l. j == l) (λ j l. j == l) f (λ k. k < n) (λ a b p q. carried_test (λ j l. j == l) (λ j l. j == l) eqb-true number_itself eqb-true number_itself f back a b (there a p) (there b q)) (filter_map element_in items) k (numbers_below n items all) h)
+      ∙ place_map (λ j l. j == l) (λ j l. j == l) f (λ k. k < n)
+      (λ a b p q. carried_test (λ j l. j == l) (λ j l. j == l) eqb-true number_itself eqb-true number_itself f back a b (there a p) (there b q))
+      (filter_map element_in items) k (numbers_below n items all) h)
   name_moved (pattern a) h = ap (λ (x : ℕ). 0x70 ∷ decimal x)
       (ap (λ (x : List (Simple ℕ)). place_in same_tree x (renumbered f a)) (trees_moved f items)
-      ∙ place_map same_tree same_tree (renumbered f) (IsBelow n) (λ a b p q. carried_test same_tree same_tree tree_exact tree_itself tree_exact tree_itself (renumbered f) (renumbered back) a b (renumbered_back f back n there a p) (renumbered_back f back n there b q)) (filter_map pattern_in items) a (trees_below n items all) h)
+      ∙ place_map same_tree same_tree (renumbered f) (IsBelow n)
+      (λ a b p q. carried_test same_tree same_tree tree_exact tree_itself tree_exact tree_itself (renumbered f) (renumbered back) a b
+      (renumbered_back f back n there a p) (renumbered_back f back n there b q)) (filter_map pattern_in items) a (trees_below n items all) h)
 
   reference_moved : (a : Simple ℕ) → IsBelow n a → reference (map (moved f) items) (renumbered f a) ≡ reference items a
   reference_moved s_not_allowed h = refl
@@ -157,7 +167,8 @@ module _ (f back : ℕ → ℕ) (n : ℕ) (there : (k : ℕ) → k < n → back 
   text_moved ns (s_data_except d a) h = ap (λ (x : List ℕ). datatype_text d ++ (codes " - " ++ x)) (reference_moved a h)
   text_moved ns (s_value d v) h = refl
   text_moved ns (s_one_or_more a) h = ap (λ (x : List ℕ). x ++ codes "+") (reference_moved a h)
-  text_moved ns (s_joined k a b) h = ap (λ (x : List ℕ). x ++ (connector_text k ++ reference (map (moved f) items) (renumbered f b))) (reference_moved a h.0) ∙ ap (λ (x : List ℕ). reference items a ++ (connector_text k ++ x)) (reference_moved b h.1)
+  text_moved ns (s_joined k a b) h = ap (λ (x : List ℕ). x ++ (connector_text k ++ reference (map (moved f) items) (renumbered f b))) (reference_moved a h.0)
+      ∙ ap (λ (x : List ℕ). reference items a ++ (connector_text k ++ x)) (reference_moved b h.1)
 
 -- ---- two grammars
 
@@ -179,19 +190,24 @@ module _ (g h : Grammar) (s : AreSameUpToNumbering g h) where
   namespaces_moved (pattern (s_one_or_more a)) b = refl
   namespaces_moved (pattern (s_joined k x y)) b = refl
 
-  all_namespaces : (items : List Item) → AllByRecursion (Below count) items → flat_map (namespaces_of h) (map (moved s.pairing) items) ≡ flat_map (namespaces_of g) items
+  all_namespaces : (items : List Item) → AllByRecursion (Below count) items
+      → flat_map (namespaces_of h) (map (moved s.pairing) items) ≡ flat_map (namespaces_of g) items
   all_namespaces [] b = refl
   all_namespaces (i ∷ items) b = rw (namespaces_moved i b.0, all_namespaces items b.1) refl
 
-  item_text_moved : (ns : List (List ℕ)) (items : List Item) → AllByRecursion (Below count) items → (i : Item) → Below count i → item_text h ns (map (moved s.pairing) items) (moved s.pairing i) ≡ item_text g ns items i
+  item_text_moved : (ns : List (List ℕ)) (items : List Item) → AllByRecursion (Below count) items → (i : Item) → Below count i
+      → item_text h ns (map (moved s.pairing) items) (moved s.pairing i) ≡ item_text g ns items i
   item_text_moved ns items all (element k) b =
       ap (element_text ns (map (moved s.pairing) items)) (s.elements k b)
-      ∙ ap (λ (x : List ℕ). codes "element " ++ (class_text ns (element_at g k).0 ++ (codes " { " ++ (x ++ codes " }")))) (reference_moved s.pairing s.back count s.there_and_back items all (element_at g k).1 (s.bodies_below k b))
+      ∙ ap (λ (x : List ℕ). codes "element " ++ (class_text ns (element_at g k).0 ++ (codes " { " ++ (x ++ codes " }"))))
+      (reference_moved s.pairing s.back count s.there_and_back items all (element_at g k).1 (s.bodies_below k b))
   item_text_moved ns items all (pattern a) b = text_moved s.pairing s.back count s.there_and_back items all ns a b
 
-  lines_moved : (ns : List (List ℕ)) (items : List Item) → AllByRecursion (Below count) items → (some : List Item) → AllByRecursion (Below count) some → flat_map (item_line h ns (map (moved s.pairing) items)) (map (moved s.pairing) some) ≡ flat_map (item_line g ns items) some
+  lines_moved : (ns : List (List ℕ)) (items : List Item) → AllByRecursion (Below count) items → (some : List Item) → AllByRecursion (Below count) some
+      → flat_map (item_line h ns (map (moved s.pairing) items)) (map (moved s.pairing) some) ≡ flat_map (item_line g ns items) some
   lines_moved ns items all [] b = refl
-  lines_moved ns items all (i ∷ some) b = rw (name_moved s.pairing s.back count s.there_and_back items all i b.0, item_text_moved ns items all i b.0, lines_moved ns items all some b.1) refl
+  lines_moved ns items all (i ∷ some) b =
+      rw (name_moved s.pairing s.back count s.there_and_back items all i b.0, item_text_moved ns items all i b.0, lines_moved ns items all some b.1) refl
 
   mentions_moved : (i : Item) → Below count i → mentions h (moved s.pairing i) ≡ map (moved s.pairing) (mentions g i)
   mentions_moved (element k) b = ap (λ (e : NameClass × Simple ℕ). item_of e.1) (s.elements k b) ∙ item_moved s.pairing (element_at g k).1
@@ -203,19 +219,25 @@ module _ (g h : Grammar) (s : AreSameUpToNumbering g h) where
 
   items_moved : (items : List Item) → IsItemsOf g items → AllByRecursion (Below count) items × IsItemsOf h (map (moved s.pairing) items)
   items_moved items n = carried same_item same_item (moved s.pairing) (Below count)
-      (λ a b p q. carried_test same_item same_item item_exact item_itself item_exact item_itself (moved s.pairing) (moved s.back) a b (moved_back s.pairing s.back count s.there_and_back a p) (moved_back s.pairing s.back count s.there_and_back b q))
-      (item_of g.start) (mentions g) (item_of h.start) (mentions h) (ap item_of s.start ∙ item_moved s.pairing g.start) mentions_moved (item_below count g.start s.start_below) mentions_below items n
+      (λ a b p q. carried_test same_item same_item item_exact item_itself item_exact item_itself (moved s.pairing) (moved s.back) a b
+      (moved_back s.pairing s.back count s.there_and_back a p) (moved_back s.pairing s.back count s.there_and_back b q))
+      (item_of g.start) (mentions g) (item_of h.start) (mentions h) (ap item_of s.start ∙ item_moved s.pairing g.start) mentions_moved
+      (item_below count g.start s.start_below) mentions_below items n
 
   texts_same : (items : List Item) → AllByRecursion (Below count) items → text_of h (map (moved s.pairing) items) ≡ text_of g items
   texts_same items all =
       let ns : namespaces h (map (moved s.pairing) items) ≡ namespaces g items = ap (first_times bytes_eq) (all_namespaces items all) in
-      let start : reference (map (moved s.pairing) items) h.start ≡ reference items g.start = ap (reference (map (moved s.pairing) items)) s.start ∙ reference_moved s.pairing s.back count s.there_and_back items all g.start s.start_below in
+      let start : reference (map (moved s.pairing) items) h.start ≡ reference items g.start =
+      ap (reference (map (moved s.pairing) items)) s.start ∙ reference_moved s.pairing s.back count s.there_and_back items all g.start s.start_below in
       ap (λ (x : List (List ℕ)). lines h x (map (moved s.pairing) items)) ns
-      ∙ ap (λ (x : List ℕ). flat_map (namespace_line (namespaces g items)) (namespaces g items) ++ (line (codes "start") x ++ flat_map (item_line h (namespaces g items) (map (moved s.pairing) items)) (map (moved s.pairing) items))) start
-      ∙ ap (λ (x : List ℕ). flat_map (namespace_line (namespaces g items)) (namespaces g items) ++ (line (codes "start") (reference items g.start) ++ x)) (lines_moved (namespaces g items) items all items all)
+      ∙ ap (λ (x : List ℕ). flat_map (namespace_line (namespaces g items)) (namespaces g items)
+      ++ (line (codes "start") x ++ flat_map (item_line h (namespaces g items) (map (moved s.pairing) items)) (map (moved s.pairing) items))) start
+      ∙ ap (λ (x : List ℕ). flat_map (namespace_line (namespaces g items)) (namespaces g items) ++ (line (codes "start") (reference items g.start) ++ x))
+      (lines_moved (namespaces g items) items all items all)
 
   -- grammars that are the same up to numbering have one text
   pub same_text : (t u : List ℕ) → IsPrinted g t → IsPrinted h u → t ≡ u
   same_text t u p q =
       let m = items_moved p.items p.numbered in
-      p.is ∙ sym (texts_same p.items m.0) ∙ one_text h (text_of h (map (moved s.pairing) p.items)) u (record { items = map (moved s.pairing) p.items; numbered = m.1; is = refl }) q
+      p.is ∙ sym (texts_same p.items m.0)
+      ∙ one_text h (text_of h (map (moved s.pairing) p.items)) u (record { items = map (moved s.pairing) p.items; numbered = m.1; is = refl }) q

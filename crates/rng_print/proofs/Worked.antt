@@ -4,7 +4,8 @@ use Rattle.std.specs.Prelude.{decimal}
 use Rattle.std.proofs.Common.{arith}
 use Rattle.std.proofs.lemmas.Fmt.{decimal_digit}
 use Rattle.rng_model.specs.Names.{NameClass, any_except, ns_except, name_is, one_of, no_classes}
-use Rattle.rng_model.specs.Tree.{Datatype, choice, group, Simple, s_not_allowed, s_empty, s_text, s_leaf, s_attribute, s_data, s_data_except, s_value, s_one_or_more, s_joined}
+use Rattle.rng_model.specs.Tree.{Datatype, choice, group, Simple, s_not_allowed, s_empty, s_text, s_leaf, s_attribute, s_data, s_data_except, s_value}
+use Rattle.rng_model.specs.Tree.{s_one_or_more, s_joined}
 use Rattle.rng_model.specs.Table.{Grammar}
 use Rattle.rng_print.specs.Numbering.{numbered, numbered_from}
 use Rattle.rng_print.specs.PrintedText.{Item, element, same_item, item_of, mentions, text_of, literal, class_text}
@@ -43,8 +44,10 @@ plain_type w = record { library = []; name = w; parameters = [] }
 abbrev row_1 : Grammar
 row_1 = record {
   start = s_leaf 0;
-  elements =
-      (local_name (codes "a"), s_joined group (s_joined choice s_empty (s_attribute (local_name (codes "x")) s_text)) (s_joined choice s_empty (s_one_or_more (s_leaf 1)))) ∷
+  elements = (
+    local_name (codes "a"),
+    s_joined group (s_joined choice s_empty (s_attribute (local_name (codes "x")) s_text)) (s_joined choice s_empty (s_one_or_more (s_leaf 1))),
+  ) ∷
       (local_name (codes "b"), s_empty) ∷ [];
 }
 
@@ -58,10 +61,14 @@ row_1_text = rw (zero_text, one_text, two_text, three_text, four_text) refl
 abbrev row_2 : Grammar
 row_2 = record {
   start = s_leaf 0;
-  elements = (name_is (record { ns = codes "u"; local = codes "a" }), s_data_except (plain_type (codes "string")) (s_value (plain_type (codes "token")) (codes "x"))) ∷ [];
+  elements = (
+    name_is (record { ns = codes "u"; local = codes "a" }),
+    s_data_except (plain_type (codes "string")) (s_value (plain_type (codes "token")) (codes "x")),
+  ) ∷ [];
 }
 
-row_2_text : text_of row_2 (items_by 10 row_2) ≡ lines (codes "namespace n0 = \"u\"" ∷ codes "start = e0" ∷ codes "e0 = element n0:a { p0 }" ∷ codes "p0 = string - token \"x\"" ∷ [])
+row_2_text : text_of row_2 (items_by 10 row_2)
+    ≡ lines (codes "namespace n0 = \"u\"" ∷ codes "start = e0" ∷ codes "e0 = element n0:a { p0 }" ∷ codes "p0 = string - token \"x\"" ∷ [])
 unfolding numbered numbered_from
 row_2_text = rw zero_text refl
 
@@ -83,7 +90,11 @@ row_5_text : text_of (of_body (s_value (plain_type (codes "token")) (codes "say 
 row_5_text = rw zero_text refl
 
 -- element a { xsd:integer { minInclusive = "-3" } }
-row_6_text : text_of (of_body (s_data (record { library = codes "http://www.w3.org/2001/XMLSchema-datatypes"; name = codes "integer"; parameters = (codes "minInclusive", codes "-3") ∷ [] }))) (element 0 ∷ []) ≡
+row_6_text : text_of (of_body (s_data (record {
+  library = codes "http://www.w3.org/2001/XMLSchema-datatypes";
+  name = codes "integer";
+  parameters = (codes "minInclusive", codes "-3") ∷ [];
+}))) (element 0 ∷ []) ≡
     lines (codes "start = e0" ∷ codes "e0 = element a { xsd:integer { minInclusive = \"-3\" } }" ∷ [])
 row_6_text = rw zero_text refl
 
@@ -113,11 +124,17 @@ class_1 = refl
 class_2 : class_text [] (one_of (local_name (codes "a")) (one_of (local_name (codes "b")) (local_name (codes "c")) no_classes) no_classes) ≡ codes "a | (b | c)"
 class_2 = refl
 
-class_3 : class_text ([] ∷ []) (one_of (ns_except [] (local_name (codes "a"))) (any_except (one_of (local_name (codes "b")) (local_name (codes "c")) no_classes)) no_classes) ≡ codes "(n0:* - a) | (* - (b | c))"
+class_3 : class_text ([] ∷ [])
+    (one_of (ns_except [] (local_name (codes "a"))) (any_except (one_of (local_name (codes "b")) (local_name (codes "c")) no_classes)) no_classes)
+    ≡ codes "(n0:* - a) | (* - (b | c))"
 class_3 = rw zero_text refl
 
 -- names that are keywords are written as they are
-keyword_text : text_of (record { start = s_leaf 0; elements = (one_of (local_name (codes "element")) (name_is (record { ns = codes "u"; local = codes "start" })) no_classes, s_empty) ∷ [] }) (element 0 ∷ []) ≡
+keyword_text : text_of (record {
+  start = s_leaf 0;
+  elements = (one_of (local_name (codes "element")) (name_is (record { ns = codes "u"; local = codes "start" })) no_classes, s_empty) ∷ [];
+})
+    (element 0 ∷ []) ≡
     lines (codes "namespace n0 = \"u\"" ∷ codes "start = e0" ∷ codes "e0 = element element | n0:start { empty }" ∷ [])
 keyword_text = rw zero_text refl
 

@@ -43,7 +43,8 @@ module _ {A : Type 0} (same : A → A → Bool) where
 
   unfoldable pub numbered_from : (A → List A) → ℕ → ℕ → List A → List A
   numbered_from line zero lines written = written
-  numbered_from line (suc steps) lines written = numbered_at (slice_get written lines) (λ a written. numbered_from line steps (1 + lines) (and_new written (line a))) written
+  numbered_from line (suc steps) lines written =
+      numbered_at (slice_get written lines) (λ a written. numbered_from line steps (1 + lines) (and_new written (line a))) written
 
   unfoldable pub numbered : ℕ → List A → (A → List A) → List A
   numbered steps start line = numbered_from line steps 0 (first_times start)

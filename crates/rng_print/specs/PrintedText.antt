@@ -5,7 +5,8 @@ use Rattle.std.specs.List.{slice_index_or, filter_map}
 use Rattle.std.specs.Prelude.{Option, Some, None}
 use Rattle.std.specs.Str.{bytes_eq}
 use Rattle.rng_model.specs.Names.{NameClass, any_name, any_except, ns_name, ns_except, name_is, one_of, NameClasses, no_classes, class_and}
-use Rattle.rng_model.specs.Tree.{Datatype, Connector, choice, group, interleave, Simple, s_not_allowed, s_empty, s_text, s_leaf, s_attribute, s_list, s_data, s_data_except, s_value, s_one_or_more, s_joined}
+use Rattle.rng_model.specs.Tree.{Datatype, Connector, choice, group, interleave, Simple, s_not_allowed, s_empty, s_text, s_leaf, s_attribute, s_list, s_data}
+use Rattle.rng_model.specs.Tree.{s_data_except, s_value, s_one_or_more, s_joined}
 use Rattle.rng_model.specs.Table.{Grammar}
 use Rattle.rng_print.specs.Numbering.{first_times, place_in, IsNumbering}
 use Rattle.rng_print.specs.Same.{same_tree}
@@ -138,7 +139,9 @@ abbrev mutual
   class_text ns (ns_name u) = prefix_of ns u ++ codes ":*"
   class_text ns (ns_except u c) = prefix_of ns u ++ (codes ":* - " ++ in_parentheses_if (is_choice c || is_except c) (class_text ns c))
   class_text ns (name_is n) = name_text ns n.ns n.local
-  class_text ns (one_of c d cs) = in_parentheses_if (is_except c) (class_text ns c) ++ (codes " | " ++ (in_parentheses_if (is_choice d || is_except d) (class_text ns d) ++ classes_text ns cs))
+  class_text ns (one_of c d cs) =
+      in_parentheses_if (is_except c) (class_text ns c)
+      ++ (codes " | " ++ (in_parentheses_if (is_choice d || is_except d) (class_text ns d) ++ classes_text ns cs))
 
   -- members behind the second: a choice of more than two is nested in twos from the left
   pub classes_text : List (List ℕ) → NameClasses → List ℕ

@@ -27,7 +27,8 @@ pub(crate) struct Lines<'a, 'b> {
 impl<'a, 'b> Lines<'a, 'b> {
     /// Writes the lines of all namespaces.
     pub(crate) fn write_namespaces(&self, text: &mut Vec<u8>) -> Result<(), OutOfMemory>
-        ensures { OnOk result (text.new.items ≡ text.old.items ++ flat_map (namespace_line (namespaces_seen self.now.prefixes.now)) (namespaces_seen self.now.prefixes.now)) }
+        ensures { OnOk result
+            (text.new.items ≡ text.old.items ++ flat_map (namespace_line (namespaces_seen self.now.prefixes.now)) (namespaces_seen self.now.prefixes.now)) }
     {
         'namespaces: for ns in self.prefixes.namespaces.as_slice() {
             self.write_namespace_line(ns, text)?;
@@ -50,7 +51,8 @@ impl<'a, 'b> Lines<'a, 'b> {
     pub(crate) fn write_items(&self, text: &mut Vec<u8>) -> Result<(), OutOfMemory>
         requires { AreItems self.now.grammar.now self.now.items.now }
         ensures { OnOk result (text.new.items ≡ text.old.items
-            ++ flat_map (item_line (grammar_of self.now.grammar.now) (namespaces_seen self.now.prefixes.now) (items_seen self.now.grammar.now self.now.items.now))
+            ++ flat_map
+            (item_line (grammar_of self.now.grammar.now) (namespaces_seen self.now.prefixes.now) (items_seen self.now.grammar.now self.now.items.now))
             (items_seen self.now.grammar.now self.now.items.now)) }
     {
         'items: for item in self.items.all.as_slice() {
@@ -63,7 +65,8 @@ impl<'a, 'b> Lines<'a, 'b> {
     fn write_reference(&self, id: PatternId, text: &mut Vec<u8>) -> Result<(), OutOfMemory>
         requires items { AreItems self.now.grammar.now self.now.items.now }
         requires inside { id.0 < length self.now.grammar.now.patterns }
-        ensures { OnOk result (text.new.items ≡ text.old.items ++ reference (items_seen self.now.grammar.now self.now.items.now) (tree_at self.now.grammar.now.patterns id)) }
+        ensures { OnOk result
+            (text.new.items ≡ text.old.items ++ reference (items_seen self.now.grammar.now self.now.items.now) (tree_at self.now.grammar.now.patterns id)) }
     {
         let Some(pattern) = self.grammar.pattern(id) else {
             return Ok(());
@@ -96,7 +99,8 @@ impl<'a, 'b> Lines<'a, 'b> {
     fn write_braced(&self, id: PatternId, text: &mut Vec<u8>) -> Result<(), OutOfMemory>
         requires items { AreItems self.now.grammar.now self.now.items.now }
         requires inside { id.0 < length self.now.grammar.now.patterns }
-        ensures { OnOk result (text.new.items ≡ text.old.items ++ braced_text (reference (items_seen self.now.grammar.now self.now.items.now) (tree_at self.now.grammar.now.patterns id))) }
+        ensures { OnOk result (text.new.items
+            ≡ text.old.items ++ braced_text (reference (items_seen self.now.grammar.now self.now.items.now) (tree_at self.now.grammar.now.patterns id))) }
     {
         text.extend_from_slice(b" { ")?;
         self.write_reference(id, text)?;
@@ -131,7 +135,8 @@ impl<'a, 'b> Lines<'a, 'b> {
         requires items { AreItems self.now.grammar.now self.now.items.now }
         requires left { left.0 < length self.now.grammar.now.patterns }
         requires right { right.0 < length self.now.grammar.now.patterns }
-        ensures { OnOk result (text.new.items ≡ text.old.items ++ (reference (items_seen self.now.grammar.now self.now.items.now) (tree_at self.now.grammar.now.patterns left)
+        ensures { OnOk result
+            (text.new.items ≡ text.old.items ++ (reference (items_seen self.now.grammar.now self.now.items.now) (tree_at self.now.grammar.now.patterns left)
             ++ (connector.now ++ reference (items_seen self.now.grammar.now self.now.items.now) (tree_at self.now.grammar.now.patterns right)))) }
     {
         self.write_reference(left, text)?;

@@ -49,7 +49,8 @@ impl<'a> Prefixes<'a> {
     /// Adds those that the line of an item writes.
     fn add_item(&mut self, grammar: &'a SimpleGrammar, item: Item) -> Result<(), OutOfMemory>
         requires { IsInside grammar.now item }
-        ensures { OnOk result (namespaces_seen self.new ≡ and_new bytes_eq (namespaces_seen self.old) (namespaces_of (grammar_of grammar.now) (item_at grammar.now item))) }
+        ensures { OnOk result
+            (namespaces_seen self.new ≡ and_new bytes_eq (namespaces_seen self.old) (namespaces_of (grammar_of grammar.now) (item_at grammar.now item))) }
     {
         match item {
             Item::Element(id) => match grammar.element(id) {

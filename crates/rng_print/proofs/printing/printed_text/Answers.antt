@@ -14,5 +14,6 @@ returns c =
       numbered = c.in_ok-items.ensures.numbered;
       is =
           text_written _ _ _ _ _ _ _ c.new-text.ensures.items c.in_ok-write_namespaces.ensures c.in_ok-write_start.ensures c.in_ok-write_items.ensures
-          ∙ ap (λ ns. lines (grammar_of t) ns items) (c.in_ok-prefixes.ensures ∙ ap (λ xs. namespaces (grammar_of t) (map (item_at t) xs)) c.as_slice.ensures.value);
+          ∙ ap (λ ns. lines (grammar_of t) ns items)
+          (c.in_ok-prefixes.ensures ∙ ap (λ xs. namespaces (grammar_of t) (map (item_at t) xs)) c.as_slice.ensures.value);
     }

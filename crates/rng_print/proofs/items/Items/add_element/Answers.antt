@@ -15,10 +15,12 @@ returns-in_ok-push-clause-all c =
 
 pub returns-else-branch-clause-indexed : goal.returns-else-branch-clause-indexed
 returns-else-branch-clause-indexed c =
-    (element_there c.args.self.now (record { all = c.args.self.now.all; elements = c.insert.new.self; patterns = c.args.self.now.patterns }) c.args.id c.requires refl
+    (element_there c.args.self.now
+    (record { all = c.args.self.now.all; elements = c.insert.new.self; patterns = c.args.self.now.patterns }) c.args.id c.requires refl
     (is_old _ _ c.in_ok-insert.ensures.added c.if-branch.false) c.in_ok-insert.ensures.keys refl).0
 
 pub returns-else-branch-clause-all : goal.returns-else-branch-clause-all
 returns-else-branch-clause-all c =
-    (element_there c.args.self.now (record { all = c.args.self.now.all; elements = c.insert.new.self; patterns = c.args.self.now.patterns }) c.args.id c.requires refl
+    (element_there c.args.self.now
+    (record { all = c.args.self.now.all; elements = c.insert.new.self; patterns = c.args.self.now.patterns }) c.args.id c.requires refl
     (is_old _ _ c.in_ok-insert.ensures.added c.if-branch.false) c.in_ok-insert.ensures.keys refl).1

@@ -14,7 +14,8 @@ pub returns-in-Some-clause-added : goal.returns-in-Some-clause-added
 returns-in-Some-clause-added c =
     let body = ap (λ e. item_of e.1) (element_is c.args.grammar.now c.in-Element.id.0 c.in-Some.field-0.now (sym c.in-Some.ensures)) in
     let line = ap (λ i. mentions (grammar_of c.args.grammar.now) (item_at c.args.grammar.now i)) c.in-Element.is ∙ body in
-    subst (λ is. OnOk c.add_written.result (items_seen c.args.grammar.now c.add_written.new.self ≡ and_new same_item (items_seen c.args.grammar.now c.args.self.now) is))
+    subst (λ is. OnOk c.add_written.result
+    (items_seen c.args.grammar.now c.add_written.new.self ≡ and_new same_item (items_seen c.args.grammar.now c.args.self.now) is))
     (sym line) c.add_written.ensures.added
 
 pub returns-in-None-clause-added : goal.returns-in-None-clause-added

@@ -18,5 +18,6 @@ pub lines-preserved : goal.lines-preserved
 lines-preserved c =
     let long : c.lines.lines < length c.lines.found.all.items = search rules in
     let at : get_or c.lines.found.all.items c.lines.lines c.index-item.result.now ≡ c.index-item.result.now = search rules in
-    one_line c.args.grammar.now c.lines.found c.add_mentions.new.self c.lines.lines c.index-item.result.now c.lines.invariant long at c.in_ok-add_mentions.ensures.items
+    one_line c.args.grammar.now c.lines.found c.add_mentions.new.self c.lines.lines c.index-item.result.now c.lines.invariant long at
+    c.in_ok-add_mentions.ensures.items
     c.in_ok-add_mentions.ensures.added

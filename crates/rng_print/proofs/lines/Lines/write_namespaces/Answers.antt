@@ -6,7 +6,8 @@ use Rattle.rng_print.proofs.lines.Lines.write_namespaces.Goals as goal
 pub returns : goal.returns
 returns c =
     let f = namespace_line (namespaces_seen c.args.self.now.prefixes.now) in
-    all_written f (λ ns. ns.now) _ _ c.as_slice-ns-items.result.now _ c.namespaces.ns-index c.namespaces-test.false c.as_slice-ns-items.ensures.keys c.namespaces.invariant
+    all_written f (λ ns. ns.now) _ _ c.as_slice-ns-items.result.now _ c.namespaces.ns-index c.namespaces-test.false c.as_slice-ns-items.ensures.keys
+    c.namespaces.invariant
 
 pub namespaces-preserved : goal.namespaces-preserved
 namespaces-preserved c =

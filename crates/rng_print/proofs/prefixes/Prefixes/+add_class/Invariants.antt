@@ -8,4 +8,5 @@ use Rattle.rng_print.proofs.prefixes.Prefixes.+add_class.Given as goal
 
 -- the namespaces of the members so far are added
 abbrev pub invariant-members : goal.invariant-members
-invariant-members l = namespaces_seen l.self ≡ and_new bytes_eq (namespaces_seen l.fn.self) (flat_map (λ c. namespaces_in (class_of c)) (take l.member-index l.member-items))
+invariant-members l =
+    namespaces_seen l.self ≡ and_new bytes_eq (namespaces_seen l.fn.self) (flat_map (λ c. namespaces_in (class_of c)) (take l.member-index l.member-items))

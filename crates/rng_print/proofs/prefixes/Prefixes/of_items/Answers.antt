@@ -19,4 +19,5 @@ returns c =
 pub items-preserved : goal.items-preserved
 items-preserved c =
     let t = c.args.grammar.now in
-    one_added (λ x. namespaces_of (grammar_of t) (item_at t x)) [] _ _ c.args.items.now c.items.item-index _ c.items-test.true c.items.invariant c.in_ok-add_item.ensures
+    one_added (λ x. namespaces_of (grammar_of t) (item_at t x)) [] _ _ c.args.items.now c.items.item-index _ c.items-test.true c.items.invariant
+    c.in_ok-add_item.ensures

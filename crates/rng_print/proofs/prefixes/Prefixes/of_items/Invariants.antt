@@ -9,4 +9,5 @@ use Rattle.rng_print.proofs.prefixes.Prefixes.of_items.Given as goal
 
 -- the namespaces of the items so far are there
 abbrev pub invariant-items : goal.invariant-items
-invariant-items l = namespaces_seen l.prefixes ≡ and_new bytes_eq [] (flat_map (λ x. namespaces_of (grammar_of l.grammar) (item_at l.grammar x)) (take l.item-index l.items))
+invariant-items l =
+    namespaces_seen l.prefixes ≡ and_new bytes_eq [] (flat_map (λ x. namespaces_of (grammar_of l.grammar) (item_at l.grammar x)) (take l.item-index l.items))

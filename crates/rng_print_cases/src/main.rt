@@ -1,0 +1,83 @@
+//! Prints, for the files in each row of `cases.txt`, the text of their simple grammar, and then whether that text, read as a
+//! schema of one file, is printed as itself again; or the clause that the files break.
+//!
+//! A row has what is asked for, and files: the name of each, a text, and how often the text stands in it. Texts of one name
+//! stand behind one another. In each of them `^` is its number, from 0, and `^+` the next one. The first file is the main one.
+//! Asked for is `text`, the whole text; `end`, how many lines it has, and the last; or `again`, no more than whether it is
+//! printed as itself again.
+#![tactic(auto)]
+
+mod files;
+
+use case_rows::{Row, rows};
+use files::files_of;
+use rng_load::load;
+use rng_model::SchemaFault;
+use rng_print::printed_text;
+use rng_simple::simplify_schema;
+use std::alloc::Global;
+use std::io;
+
+fn main(rt: HostRuntime) -> io::Result<()> {
+    for row in rows(&rt, "cases.txt")? {
+        print_case(&rt, &row)?;
+    }
+    Ok(())
+}
+
+/// Prints what is asked for of the text of a row's files.
+fn print_case(rt: &(impl Print + AllocGlobal), row: &Row) -> io::Result<()> {
+    let files = files_of(rt.alloc(), row)?;
+    match text_of_files(rt.alloc(), files.as_slice(), row.text(1)?) {
+        Ok(text) => {
+            print_text(rt, row.text(0)?, text.as_str())?;
+            print_again(rt, text.as_str())
+        }
+        Err(fault) => print_fault(rt, fault),
+    }
+}
+
+/// Prints a text, or its number of lines and the last, or nothing.
+fn print_text(rt: &impl Print, asked: &str, text: &str) -> io::Result<()> {
+    match asked {
+        "text" => print!(rt; "{text}"),
+        "end" => {
+            let count = text.lines().count();
+            let last = text.lines().last().unwrap_or("");
+            println!(rt; "{count} lines, the last: {last}")
+        }
+        _ => Ok(()),
+    }
+}
+
+/// Prints whether a text is printed as itself again, and if not, what is printed.
+fn print_again(rt: &(impl Print + AllocGlobal), text: &str) -> io::Result<()> {
+    let name = String::from_str(rt.alloc(), "s.rnc")?;
+    let bytes = Vec::from_slice(rt.alloc(), text.as_bytes())?;
+    match text_of_files(rt.alloc(), &[(name, bytes)], "s.rnc") {
+        Ok(again) if again.as_str() == text => println!(rt; "again: same"),
+        Ok(again) => println!(rt; "again: {again}"),
+        Err(fault) => print_fault(rt, fault),
+    }
+}
+
+/// Prints which clause is broken.
+fn print_fault(rt: &impl Print, fault: SchemaFault) -> io::Result<()> {
+    match fault {
+        SchemaFault::File { clause, name } => println!(rt; "S{clause} {name}"),
+        SchemaFault::Clause(clause) => println!(rt; "S{clause}"),
+        SchemaFault::Memory => println!(rt; "out of memory"),
+    }
+}
+
+/// The text of the simple grammar of the schema that files make.
+fn text_of_files(
+    alloc: Global,
+    files: &[(String, Vec<u8>)],
+    main: &str,
+) -> Result<String, SchemaFault> {
+    let schema = load(alloc, files, main)?;
+    let grammar = simplify_schema(alloc, &schema)?;
+    let bytes = printed_text(alloc, &grammar).map_err(|_| SchemaFault::Memory)?;
+    String::from_utf8(bytes).map_err(|_| SchemaFault::Memory)
+}
