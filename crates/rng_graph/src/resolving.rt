@@ -94,8 +94,10 @@ impl<'a> Scope<'a> {
         pattern: &'a SchemaPattern,
         numbering: &mut Numbering<'a>,
     ) -> Result<GraphPattern<'a>, OutOfMemory>
-        ensures pattern { IfOk result (λ r. graph_pattern_of r ≡ (resolve (place_of self.now.place.now) (option_map (λ z. place_of z.now) self.now.outer) (schema_pattern_of pattern.now) (numbering_of numbering.old)).0) }
-        ensures numbering { OnOk result (numbering_of numbering.new ≡ (resolve (place_of self.now.place.now) (option_map (λ z. place_of z.now) self.now.outer) (schema_pattern_of pattern.now) (numbering_of numbering.old)).1) }
+        ensures pattern { IfOk result (λ r. graph_pattern_of r
+            ≡ (resolve (place_of self.now.place.now) (option_map (λ z. place_of z.now) self.now.outer) (schema_pattern_of pattern.now) (numbering_of numbering.old)).0) }
+        ensures numbering { OnOk result (numbering_of numbering.new
+            ≡ (resolve (place_of self.now.place.now) (option_map (λ z. place_of z.now) self.now.outer) (schema_pattern_of pattern.now) (numbering_of numbering.old)).1) }
     {
         match pattern {
             SchemaPattern::NotAllowed => Ok(GraphPattern::NotAllowed),
@@ -154,8 +156,12 @@ impl<'a> Scope<'a> {
         child: &'a SchemaPattern,
         numbering: &mut Numbering<'a>,
     ) -> Result<GraphPattern<'a>, OutOfMemory>
-        ensures pattern { IfOk result (λ r. graph_pattern_of r ≡ (within (around outside.entry) (resolve (place_of self.now.place.now) (option_map (λ z. place_of z.now) self.now.outer) (schema_pattern_of child.now) (numbering_of numbering.old))).0) }
-        ensures numbering { OnOk result (numbering_of numbering.new ≡ (within (around outside.entry) (resolve (place_of self.now.place.now) (option_map (λ z. place_of z.now) self.now.outer) (schema_pattern_of child.now) (numbering_of numbering.old))).1) }
+        ensures pattern { IfOk result (λ r. graph_pattern_of r
+            ≡ (within (around outside.entry) (resolve (place_of self.now.place.now) (option_map (λ z. place_of z.now) self.now.outer)
+            (schema_pattern_of child.now) (numbering_of numbering.old))).0) }
+        ensures numbering { OnOk result (numbering_of numbering.new
+            ≡ (within (around outside.entry) (resolve (place_of self.now.place.now) (option_map (λ z. place_of z.now) self.now.outer)
+            (schema_pattern_of child.now) (numbering_of numbering.old))).1) }
     {
         let child = self.pattern(child, numbering)?;
         Ok(outside.of(Box::new(self.alloc, child)?))
@@ -170,8 +176,12 @@ impl<'a> Scope<'a> {
         patterns: &'a [SchemaPattern],
         numbering: &mut Numbering<'a>,
     ) -> Result<GraphPattern<'a>, OutOfMemory>
-        ensures pattern { IfOk result (λ r. graph_pattern_of r ≡ (resolve (place_of self.now.place.now) (option_map (λ z. place_of z.now) self.now.outer) (schema.members (connector_of connector) (map schema_pattern_of patterns.now)) (numbering_of numbering.old)).0) }
-        ensures numbering { OnOk result (numbering_of numbering.new ≡ (resolve (place_of self.now.place.now) (option_map (λ z. place_of z.now) self.now.outer) (schema.members (connector_of connector) (map schema_pattern_of patterns.now)) (numbering_of numbering.old)).1) }
+        ensures pattern { IfOk result (λ r. graph_pattern_of r
+            ≡ (resolve (place_of self.now.place.now) (option_map (λ z. place_of z.now) self.now.outer)
+            (schema.members (connector_of connector) (map schema_pattern_of patterns.now)) (numbering_of numbering.old)).0) }
+        ensures numbering { OnOk result (numbering_of numbering.new
+            ≡ (resolve (place_of self.now.place.now) (option_map (λ z. place_of z.now) self.now.outer)
+            (schema.members (connector_of connector) (map schema_pattern_of patterns.now)) (numbering_of numbering.old)).1) }
     {
         let mut members = Vec::new(self.alloc);
         for pattern in patterns {

@@ -43,7 +43,8 @@ impl<'a> TreeReader<'a> {
         components: &'a [rnc_grammar::Component],
         all: &mut Vec<GatheredComponent<'a>>,
     ) -> Result<(), OutOfMemory>
-        ensures gathered { OnOk result (map gathered_of all.new.items ≡ map gathered_of all.old.items ++ gather_at (files_in self.entry) levels uri.now (reverse way.old.items) 0 (components_of (map component_of components.now))) }
+        ensures gathered { OnOk result (map gathered_of all.new.items ≡ map gathered_of all.old.items
+            ++ gather_at (files_in self.entry) levels uri.now (reverse way.old.items) 0 (components_of (map component_of components.now))) }
         ensures way { OnOk result (way.new.items ≡ way.old.items) }
     {
         for (number, component) in components.iter().enumerate() {
@@ -63,7 +64,8 @@ impl<'a> TreeReader<'a> {
         component: &'a rnc_grammar::Component,
         all: &mut Vec<GatheredComponent<'a>>,
     ) -> Result<(), OutOfMemory>
-        ensures gathered { OnOk result (map gathered_of all.new.items ≡ map gathered_of all.old.items ++ gather_one_at (files_in self.entry) levels uri.now (number ∷ reverse way.old.items) (component_of component.now)) }
+        ensures gathered { OnOk result (map gathered_of all.new.items ≡ map gathered_of all.old.items
+            ++ gather_one_at (files_in self.entry) levels uri.now (number ∷ reverse way.old.items) (component_of component.now)) }
         ensures way { OnOk result (way.new.items ≡ way.old.items) }
     {
         way.push(number)?;
@@ -83,7 +85,8 @@ impl<'a> TreeReader<'a> {
         component: &'a rnc_grammar::Component,
         all: &mut Vec<GatheredComponent<'a>>,
     ) -> Result<(), OutOfMemory>
-        ensures gathered { OnOk result (map gathered_of all.new.items ≡ map gathered_of all.old.items ++ gather_one_at (files_in self.entry) levels uri.now (reverse way.old.items) (component_of component.now)) }
+        ensures gathered { OnOk result (map gathered_of all.new.items ≡ map gathered_of all.old.items
+            ++ gather_one_at (files_in self.entry) levels uri.now (reverse way.old.items) (component_of component.now)) }
         ensures way { OnOk result (way.new.items ≡ way.old.items) }
     {
         match component {
@@ -117,7 +120,10 @@ impl<'a> TreeReader<'a> {
         overriding: &'a [rnc_grammar::Component],
         all: &mut Vec<GatheredComponent<'a>>,
     ) -> Result<(), OutOfMemory>
-        ensures gathered { OnOk result (map gathered_of all.new.items ≡ map gathered_of all.old.items ++ replaced_by (included_with (gather_below (files_in self.entry) levels) (uri_in uri.now (mention_of mention.now).namespace) (reverse way.old.items) (grammar_if (files_in self.entry (mention_of mention.now).href))) (gather_at (files_in self.entry) levels uri.now (1 ∷ reverse way.old.items) 0 (components_of (map component_of overriding.now)))) }
+        ensures gathered { OnOk result (map gathered_of all.new.items ≡ map gathered_of all.old.items
+            ++ replaced_by (included_with (gather_below (files_in self.entry) levels) (uri_in uri.now (mention_of mention.now).namespace)
+            (reverse way.old.items) (grammar_if (files_in self.entry (mention_of mention.now).href)))
+            (gather_at (files_in self.entry) levels uri.now (1 ∷ reverse way.old.items) 0 (components_of (map component_of overriding.now)))) }
         ensures way { OnOk result (way.new.items ≡ way.old.items) }
     {
         let included = self.included(levels, uri, way, mention)?;
@@ -137,7 +143,9 @@ impl<'a> TreeReader<'a> {
         way: &mut Vec<usize>,
         mention: &'a Mention,
     ) -> Result<Vec<GatheredComponent<'a>>, OutOfMemory>
-        ensures gathered { IfOk result (λ all. map gathered_of all.items ≡ included_with (gather_below (files_in self.entry) levels) (uri_in uri.now (mention_of mention.now).namespace) (reverse way.old.items) (grammar_if (files_in self.entry (mention_of mention.now).href))) }
+        ensures gathered { IfOk result (λ all. map gathered_of all.items
+            ≡ included_with (gather_below (files_in self.entry) levels) (uri_in uri.now (mention_of mention.now).namespace)
+            (reverse way.old.items) (grammar_if (files_in self.entry (mention_of mention.now).href))) }
         ensures way { OnOk result (way.new.items ≡ way.old.items) }
     {
         let uri = namespace_uri(&mention.namespace, uri);
@@ -163,7 +171,8 @@ impl<'a> TreeReader<'a> {
         components: &'a [rnc_grammar::Component],
         all: &mut Vec<GatheredComponent<'a>>,
     ) -> Result<(), OutOfMemory>
-        ensures gathered { OnOk result (map gathered_of all.new.items ≡ map gathered_of all.old.items ++ gather_at (files_in self.entry) levels uri.now (number ∷ reverse way.old.items) 0 (components_of (map component_of components.now))) }
+        ensures gathered { OnOk result (map gathered_of all.new.items ≡ map gathered_of all.old.items
+            ++ gather_at (files_in self.entry) levels uri.now (number ∷ reverse way.old.items) 0 (components_of (map component_of components.now))) }
         ensures way { OnOk result (way.new.items ≡ way.old.items) }
     {
         way.push(number)?;
@@ -184,7 +193,8 @@ impl<'a> TreeReader<'a> {
         pattern: &'a Pattern,
         all: &mut Vec<GatheredComponent<'a>>,
     ) -> Result<(), OutOfMemory>
-        ensures gathered { OnOk result (map gathered_of all.new.items ≡ map gathered_of all.old.items ++ gathered_as (option_map (λ y. string_bytes y) name) method (read_at (files_in self.entry) levels uri.now (reverse way.old.items) (pattern_of pattern.now)) ∷ []) }
+        ensures gathered { OnOk result (map gathered_of all.new.items ≡ map gathered_of all.old.items
+            ++ gathered_as (option_map (λ y. string_bytes y) name) method (read_at (files_in self.entry) levels uri.now (reverse way.old.items) (pattern_of pattern.now)) ∷ []) }
         ensures way { OnOk result (way.new.items ≡ way.old.items) }
     {
         let component = self.gathered(levels, uri, way, name, method, pattern)?;
@@ -201,7 +211,8 @@ impl<'a> TreeReader<'a> {
         method: Method,
         pattern: &'a Pattern,
     ) -> Result<GatheredComponent<'a>, OutOfMemory>
-        ensures gathered { IfOk result (λ g. gathered_of g ≡ gathered_as (option_map (λ y. string_bytes y) name) method (read_at (files_in self.entry) levels uri.now (reverse way.old.items) (pattern_of pattern.now))) }
+        ensures gathered { IfOk result (λ g. gathered_of g
+            ≡ gathered_as (option_map (λ y. string_bytes y) name) method (read_at (files_in self.entry) levels uri.now (reverse way.old.items) (pattern_of pattern.now))) }
         ensures way { OnOk result (way.new.items ≡ way.old.items) }
     {
         let mut grammars = Vec::new(self.alloc);
