@@ -117,18 +117,18 @@ mutual
 
 -- ---- datatypes
 
-record TypeMark (lib name : List ℕ) : Type 0 where
+record TypeMark (library name : List ℕ) : Type 0 where
   mark : Mark
-  spells : Spells (cond (bytes_eq lib []) (word name) (cname (codes "xsd") name)) mark
+  spells : Spells (cond (bytes_eq library []) (word name) (cname (codes "xsd") name)) mark
   is : IsMark mark
 
-type_of : (lib name : List ℕ) → CanBeNamed lib name → TypeMark lib name
+type_of : (library name : List ℕ) → CanBeNamed library name → TypeMark library name
 unfolding encode_utf8
-type_of lib name (inl k) = subst (λ (x : List ℕ). TypeMark x name) (sym k.0) (elim k.1 [
+type_of library name (inl k) = subst (λ (x : List ℕ). TypeMark x name) (sym k.0) (elim k.1 [
   | inl e ↦ subst (λ (x : List ℕ). TypeMark [] x) (sym e) (record { mark = word (codes "string"); spells = a_word refl; is = refl })
   | inr e ↦ subst (λ (x : List ℕ). TypeMark [] x) (sym e) (record { mark = word (codes "token"); spells = a_word refl; is = refl })
 ])
-type_of lib name (inr k) =
+type_of library name (inr k) =
     subst (λ (x : List ℕ). TypeMark x name) (sym k.0)
     (record { mark = cname (codes "xsd") (chars name); spells = a_cname refl (encodes-chars name k.1.0); is = (refl, k.1.1) })
 

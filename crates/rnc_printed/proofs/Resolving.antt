@@ -121,13 +121,14 @@ mutual
 
 -- ---- patterns
 
-type_found : (s : Scope) (lib name : List ℕ) → CanBeNamed lib name → type_in s (lines.type_of lib name) ≡ Some (record { library = lib; name = name })
-type_found s lib name (inl k) = subst (λ (x : List ℕ). type_in s (lines.type_of x name) ≡ Some (record { library = x; name = name })) (sym k.0) (named k.1)
+type_found : (s : Scope) (library name : List ℕ) → CanBeNamed library name
+    → type_in s (lines.type_of library name) ≡ Some (record { library = library; name = name })
+type_found s library name (inl k) = subst (λ (x : List ℕ). type_in s (lines.type_of x name) ≡ Some (record { library = x; name = name })) (sym k.0) (named k.1)
   where
     named : (name ≡ codes "string") ⊎ (name ≡ codes "token") → type_in s (lines.type_of [] name) ≡ Some (record { library = []; name = name })
     named (inl e) = subst (λ (x : List ℕ). type_in s (lines.type_of [] x) ≡ Some (record { library = []; name = x })) (sym e) refl
     named (inr e) = subst (λ (x : List ℕ). type_in s (lines.type_of [] x) ≡ Some (record { library = []; name = x })) (sym e) refl
-type_found s lib name (inr k) = subst (λ (x : List ℕ). type_in s (lines.type_of x name) ≡ Some (record { library = x; name = name })) (sym k.0) refl
+type_found s library name (inr k) = subst (λ (x : List ℕ). type_in s (lines.type_of x name) ≡ Some (record { library = x; name = name })) (sym k.0) refl
 
 reference_found : (s : Scope) (items : List Item) (a : Simple ℕ) → KnowsType a → pattern_in s (lines.reference_of items a) ≡ Some (trees.reference_of items a)
 reference_found s items s_not_allowed k = refl

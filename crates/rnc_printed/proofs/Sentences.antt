@@ -219,9 +219,9 @@ token_word : (n : ℕ) → type_of (word_at (codes "token") n) ≡ Some token_ty
 unfolding keyword_of
 token_word n = refl
 
-type_token : (n : ℕ) (lib name : List ℕ) (ps : List (List ℕ × List ℕ)) → CanBeNamed lib name
-    → TypeToken n (record { library = lib; name = name; parameters = ps })
-type_token n lib name ps (inl k) = subst (λ (x : List ℕ). TypeToken n (record { library = x; name = name; parameters = ps })) (sym k.0) (named k.1)
+type_token : (n : ℕ) (library name : List ℕ) (ps : List (List ℕ × List ℕ)) → CanBeNamed library name
+    → TypeToken n (record { library = library; name = name; parameters = ps })
+type_token n library name ps (inl k) = subst (λ (x : List ℕ). TypeToken n (record { library = x; name = name; parameters = ps })) (sym k.0) (named k.1)
   where
     named : (name ≡ codes "string") ⊎ (name ≡ codes "token") → TypeToken n (record { library = []; name = name; parameters = ps })
     named (inl e) =
@@ -230,7 +230,7 @@ type_token n lib name ps (inl k) = subst (λ (x : List ℕ). TypeToken n (record
     named (inr e) =
         subst (λ (x : List ℕ). TypeToken n (record { library = []; name = x; parameters = ps })) (sym e)
         (record { token = word_at (codes "token") n; is = token_word n; behind = λ ms. refl })
-type_token n lib name ps (inr k) =
+type_token n library name ps (inr k) =
     subst (λ (x : List ℕ). TypeToken n (record { library = x; name = name; parameters = ps })) (sym k.0)
     (record { token = lexeme.cname (codes "xsd") name; is = refl; behind = λ ms. refl })
 

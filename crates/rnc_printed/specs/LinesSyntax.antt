@@ -42,7 +42,7 @@ abbrev mutual
   classes_of ns (names.class_and c cs) = class_of ns c ∷ classes_of ns cs
 
 abbrev pub type_of : List ℕ → List ℕ → DatatypeName
-type_of lib name = if bytes_eq lib [] then (if bytes_eq name (codes "string") then string_type else token_type) else prefixed_type (codes "xsd") name
+type_of library name = if bytes_eq library [] then (if bytes_eq name (codes "string") then string_type else token_type) else prefixed_type (codes "xsd") name
 
 abbrev pub reference_of : List Item → Simple ℕ → Pattern
 reference_of items s_not_allowed = syntax.not_allowed

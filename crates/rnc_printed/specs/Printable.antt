@@ -59,7 +59,7 @@ IsPrintableClass c = HasNames c × (parentheses c ≤ nesting_limit)
 -- it has a name in the compact syntax: `string` and `token` are of the library with the empty uri, and those with the prefix
 -- `xsd` of that of XML Schema (RELAX NG Compact Syntax, "Declarations")
 abbrev pub CanBeNamed : List ℕ → List ℕ → Type 0
-CanBeNamed lib name = ((lib ≡ []) × ((name ≡ codes "string") ⊎ (name ≡ codes "token"))) ⊎ ((lib ≡ xsd_uri) × IsName name)
+CanBeNamed library name = ((library ≡ []) × ((name ≡ codes "string") ⊎ (name ≡ codes "token"))) ⊎ ((library ≡ xsd_uri) × IsName name)
 
 -- a parameter, a datatype, a tree and a grammar that are
 abbrev pub IsPrintableParameter : List ℕ × List ℕ → Type 0
