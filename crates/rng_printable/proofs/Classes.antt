@@ -1,9 +1,10 @@
 -- A step of simplification in a name class keeps its names, and the parentheses with which it is printed.
-use Rattle.std.proofs.Common.{◌≡◌, ◌∙◌, refl, sym, subst, ap, ℕ, suc, ◌≤◌, max, Bool, true, false, ◌||◌, List, arith}
-use Rattle.rng_model.specs.Names.{NameClass, any_name, any_except, ns_name, ns_except, name_is, one_of, NameClasses, no_classes, class_and}
+use Rattle.std.proofs.Common.{◌≡◌, refl, sym, subst, ap, ℕ, ◌≤◌, max, ◌||◌, arith}
+use Rattle.rng_model.specs.Names.{NameClass, NameClasses}
 use Rattle.rng_model.specs.ClassSteps as step
 use Rattle.rng_model.specs.ClassSteps.{ClassStep, ClassesStep, ClassSteps, IsSimpleClassOf}
-use Rattle.rng_printable.specs.Printable.{is_choice, is_except, HasNames, HaveNames, one_more_if, parentheses, parentheses_among, nesting_limit, IsPrintableClass}
+use Rattle.rng_print.specs.PrintedText.{is_choice, is_except}
+use Rattle.rng_printable.specs.Printable.{HasNames, HaveNames, one_more_if, parentheses, parentheses_among, nesting_limit, IsPrintableClass}
 
 -- ---- names
 

@@ -1,5 +1,5 @@
--- A simple form of a schema whose components are well written and whose datatypes are known is printable.
-use Rattle.std.proofs.Common.{◌≡◌, refl, sym, subst, ℕ, suc, ◌+◌, ◌⊎◌, inl, inr, Bool, true, false, if◌then◌else◌, List, [], ◌∷◌, Option, Some, None}
+-- A simple form of a schema whose components are well spelled and whose datatypes are known is printable.
+use Rattle.std.proofs.Common.{◌≡◌, refl, subst, ℕ, suc, ◌+◌, inl, inr, Bool, true, false, if◌then◌else◌, List, [], ◌∷◌, Option, Some, None}
 use Rattle.std.proofs.Common.{slice_get, codes}
 use Rattle.std.specs.List.{AllByRecursion}
 use Rattle.std.specs.Str.{bytes_eq}
@@ -7,7 +7,7 @@ use Rattle.std.proofs.lemmas.List.Elements.{All-contains}
 use Rattle.std.proofs.lemmas.Slice.Eq.{bytes_eq-Decides}
 use Rattle.rng_model.specs.Lists.{Among, here, there}
 use Rattle.rng_model.specs.Names.{NameClass}
-use Rattle.rng_model.specs.Tree.{Datatype, Connector, Tree, Trees, Simple}
+use Rattle.rng_model.specs.Tree.{Datatype, Tree, Trees, Simple}
 use Rattle.rng_model.specs.Datatypes.{BuiltInType, IsType, xsd_uri}
 use Rattle.rng_model.specs.Datatypes as types
 use Rattle.rng_model.specs.Table.{Grammar}
@@ -22,8 +22,8 @@ use Rattle.rng_model.specs.SchemaForm.{IsElementOf, IsSimpleFormOfSchema, IsSame
 use Rattle.rng_model.specs.Unfolding as unfolding_of
 use Rattle.rng_model.specs.Unfolding.{Leaf, to_element, outside, aim, Unfolds, UnfoldAll, IsTreeOf, IsBodyOf}
 use Rattle.rng_model.specs.Reached.{IsReachedBySimpleForms, from_simple_start, from_simple_body}
-use Rattle.rng_printable.specs.Printable.{IsText, IsName, IsPrintableClass, IsKnownType, IsPrintableType, IsPrintableTree, IsPrintable}
-use Rattle.rng_printable.specs.PrintableComponents.{IsWrittenPattern, AreWrittenPatterns, IsWrittenSchema}
+use Rattle.rng_printable.specs.Printable.{IsName, IsPrintableClass, IsKnownType, IsPrintableTree, IsPrintable}
+use Rattle.rng_printable.specs.WellSpelledSchemas.{IsWellSpelledPattern, AreWellSpelledPatterns, IsWellSpelledSchema}
 use Rattle.rng_printable.proofs.Classes.{simple_printable}
 use Rattle.rng_printable.proofs.Trees.{IsGoodTree, AreGoodTrees, AreAllGood, leaf_of, steps_good, nested_good, simple_good, none_is_not_some}
 
@@ -67,10 +67,10 @@ each_found P (x ∷ xs) f = (f 0 x refl, each_found P xs (λ k y e. f (suc k) y 
 
 -- ---- trees of a schema
 
-module _ (s : Schema) (good : IsWrittenSchema s) (kept : ¬ (BreaksDatatype s)) where
-  -- a pattern is well written, and what stands in it is written at the place
+module _ (s : Schema) (good : IsWellSpelledSchema s) (kept : ¬ (BreaksDatatype s)) where
+  -- a pattern is well spelled, and what stands in it is written at the place
   abbrev IsGoodAt : Place → Pattern → Type 0
-  IsGoodAt x p = IsWrittenPattern p × ((q : Pattern) → IsWrittenIn q p → IsWrittenAt s x q)
+  IsGoodAt x p = IsWellSpelledPattern p × ((q : Pattern) → IsWrittenIn q p → IsWrittenAt s x q)
 
   -- an element's class is printable, and its body so
   abbrev IsGoodPoint : Place → Point → Type 0
@@ -92,7 +92,7 @@ module _ (s : Schema) (good : IsWrittenSchema s) (kept : ¬ (BreaksDatatype s)) 
   value_known x library name v n w = known library name n (λ no. kept (of_value w (λ a. no (type_known a.1.named n))))
 
   mutual
-    pattern_good : (x : Place) (p : Pattern) (n : Position) → IsWrittenPattern p → ((q : Pattern) → IsWrittenIn q p → IsWrittenAt s x q)
+    pattern_good : (x : Place) (p : Pattern) (n : Position) → IsWellSpelledPattern p → ((q : Pattern) → IsWrittenIn q p → IsWrittenAt s x q)
         → IsGoodTree (IsGoodPoint x) (pattern_tree n p)
     pattern_good x written.not_allowed n h w = tt
     pattern_good x written.empty n h w = tt
@@ -119,7 +119,7 @@ module _ (s : Schema) (good : IsWrittenSchema s) (kept : ¬ (BreaksDatatype s)) 
     pattern_good x (written.grammar z) n h w = tt
     pattern_good x (written.external p) n h w = pattern_good x p (0 ∷ n) h (λ q i. w q (in_external i))
 
-    patterns_good : (x : Place) (ps : Patterns) (m : ℕ) (n : Position) → AreWrittenPatterns ps
+    patterns_good : (x : Place) (ps : Patterns) (m : ℕ) (n : Position) → AreWellSpelledPatterns ps
         → ((q : Pattern) → IsWrittenAmong q ps → IsWrittenAt s x q) → AreGoodTrees (IsGoodPoint x) (pattern_trees m n ps)
     patterns_good x no_patterns m n h w = tt
     patterns_good x (pattern_and p ps) m n h w =
@@ -213,5 +213,5 @@ module _ (s : Schema) (good : IsWrittenSchema s) (kept : ¬ (BreaksDatatype s)) 
   }
 
 -- the law of part three: from components to the simple form
-pub components_printable : (s : Schema) → IsWrittenSchema s → BreaksNoClause s → (g : Grammar) → IsSimpleGrammarOf s g → IsPrintable g
+pub components_printable : (s : Schema) → IsWellSpelledSchema s → BreaksNoClause s → (g : Grammar) → IsSimpleGrammarOf s g → IsPrintable g
 components_printable s good none g is = grammar_printable s good (λ b. none 12 (in_schema (in_datatype b))) g is

@@ -1,3 +1,4 @@
 pub mod Classes
 pub mod Trees
 pub mod Forms
+pub mod Characters

@@ -1,5 +1,5 @@
 -- Trees all of which is printable: the steps of simplification and the joining of bodies keep them so.
-use Rattle.std.proofs.Common.{◌≡◌, refl, sym, subst, ℕ, List, [], ◌∷◌, Option, Some, None}
+use Rattle.std.proofs.Common.{◌≡◌, subst, ℕ, List, [], ◌∷◌, Some, None}
 use Rattle.rng_model.specs.Tree.{Connector, Tree, not_allowed, empty, text, leaf, attribute, list, data_of, data_except, value, mixed, optional}
 use Rattle.rng_model.specs.Tree.{zero_or_more, one_or_more, joined, Trees, no_trees, tree_and, as_tree}
 use Rattle.rng_model.specs.Tree.{Simple, s_not_allowed, s_empty, s_text, s_leaf, s_attribute, s_list, s_data, s_data_except, s_value}

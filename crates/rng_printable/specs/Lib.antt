@@ -1,2 +1,2 @@
 pub mod Printable
-pub mod PrintableComponents
+pub mod WellSpelledSchemas

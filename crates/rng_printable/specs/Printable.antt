@@ -1,7 +1,7 @@
 -- What a simple grammar has to be for its printed text to be read back: its names are NCNames, its texts are made of Chars, its
 -- name classes nest within the limit, and its datatypes are those that schemas can name (RELAX NG Compact Syntax, "Syntax").
 -- To be replaced by an import where a crate below has it.
-use Rattle.std.specs.Prelude.{◌≡◌, ◌⊎◌, ℕ, suc, ◌≤◌, max, Bool, true, false, ◌||◌, if◌then◌else◌, List, [], codes}
+use Rattle.std.specs.Prelude.{◌≡◌, ◌⊎◌, ℕ, suc, ◌≤◌, max, Bool, true, ◌||◌, if◌then◌else◌, List, [], codes}
 use Rattle.std.specs.List.{list_all, AllByRecursion}
 use Rattle.std.specs.Str.{IsUtf8, chars}
 use Rattle.rng_model.specs.Characters.{is_xml_char, is_ncname}
@@ -10,15 +10,7 @@ use Rattle.rng_model.specs.Names.{NameClass, any_name, any_except, ns_name, ns_e
 use Rattle.rng_model.specs.Tree.{Datatype, Simple, s_not_allowed, s_empty, s_text, s_leaf, s_attribute, s_list, s_data, s_data_except, s_value, s_one_or_more}
 use Rattle.rng_model.specs.Tree.{s_joined}
 use Rattle.rng_model.specs.Table.{Grammar}
-
-abbrev pub is_choice : NameClass → Bool
-is_choice (one_of c d cs) = true
-is_choice _ = false
-
-abbrev pub is_except : NameClass → Bool
-is_except (any_except c) = true
-is_except (ns_except u c) = true
-is_except _ = false
+use Rattle.rng_print.specs.PrintedText.{is_choice, is_except}
 
 -- how deep parentheses may nest
 abbrev pub nesting_limit : ℕ
