@@ -188,7 +188,7 @@ more_no_colon (c ∷ w) h =
     let q = and_parts (is_name_char c) (not (is_colon c)) p.0 in
     no_colon_both (encode_utf8 c) (encode_utf8_all w) (character_no_colon c q.1) (more_no_colon w p.1)
 
-numbers_no_colon : (w : List ℕ) → is_ncname w ≡ true → HasNoColon (encode_utf8_all w)
+pub numbers_no_colon : (w : List ℕ) → is_ncname w ≡ true → HasNoColon (encode_utf8_all w)
 numbers_no_colon [] h = false_true h
 numbers_no_colon (c ∷ w) h =
     let p = and_parts (is_name_start c && not (is_colon c)) (list_all (λ d. is_name_char d && not (is_colon d)) w) h in
@@ -214,8 +214,8 @@ drop_front (c ∷ p) r x = ap (λ (n : ℕ). drop n (c ∷ (p ++ x ∷ r))) one_
     one_more = omega arith
 
 -- what stands before the first colon, and what stands after it
-before_colon : (p l : List ℕ) → HasNoColon p → take (position_or_len is_colon (p ++ 58 ∷ l)) (p ++ 58 ∷ l) ≡ p
+pub before_colon : (p l : List ℕ) → HasNoColon p → take (position_or_len is_colon (p ++ 58 ∷ l)) (p ++ 58 ∷ l) ≡ p
 before_colon p l h = ap (λ (n : ℕ). take n (p ++ 58 ∷ l)) (colon_place p l h) ∙ take_front p (58 ∷ l)
 
-after_colon : (p l : List ℕ) → HasNoColon p → drop (position_or_len is_colon (p ++ 58 ∷ l) + 1) (p ++ 58 ∷ l) ≡ l
+pub after_colon : (p l : List ℕ) → HasNoColon p → drop (position_or_len is_colon (p ++ 58 ∷ l) + 1) (p ++ 58 ∷ l) ≡ l
 after_colon p l h = ap (λ (n : ℕ). drop (n + 1) (p ++ 58 ∷ l)) (colon_place p l h) ∙ drop_front p l 58

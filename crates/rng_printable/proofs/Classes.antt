@@ -4,7 +4,8 @@ use Rattle.rng_model.specs.Names.{NameClass, NameClasses}
 use Rattle.rng_model.specs.ClassSteps as step
 use Rattle.rng_model.specs.ClassSteps.{ClassStep, ClassesStep, ClassSteps, IsSimpleClassOf}
 use Rattle.rng_print.specs.PrintedText.{is_choice, is_except}
-use Rattle.rng_printable.specs.Printable.{HasNames, HaveNames, one_more_if, parentheses, parentheses_among, nesting_limit, IsPrintableClass}
+use Rattle.rnc_syntax.specs.Sentence.{nesting_limit}
+use Rattle.rng_printable.specs.Printable.{HasNames, HaveNames, one_more_if, parentheses, parentheses_among, IsPrintableClass}
 
 -- ---- names
 

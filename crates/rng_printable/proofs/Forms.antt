@@ -17,19 +17,19 @@ use Rattle.rng_model.specs.Patterns.{pattern_tree, pattern_trees, without_parame
 use Rattle.rng_model.specs.Patterns.{in_mixed, in_optional, in_zero_or_more, in_one_or_more, in_first, in_second, in_another, in_external}
 use Rattle.rng_model.specs.Patterns.{IsWrittenAmong, in_this, in_later}
 use Rattle.rng_model.specs.Schema.{Schema, Component, Definition, main_start, body, body_among, connector_of, same_name, trees_named, HasComponent, IsWrittenAt}
-use Rattle.rng_model.specs.SchemaClauses.{BreaksDatatype, of_data, of_data_except, of_value, BreaksNoClause, in_schema, in_datatype}
+use Rattle.rng_model.specs.SchemaClauses.{BreaksDatatype, of_data, of_data_except, of_value}
 use Rattle.rng_model.specs.SchemaForm.{IsElementOf, IsSimpleFormOfSchema, IsSameUpToNumbering, IsSimpleGrammarOf, SimpleForm}
 use Rattle.rng_model.specs.Unfolding as unfolding_of
 use Rattle.rng_model.specs.Unfolding.{Leaf, to_element, outside, aim, Unfolds, UnfoldAll, IsTreeOf, IsBodyOf}
 use Rattle.rng_model.specs.Reached.{IsReachedBySimpleForms, from_simple_start, from_simple_body}
-use Rattle.rng_printable.specs.Printable.{IsName, IsPrintableClass, IsKnownType, IsPrintableTree, IsPrintable}
+use Rattle.rng_printable.specs.Printable.{IsName, IsPrintableClass, CanBeNamed, IsPrintableTree, IsPrintable}
 use Rattle.rng_printable.specs.WellSpelledSchemas.{IsWellSpelledPattern, AreWellSpelledPatterns, IsWellSpelledSchema}
 use Rattle.rng_printable.proofs.Classes.{simple_printable}
 use Rattle.rng_printable.proofs.Trees.{IsGoodTree, AreGoodTrees, AreAllGood, leaf_of, steps_good, nested_good, simple_good, none_is_not_some}
 
 -- ---- known types
 
-type_known : {library name : List ℕ} {t : BuiltInType} → IsType library name t → IsName name → IsKnownType library name
+type_known : {library name : List ℕ} {t : BuiltInType} → IsType library name t → IsName name → CanBeNamed library name
 type_known (types.plain_string_is e f) n = inl (e, inl f)
 type_known (types.plain_token_is e f) n = inl (e, inr f)
 type_known (types.string_is e f) n = inr (e, n)
@@ -40,7 +40,7 @@ type_known (types.boolean_is e f) n = inr (e, n)
 type_known (types.integer_is e f) n = inr (e, n)
 
 -- what is not refuted, of texts that are told apart
-known : (library name : List ℕ) → IsName name → ¬ (¬ (IsKnownType library name)) → IsKnownType library name
+known : (library name : List ℕ) → IsName name → ¬ (¬ (CanBeNamed library name)) → CanBeNamed library name
 known library name n kept = by_tests (bytes_eq library xsd_uri) (bytes_eq library []) (bytes_eq name (codes "string")) (bytes_eq name (codes "token")) refl
     refl refl refl
   where
@@ -51,7 +51,7 @@ known library name n kept = by_tests (bytes_eq library xsd_uri) (bytes_eq librar
     is_not v w e f = let g = (bytes_eq-Decides v w).1 f in cc
 
     by_tests : (x e s t : Bool) → bytes_eq library xsd_uri ≡ x → bytes_eq library [] ≡ e → bytes_eq name (codes "string") ≡ s
-        → bytes_eq name (codes "token") ≡ t → IsKnownType library name
+        → bytes_eq name (codes "token") ≡ t → CanBeNamed library name
     by_tests true e s t a b c d = inr (is _ _ a, n)
     by_tests false true true t a b c d = inl (is _ _ b, inl (is _ _ c))
     by_tests false true false true a b c d = inl (is _ _ b, inr (is _ _ d))
@@ -82,13 +82,13 @@ module _ (s : Schema) (good : IsWellSpelledSchema s) (kept : ¬ (BreaksDatatype 
   abbrev IsGoodLeaf : Leaf → Type 0
   IsGoodLeaf l = IsPrintableClass l.class × IsGoodAt l.place l.content
 
-  data_known : (x : Place) (d : Datatype) → IsName d.name → IsWrittenAt s x (written.data_of d) → IsKnownType d.library d.name
+  data_known : (x : Place) (d : Datatype) → IsName d.name → IsWrittenAt s x (written.data_of d) → CanBeNamed d.library d.name
   data_known x d n w = known d.library d.name n (λ no. kept (of_data w (λ k. no (type_known k.1 n))))
 
-  except_known : (x : Place) (d : Datatype) (p : Pattern) → IsName d.name → IsWrittenAt s x (written.data_except d p) → IsKnownType d.library d.name
+  except_known : (x : Place) (d : Datatype) (p : Pattern) → IsName d.name → IsWrittenAt s x (written.data_except d p) → CanBeNamed d.library d.name
   except_known x d p n w = known d.library d.name n (λ no. kept (of_data_except w (λ k. no (type_known k.1 n))))
 
-  value_known : (x : Place) (library name v : List ℕ) → IsName name → IsWrittenAt s x (written.value library name v) → IsKnownType library name
+  value_known : (x : Place) (library name v : List ℕ) → IsName name → IsWrittenAt s x (written.value library name v) → CanBeNamed library name
   value_known x library name v n w = known library name n (λ no. kept (of_value w (λ a. no (type_known a.1.named n))))
 
   mutual
@@ -100,11 +100,11 @@ module _ (s : Schema) (good : IsWellSpelledSchema s) (kept : ¬ (BreaksDatatype 
     pattern_good x (written.element c p) n h w = (h.0, (h.1, λ q i. w q (in_element i)))
     pattern_good x (written.attribute c p) n h w = (h.0, pattern_good x p (0 ∷ n) h.1 (λ q i. w q (in_attribute i)))
     pattern_good x (written.list p) n h w = pattern_good x p (0 ∷ n) h (λ q i. w q (in_list i))
-    pattern_good x (written.data_of d) n h w = (data_known x d h.0 (w (written.data_of d) itself), h.1)
+    pattern_good x (written.data_of d) n h w = (data_known x d h.0.1 (w (written.data_of d) itself), h.1)
     pattern_good x (written.data_except d p) n h w =
-        ((except_known x d p h.0.0 (w (written.data_except d p) itself), h.0.1), pattern_good x p (0 ∷ n) h.1 (λ q i. w q (in_except i)))
+        ((except_known x d p h.0.0.1 (w (written.data_except d p) itself), h.0.1), pattern_good x p (0 ∷ n) h.1 (λ q i. w q (in_except i)))
     pattern_good x (written.value library name v) n h w =
-        ((value_known x library name v h.0 (w (written.value library name v) itself), tt), h.1)
+        ((value_known x library name v h.0.1 (w (written.value library name v) itself), tt), h.1)
     pattern_good x (written.mixed p) n h w = pattern_good x p (0 ∷ n) h (λ q i. w q (in_mixed i))
     pattern_good x (written.optional p) n h w = pattern_good x p (0 ∷ n) h (λ q i. w q (in_optional i))
     pattern_good x (written.zero_or_more p) n h w = pattern_good x p (0 ∷ n) h (λ q i. w q (in_zero_or_more i))
@@ -133,7 +133,7 @@ module _ (s : Schema) (good : IsWellSpelledSchema s) (kept : ¬ (BreaksDatatype 
       by_name : (b : Bool) → AreAllGood (IsGoodPoint x) (trees_named y (n + 1) cs)
           → AreAllGood (IsGoodPoint x) (if b then pattern_tree (n ∷ []) c.pattern ∷ trees_named y (n + 1) cs else trees_named y (n + 1) cs)
       by_name true rest =
-          (pattern_good x c.pattern (n ∷ []) (good x c (has c here)) (λ q i. record { component = c; there = has c here; written = i }), rest)
+          (pattern_good x c.pattern (n ∷ []) (good x c (has c here)).1 (λ q i. record { component = c; there = has c here; written = i }), rest)
       by_name false rest = rest
 
   body_good : (d : Definition) (a : Tree Point) → body s d ≡ Some a → IsGoodTree (IsGoodPoint d.place) a
@@ -211,7 +211,3 @@ module _ (s : Schema) (good : IsWellSpelledSchema s) (kept : ¬ (BreaksDatatype 
     start = start_of g is.0 is.1 is.2;
     elements = each_found (λ e. IsPrintableClass e.0 × IsPrintableTree e.1) g.elements (element_of g is.0 is.1 is.2);
   }
-
--- the law of part three: from components to the simple form
-pub components_printable : (s : Schema) → IsWellSpelledSchema s → BreaksNoClause s → (g : Grammar) → IsSimpleGrammarOf s g → IsPrintable g
-components_printable s good none g is = grammar_printable s good (λ b. none 12 (in_schema (in_datatype b))) g is

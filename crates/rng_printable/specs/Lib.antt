@@ -1,2 +1,3 @@
 pub mod Printable
 pub mod WellSpelledSchemas
+pub mod WellSpelledFiles

@@ -1,20 +1,16 @@
--- What a simple grammar has to be for its printed text to be read back: its names are NCNames, its texts are made of Chars, its
--- name classes nest within the limit, and its datatypes are those that schemas can name (RELAX NG Compact Syntax, "Syntax").
--- To be replaced by an import where a crate below has it.
-use Rattle.std.specs.Prelude.{◌≡◌, ◌⊎◌, ℕ, suc, ◌≤◌, max, Bool, true, ◌||◌, if◌then◌else◌, List, [], codes}
+-- What a simple grammar has to be for its printed text to be read back: its names are NCNames, its texts are made of Chars,
+-- its name classes are printed with parentheses that nest within the limit, and its datatypes are some that a schema can name
+-- (RELAX NG Compact Syntax, "Lexical structure" and "Syntax"). The crate that reads printed text back has this definition too: it is to be imported.
+use Rattle.std.specs.Prelude.{◌≡◌, ◌⊎◌, ℕ, suc, ◌≤◌, max, Bool, true, ◌||◌, if◌then◌else◌, List, [], codes, IsUtf8, chars}
 use Rattle.std.specs.List.{list_all, AllByRecursion}
-use Rattle.std.specs.Str.{IsUtf8, chars}
 use Rattle.rng_model.specs.Characters.{is_xml_char, is_ncname}
-use Rattle.rng_model.specs.Datatypes.{xsd_uri}
 use Rattle.rng_model.specs.Names.{NameClass, any_name, any_except, ns_name, ns_except, name_is, one_of, NameClasses, no_classes, class_and}
 use Rattle.rng_model.specs.Tree.{Datatype, Simple, s_not_allowed, s_empty, s_text, s_leaf, s_attribute, s_list, s_data, s_data_except, s_value, s_one_or_more}
 use Rattle.rng_model.specs.Tree.{s_joined}
 use Rattle.rng_model.specs.Table.{Grammar}
+use Rattle.rng_model.specs.Datatypes.{xsd_uri}
+use Rattle.rnc_syntax.specs.Sentence.{nesting_limit}
 use Rattle.rng_print.specs.PrintedText.{is_choice, is_except}
-
--- how deep parentheses may nest
-abbrev pub nesting_limit : ℕ
-nesting_limit = 128
 
 -- UTF-8 of Chars (XML 1.0 Fifth Edition, section 2.2)
 abbrev pub IsText : List ℕ → Type 0
@@ -56,18 +52,21 @@ abbrev mutual
   parentheses_among no_classes = 0
   parentheses_among (class_and c cs) = max (one_more_if (is_choice c || is_except c) (parentheses c)) (parentheses_among cs)
 
+-- a name class that is read back
 abbrev pub IsPrintableClass : NameClass → Type 0
 IsPrintableClass c = HasNames c × (parentheses c ≤ nesting_limit)
 
--- `string` and `token` have no library's uri; the others are of the library for which `xsd` stands
-abbrev pub IsKnownType : List ℕ → List ℕ → Type 0
-IsKnownType library name = ((library ≡ []) × ((name ≡ codes "string") ⊎ (name ≡ codes "token"))) ⊎ ((library ≡ xsd_uri) × IsName name)
+-- it has a name in the compact syntax: `string` and `token` are of the library with the empty uri, and those with the prefix
+-- `xsd` of that of XML Schema (RELAX NG Compact Syntax, "Declarations")
+abbrev pub CanBeNamed : List ℕ → List ℕ → Type 0
+CanBeNamed library name = ((library ≡ []) × ((name ≡ codes "string") ⊎ (name ≡ codes "token"))) ⊎ ((library ≡ xsd_uri) × IsName name)
 
+-- a parameter, a datatype, a tree and a grammar that are
 abbrev pub IsPrintableParameter : List ℕ × List ℕ → Type 0
 IsPrintableParameter p = IsName p.0 × IsText p.1
 
 abbrev pub IsPrintableType : Datatype → Type 0
-IsPrintableType d = IsKnownType d.library d.name × AllByRecursion IsPrintableParameter d.parameters
+IsPrintableType d = CanBeNamed d.library d.name × AllByRecursion IsPrintableParameter d.parameters
 
 abbrev pub IsPrintableTree : Simple ℕ → Type 0
 IsPrintableTree s_not_allowed = Unit {0}
