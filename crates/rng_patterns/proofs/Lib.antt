@@ -6,6 +6,7 @@ mod PatternKinds
 pub mod Choices
 pub mod Alternatives
 mod Absorbing
+mod OnlyMember
 mod Contents
 mod Keeping
 pub mod Taking

@@ -1,5 +1,5 @@
 -- What holds of a table of patterns.
-use Rattle.std.specs.Prelude.{◌≡◌, ℕ, ◌<◌, ◌≤◌, ⊤, List, ◌++◌, length, map, slice_get, Some, All}
+use Rattle.std.specs.Prelude.{◌≡◌, ℕ, ◌<◌, ◌≤◌, ⊤, List, ◌++◌, length, map, slice_get, Option, Some, All, IfSome}
 use Rattle.std.specs.List.Sorted.{IsStrictlyIncreasing}
 use Rattle.rng_model.specs.Table.{Table}
 use Rattle.rng_model.specs.Tree.{Simple}
@@ -10,6 +10,7 @@ use Rattle.rng_patterns.specs.Reduced.{AreReduced, has_attribute}
 use Rattle.rng_patterns.specs.Trees.{trees, tree_of}
 use Rattle.rng_patterns.specs.declared.pattern.Facts.{Facts}
 use Rattle.rng_patterns.specs.declared.pattern.Pattern.{Pattern}
+use Rattle.rng_patterns.specs.declared.pattern.PatternNumber.{PatternNumber}
 
 -- the patterns in the order of their numbers
 abbrev pub nodes_of : List (Pattern × Facts) → List Node
@@ -56,3 +57,7 @@ Longer old new = (more : List Node) × (new ≡ old ++ more)
 pub record Adds (old new : List Node) (number : ℕ) (built : Table → Simple ℕ) : Type 0 where
   pub inside : number < length new
   pub is : (t : Table) → tree_of t new number ≡ built t
+
+-- the number of this tree, where it is known
+abbrev pub IsKnown : List Node → Option PatternNumber → Simple ℕ → Type 0
+IsKnown ns number tree = IfSome number (λ n. Adds ns ns n.0 (λ t. tree))

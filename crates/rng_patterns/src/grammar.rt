@@ -53,8 +53,8 @@ impl PatternTable {
             → IsMadeOver t (tree_by t self.old numbers.now) row.now (tree_of t self.new n.0)) }
     {
         match row {
-            Simple::NotAllowed => self.number_of(Pattern::NotAllowed),
-            Simple::Empty => self.number_of(Pattern::Empty),
+            Simple::NotAllowed => self.not_allowed(),
+            Simple::Empty => self.empty(),
             Simple::Text => self.number_of(Pattern::Text),
             Simple::Element(element) => self.number_of(Pattern::Element(*element)),
             Simple::Attribute(_, _) => self.number_of(Pattern::Attribute(position)),

@@ -2,6 +2,7 @@
 ghost use Rattle.std.specs.Prelude.{◌≡◌, ◌↔◌, [], IsTrue, ◌<◌, All, IfOk, IfSome, IfNone, Some, length, map, slice_get};
 ghost use Rattle.std.specs.List.{list_any, list_all};
 ghost use Rattle.rng_model.specs.Table.{Table};
+ghost use Rattle.rng_model.specs.Tree.{s_not_allowed, s_empty};
 ghost use Rattle.rng_matching.specs.Reading.{Reading};
 ghost use Rattle.rng_matching.specs.Taking.{Takes};
 ghost use Rattle.rng_patterns.specs.Node.{node_of};
@@ -19,6 +20,8 @@ use std::marker::Model;
 #[derive(Drop)]
 pub struct PatternTable {
     rows: IndexMap<Pattern, Facts>,
+    not_allowed: Option<PatternNumber>,
+    empty: Option<PatternNumber>,
 }
 
 impl Model for PatternTable {
@@ -27,11 +30,13 @@ impl Model for PatternTable {
 
     ghost Value = { List Node };
 
-    ghost use Rattle.rng_patterns.specs.PatternTable.{nodes_of, AreExact, IsPatternTable};
+    ghost use Rattle.rng_model.specs.Tree.{s_not_allowed, s_empty};
+    ghost use Rattle.rng_patterns.specs.PatternTable.{nodes_of, AreExact, IsKnown, IsPatternTable};
 
     ghost view = { λ t. nodes_of t.rows.entries };
 
-    ghost invariant = { λ t. IsPatternTable (nodes_of t.rows.entries) × AreExact t.rows.entries };
+    ghost invariant = { λ t. IsPatternTable (nodes_of t.rows.entries) × AreExact t.rows.entries
+        × IsKnown (nodes_of t.rows.entries) t.not_allowed s_not_allowed × IsKnown (nodes_of t.rows.entries) t.empty s_empty };
 }
 
 impl PatternTable {
@@ -41,6 +46,8 @@ impl PatternTable {
     {
         PatternTable {
             rows: IndexMap::new(alloc),
+            not_allowed: None,
+            empty: None,
         }
     }
 
@@ -60,6 +67,33 @@ impl PatternTable {
         ensures nullable { (t : Table) (g : Reading) → IsTrue result.nullable ↔ Takes g (tree_of t self.now number.0) [] [] }
     {
         *row_at(&self.rows, number.0).1
+    }
+
+    /// The pattern that matches nothing. The error is want of memory. Costs one look-up, and none when it is asked for again.
+    pub fn not_allowed(&mut self) -> Result<PatternNumber, OutOfMemory>
+        ensures longer { Longer self.old self.new }
+        ensures tree { IfOk result (λ n. Adds self.old self.new n.0 (λ t. s_not_allowed)) }
+    {
+        if let Some(number) = self.not_allowed {
+            return Ok(number);
+        }
+        let number = self.number_of(Pattern::NotAllowed)?;
+        self.not_allowed = Some(number);
+        Ok(number)
+    }
+
+    /// The pattern that matches no attributes with no items. The error is want of memory. Costs one look-up, and none when it
+    /// is asked for again.
+    pub fn empty(&mut self) -> Result<PatternNumber, OutOfMemory>
+        ensures longer { Longer self.old self.new }
+        ensures tree { IfOk result (λ n. Adds self.old self.new n.0 (λ t. s_empty)) }
+    {
+        if let Some(number) = self.empty {
+            return Ok(number);
+        }
+        let number = self.number_of(Pattern::Empty)?;
+        self.empty = Some(number);
+        Ok(number)
     }
 
     /// What is known of a pattern whose parts are there.

@@ -10,7 +10,27 @@ use Rattle.rng_patterns.specs.Reduced.{HasAlternative, MayBeMember}
 use Rattle.rng_patterns.specs.Trees.{tree_of}
 use Rattle.rng_patterns.proofs.Alternatives.{choice_restricted, choice_typed, no_alternatives}
 use Rattle.rng_patterns.proofs.Choices.{all_within, as_sets, if_ok, takes_some, takes_within}
+use Rattle.rng_patterns.proofs.OnlyMember.{only_among, only_inside, only_none, only_restricted, only_takes, only_typed}
 use Rattle.rng_patterns.proofs.pattern_table.PatternTable.choice.Goals as goal
+
+-- one pattern stands for all members
+pub returns-in-Some-clause-alternatives : goal.returns-in-Some-clause-alternatives
+returns-in-Some-clause-alternatives c = only_among c.args.self.now c.args.members.now c.in-Some.only c.in-Some.ensures
+
+pub returns-in-Some-clause-matches : goal.returns-in-Some-clause-matches
+returns-in-Some-clause-matches c = only_takes c.args.self.now c.args.members.now c.in-Some.only c.in-Some.ensures
+
+pub returns-in-Some-clause-none : goal.returns-in-Some-clause-none
+returns-in-Some-clause-none c = only_none c.args.self.now c.args.members.now c.in-Some.only c.in-Some.ensures
+
+pub returns-in-Some-clause-restricted : goal.returns-in-Some-clause-restricted
+returns-in-Some-clause-restricted c = only_restricted c.args.self.now c.args.members.now c.in-Some.only c.in-Some.ensures
+
+pub returns-in-Some-clause-typed : goal.returns-in-Some-clause-typed
+returns-in-Some-clause-typed c = only_typed c.args.self.now c.args.members.now c.in-Some.only c.in-Some.ensures
+
+pub returns-in-Some-clause-inside : goal.returns-in-Some-clause-inside
+returns-in-Some-clause-inside c = only_inside c.args.self.now c.args.members.now c.in-Some.only c.in-Some.ensures c.requires
 
 -- what is put in order was an alternative before
 pub choice_of-requires-clause-inside : goal.choice_of-requires-clause-inside
