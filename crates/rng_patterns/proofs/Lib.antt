@@ -9,4 +9,5 @@ mod Absorbing
 mod OnlyMember
 mod Contents
 mod Keeping
+mod Interleaves
 pub mod Taking

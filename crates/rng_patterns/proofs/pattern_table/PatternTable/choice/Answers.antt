@@ -1,4 +1,4 @@
-use Rattle.std.proofs.Common.{◌≡◌, ◌<◌, ◌↔◌, ℕ, All, List, Result, Ok, Err, IfOk, length}
+use Rattle.std.proofs.Common.{◌≡◌, ◌<◌, ◌↔◌, ℕ, All, List, length}
 use Rattle.rng_model.specs.Document.{Attribute, Item}
 use Rattle.rng_model.specs.Table.{Table}
 use Rattle.rng_model.specs.Tree.{Simple, s_not_allowed}
@@ -9,7 +9,7 @@ use Rattle.rng_patterns.specs.Choices.{IsAlternativeOf, SomeTakes}
 use Rattle.rng_patterns.specs.Reduced.{HasAlternative, MayBeMember}
 use Rattle.rng_patterns.specs.Trees.{tree_of}
 use Rattle.rng_patterns.proofs.Alternatives.{choice_restricted, choice_typed, no_alternatives}
-use Rattle.rng_patterns.proofs.Choices.{all_within, as_sets, if_ok, takes_some, takes_within}
+use Rattle.rng_patterns.proofs.Choices.{all_within, as_sets, both_ok, if_ok, takes_some, takes_within}
 use Rattle.rng_patterns.proofs.OnlyMember.{only_among, only_inside, only_none, only_restricted, only_takes, only_typed}
 use Rattle.rng_patterns.proofs.pattern_table.PatternTable.choice.Goals as goal
 
@@ -77,10 +77,6 @@ returns-clause-matches c =
           made.1 (l.0, (c.put_in_order.ensures.same l.0).1 l.1, l.2),
     ))
     c.choice_of.ensures.same
-
-both_ok : {X E : Type 0} (r : Result X E) (P Q R : X → Type 0) → ((x : X) → P x → Q x → R x) → IfOk r P → IfOk r Q → IfOk r R
-both_ok (Ok x) P Q R f h k = f x h k
-both_ok (Err e) P Q R f h k = tt
 
 pub returns-clause-none : goal.returns-clause-none
 returns-clause-none c =
