@@ -1,5 +1,5 @@
 // A table of patterns, each once.
-ghost use Rattle.std.specs.Prelude.{◌≡◌, ◌↔◌, [], ℕ, IsTrue, ◌<◌, ◌≤◌, All, IfOk, IfSome, IfNone, Some, length, map, slice_get};
+ghost use Rattle.std.specs.Prelude.{◌≡◌, ◌↔◌, ◌++◌, ◌∷◌, [], ℕ, IsTrue, ◌<◌, ◌≤◌, All, IfOk, IfSome, IfNone, Some, length, map, slice_get};
 ghost use Rattle.std.specs.List.{list_any, list_all};
 ghost use Rattle.rng_model.specs.Table.{Table};
 ghost use Rattle.rng_model.specs.Tree.{s_not_allowed, s_empty};
@@ -50,6 +50,13 @@ impl PatternTable {
             not_allowed: None,
             empty: None,
         }
+    }
+
+    /// How many patterns there are. Takes no memory.
+    pub fn len(&self) -> usize
+        ensures { result ≡ length self.now }
+    {
+        self.rows.len()
     }
 
     /// The pattern of this number. Takes no memory.
@@ -157,6 +164,17 @@ impl PatternTable {
         if let Some(number) = place_of(&self.rows, &pattern) {
             return Ok(PatternNumber(number));
         }
+        self.add(pattern)
+    }
+
+    /// The number of a pattern that no pattern of the table is equal to, and whose parts are there: a new one.
+    pub(crate) fn add(&mut self, pattern: Pattern) -> Result<PatternNumber, OutOfMemory>
+        requires below { ArePartsBelow (length self.old) (node_of pattern) }
+        requires reduced { (t : Table) → AreReduced (tree_of t self.old) (node_of pattern) }
+        requires new { IsNew self.old (node_of pattern) }
+        ensures longer { Longer self.old self.new }
+        ensures added { IfOk result (λ n. (n.0 ≡ length self.old) × (self.new ≡ self.old ++ node_of pattern ∷ [])) }
+    {
         let number = self.rows.len();
         let facts = self.facts_of(&pattern);
         self.rows.insert(pattern, facts)?;
