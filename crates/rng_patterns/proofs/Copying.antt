@@ -1,5 +1,6 @@
 -- The marked patterns of a table in a table of their own, one after the other.
-use Rattle.std.proofs.Common.{◌≡◌, ◌⊎◌, ℕ, ◌+◌, ◌<◌, ◌≤◌, All, Bool, List, [], ◌∷◌, ◌++◌, length, map, slice_get, Some, refl, sym, ap, ◌∙◌, subst, ⊎_elim, arith}
+use Rattle.std.proofs.Common.{◌≡◌, ◌⊎◌, ℕ, ◌+◌, ◌<◌, ◌≤◌, All, Bool, List, [], ◌∷◌, ◌++◌, length, map, slice_get, Some, refl, sym, ap, ◌∙◌, subst}
+use Rattle.std.proofs.Common.{⊎_elim, arith}
 use Rattle.std.proofs.Common.{length-append, inl, inr}
 use Rattle.std.specs.List.{AllZip}
 use Rattle.std.proofs.lemmas.Bool.{cases_lt}
@@ -198,7 +199,8 @@ module _ (ns ms : List Node) (marks : List Bool) (given : List PatternNumber) (t
 
 -- ---- the patterns that were selected
 
-copied_zip : (old new : ℕ → Simple ℕ) (f : ℕ → ℕ) (xs ys : List PatternNumber) → map (λ (n : PatternNumber). n.0) ys ≡ map f (map (λ (n : PatternNumber). n.0) xs)
+copied_zip : (old new : ℕ → Simple ℕ) (f : ℕ → ℕ) (xs ys : List PatternNumber)
+    → map (λ (n : PatternNumber). n.0) ys ≡ map f (map (λ (n : PatternNumber). n.0) xs)
     → All (λ (m : PatternNumber). new (f m.0) ≡ old m.0) xs → AllZip (λ (m n : PatternNumber). new n.0 ≡ old m.0) xs ys
 copied_zip old new f [] [] e same = tt
 copied_zip old new f [] (y ∷ ys) e same = absurd (cc)

@@ -48,7 +48,8 @@ add-requires-clause-below c =
     let Given : List PatternNumber → Type 0 = λ given. node_of c.in_ok-copy.copy ≡ renumbered (given_for given) (node_of c.pattern-pattern.result.now) in
     let is : node_of c.in_ok-copy.copy ≡ renumbered (given_for given) (node_at ns (length given)) =
     subst Given c.as_slice.ensures.value c.in_ok-copy.ensures ∙ ap (renumbered (given_for given)) here in
-    subst (ArePartsBelow (length ms)) (sym is) (copy_below ns ms marks given c.pattern-pattern.ensures.table within c.rows.invariant.copied c.requires next marked)
+    subst (ArePartsBelow (length ms)) (sym is)
+    (copy_below ns ms marks given c.pattern-pattern.ensures.table within c.rows.invariant.copied c.requires next marked)
 
 pub add-requires-clause-reduced : goal.add-requires-clause-reduced
 add-requires-clause-reduced c =
@@ -67,7 +68,8 @@ add-requires-clause-reduced c =
     let Given : List PatternNumber → Type 0 = λ given. node_of c.in_ok-copy.copy ≡ renumbered (given_for given) (node_of c.pattern-pattern.result.now) in
     let is : node_of c.in_ok-copy.copy ≡ renumbered (given_for given) (node_at ns (length given)) =
     subst Given c.as_slice.ensures.value c.in_ok-copy.ensures ∙ ap (renumbered (given_for given)) here in
-    λ t. subst (AreReduced (tree_of t ms)) (sym is) (copy_reduced ns ms marks given c.pattern-pattern.ensures.table within c.rows.invariant.copied c.requires next marked t)
+    λ t. subst (AreReduced (tree_of t ms)) (sym is)
+    (copy_reduced ns ms marks given c.pattern-pattern.ensures.table within c.rows.invariant.copied c.requires next marked t)
 
 pub add-requires-clause-new : goal.add-requires-clause-new
 add-requires-clause-new c =
