@@ -128,7 +128,7 @@ impl PatternTable {
             },
             Pattern::NotAllowed | Pattern::Data(_) => NOTHING_KNOWN,
             Pattern::Element(element) => Facts {
-                elements: Elements::Within(element.0, element.0),
+                elements: Elements::one(element.0),
                 ..NOTHING_KNOWN
             },
             Pattern::Attribute(_) => Facts {
@@ -186,19 +186,19 @@ impl PatternTable {
 const NOTHING_KNOWN: Facts = Facts {
     nullable: false,
     attributes: false,
-    elements: Elements::None,
     members: 1,
+    elements: Elements::None,
 };
 
 /// What is known of a group or an interleave of two patterns of which this is known, with so many members.
-fn both(first: Facts, second: Facts, members: usize) -> Facts
+fn both(first: Facts, second: Facts, members: u16) -> Facts
     ensures { result ≡ both_facts first second members }
 {
     Facts {
         nullable: first.nullable && second.nullable,
         attributes: first.attributes || second.attributes,
-        elements: first.elements.joined(second.elements),
         members,
+        elements: first.elements.joined(second.elements),
     }
 }
 
