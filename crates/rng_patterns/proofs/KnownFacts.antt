@@ -1,6 +1,6 @@
 -- What is known of a pattern, from what is known of its parts.
 use Rattle.std.proofs.Common.{◌≡◌, ℕ, ◌+◌, ◌<◌, ◌≤◌, All, length, take, get_or, arith, subst, refl, ap, ap₂, sym, ◌∙◌, Bool, true, false, ◌||◌, List}
-use Rattle.std.proofs.Common.{[], ◌∷◌, ◌++◌, map, Option, Some, None, inl, inr}
+use Rattle.std.proofs.Common.{◌^◌, cond, nat_lt, [], ◌∷◌, ◌++◌, map, Option, Some, None, inl, inr}
 use Rattle.std.specs.List.{list_any}
 use Rattle.std.proofs.lemmas.List.{get_or-map, length-map, take_all, take_more}
 use Rattle.std.proofs.lemmas.List.Folds.{list_any_more}
@@ -9,7 +9,7 @@ use Rattle.rng_model.specs.Table.{Table}
 use Rattle.rng_model.specs.declared.simple.Simple.{Simple}
 use Rattle.rng_model.specs.declared.simple.Simple.TheVariants as simple
 use Rattle.rng_matching.specs.Derivatives.{is_nullable}
-use Rattle.rng_patterns.specs.Facts.{HasElement, IsWithin, elements_of, joined_elements, members_of}
+use Rattle.rng_patterns.specs.Facts.{HasElement, IsWithin, elements_of, joined_elements, members_of, one_element}
 use Rattle.rng_patterns.specs.PatternTable.{facts_of}
 use Rattle.rng_patterns.specs.Reduced.{has_attribute}
 use Rattle.rng_patterns.specs.Trees.{attribute_found, data_found, choice_over}
@@ -47,6 +47,7 @@ elements_among f (m ∷ ms) = joined_elements (elements_of (f m.0)) (elements_am
 joined_none : (e : Elements) → joined_elements e elements.None ≡ e
 joined_none elements.None = refl
 joined_none (elements.Within first last) = refl
+joined_none elements.Any = refl
 
 joined_associative : (a b c : Elements) → joined_elements (joined_elements a b) c ≡ joined_elements a (joined_elements b c)
 joined_associative elements.None b c = refl
@@ -54,6 +55,9 @@ joined_associative (elements.Within first last) elements.None c = refl
 joined_associative (elements.Within first last) (elements.Within least greatest) elements.None = refl
 joined_associative (elements.Within first last) (elements.Within least greatest) (elements.Within low high) =
     ap₂ elements.Within (omega arith) (omega arith)
+joined_associative (elements.Within first last) (elements.Within least greatest) elements.Any = refl
+joined_associative (elements.Within first last) elements.Any c = refl
+joined_associative elements.Any b c = refl
 
 choice_elements : (f : ℕ → tree.Simple ℕ) (ms : List PatternNumber) → elements_among f ms ≡ elements_of (choice_over f (map (λ m. m.0) ms))
 choice_elements f [] = refl
@@ -94,21 +98,32 @@ all_members f ms i known two over n a e o =
         ∙ ap₂ (λ x y. record { nullable = b.nullable; attributes = b.attributes; elements = x; members = y }) e m
 
 -- an element that stands in the tree is within those that are known
+one_within : (k : ℕ) → IsWithin (one_element k) k
+one_within k = by (nat_lt k (2 ^ 32))
+  where
+    by : (b : Bool) → IsWithin (cond b (elements.Within k k) elements.Any) k
+    by true = (omega arith, omega arith)
+    by false = tt
+
 joined_first : (a b : Elements) (k : ℕ) → IsWithin a k → IsWithin (joined_elements a b) k
 joined_first elements.None b k h = absurd h
 joined_first (elements.Within first last) elements.None k h = h
 joined_first (elements.Within first last) (elements.Within least greatest) k h = let low = h.0 in let high = h.1 in (omega (arith, low), omega (arith, high))
+joined_first (elements.Within first last) elements.Any k h = tt
+joined_first elements.Any b k h = tt
 
 joined_second : (a b : Elements) (k : ℕ) → IsWithin b k → IsWithin (joined_elements a b) k
 joined_second elements.None b k h = h
 joined_second (elements.Within first last) elements.None k h = absurd h
 joined_second (elements.Within first last) (elements.Within least greatest) k h = let low = h.0 in let high = h.1 in (omega (arith, low), omega (arith, high))
+joined_second (elements.Within first last) elements.Any k h = tt
+joined_second elements.Any b k h = tt
 
 pub elements_within : (p : tree.Simple ℕ) (k : ℕ) → HasElement k p → IsWithin (elements_of p) k
 elements_within tree.s_not_allowed k h = absurd h
 elements_within tree.s_empty k h = absurd h
 elements_within tree.s_text k h = absurd h
-elements_within (tree.s_leaf e) k h = (omega (arith, h), omega (arith, h))
+elements_within (tree.s_leaf e) k h = subst (IsWithin (one_element e)) (sym h) (one_within e)
 elements_within (tree.s_attribute c p) k h = absurd h
 elements_within (tree.s_list p) k h = absurd h
 elements_within (tree.s_data d) k h = absurd h

@@ -11,3 +11,6 @@ mod Contents
 mod Keeping
 mod Interleaves
 pub mod Taking
+mod Renumbering
+mod Copying
+mod Marking

@@ -1,5 +1,5 @@
 -- What is known of a tree: which elements stand in it, and how many patterns an interleave joins.
-use Rattle.std.specs.Prelude.{◌≡◌, ◌⊎◌, ◌≤◌, ℕ, ◌+◌, ◌-◌, ◌^◌, min, max}
+use Rattle.std.specs.Prelude.{◌≡◌, ◌⊎◌, ◌≤◌, ⊤, ℕ, ◌+◌, ◌-◌, ◌^◌, cond, min, max, nat_lt}
 use Rattle.rng_model.specs.Tree.{Simple, choice, group, interleave, s_not_allowed, s_empty, s_text, s_leaf, s_attribute, s_list, s_data}
 use Rattle.rng_model.specs.Tree.{s_data_except, s_value, s_one_or_more, s_joined}
 use Rattle.rng_patterns.specs.declared.pattern.Elements.{Elements}
@@ -23,18 +23,25 @@ HasElement e (s_joined k p q) = HasElement e p ⊎ HasElement e q
 abbrev pub IsWithin : Elements → ℕ → Type 0
 IsWithin elements.None k = ⊥
 IsWithin (elements.Within first last) k = (first ≤ k) × (k ≤ last)
+IsWithin elements.Any k = ⊤
+
+-- what is kept of one number
+abbrev pub one_element : ℕ → Elements
+one_element k = cond (nat_lt k (2 ^ 32)) (elements.Within k k) elements.Any
 
 abbrev pub joined_elements : Elements → Elements → Elements
 joined_elements elements.None others = others
 joined_elements (elements.Within first last) elements.None = elements.Within first last
 joined_elements (elements.Within first last) (elements.Within least greatest) = elements.Within (min first least) (max last greatest)
+joined_elements (elements.Within first last) elements.Any = elements.Any
+joined_elements elements.Any others = elements.Any
 
 -- the least and the greatest number of an element in the tree
 abbrev pub elements_of : Simple ℕ → Elements
 elements_of s_not_allowed = elements.None
 elements_of s_empty = elements.None
 elements_of s_text = elements.None
-elements_of (s_leaf k) = elements.Within k k
+elements_of (s_leaf k) = one_element k
 elements_of (s_attribute c p) = elements.None
 elements_of (s_list p) = elements.None
 elements_of (s_data d) = elements.None
@@ -43,7 +50,7 @@ elements_of (s_value d v) = elements.None
 elements_of (s_one_or_more p) = elements_of p
 elements_of (s_joined k p q) = joined_elements (elements_of p) (elements_of q)
 
--- how many patterns an interleave joins that are no interleaves, up to the greatest number
+-- how many patterns an interleave joins that are no interleaves, up to 65,535
 abbrev pub members_of : Simple ℕ → ℕ
 members_of s_not_allowed = 1
 members_of s_empty = 1
@@ -57,4 +64,4 @@ members_of (s_value d v) = 1
 members_of (s_one_or_more p) = 1
 members_of (s_joined choice p q) = 1
 members_of (s_joined group p q) = 1
-members_of (s_joined interleave p q) = min (members_of p + members_of q) (2 ^ 64 - 1)
+members_of (s_joined interleave p q) = min (members_of p + members_of q) (2 ^ 16 - 1)

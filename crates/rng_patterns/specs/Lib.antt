@@ -6,3 +6,4 @@ pub mod PatternTable
 pub mod Choices
 pub mod Taking
 pub mod Kept
+pub mod Selecting

@@ -118,7 +118,7 @@ impl PatternTable {
     }
 
     /// How many patterns the pattern joins that are no interleaves. Takes no memory.
-    fn members(&self, number: PatternNumber) -> usize
+    fn members(&self, number: PatternNumber) -> u16
         requires { number.0 < length self.now }
         ensures { (t : Table) → result ≡ members_of (tree_of t self.now number.0) }
     {

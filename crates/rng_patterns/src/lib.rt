@@ -10,6 +10,7 @@ mod grammar;
 mod making;
 mod pattern;
 mod pattern_table;
+mod selecting;
 
 pub use pattern::{Elements, Facts, Pattern, PatternNumber};
 pub use pattern_table::PatternTable;

@@ -1,6 +1,6 @@
 // Patterns by number.
 ghost use Rattle.std.specs.Prelude.{◌≡◌, ◌≤◌, ℕ, IsTrue};
-ghost use Rattle.rng_patterns.specs.Facts.{IsWithin, joined_elements};
+ghost use Rattle.rng_patterns.specs.Facts.{IsWithin, joined_elements, one_element};
 
 use rng_model::{ElementId, PatternId};
 
@@ -36,11 +36,11 @@ pub struct Facts {
     pub nullable: bool,
     /// An attribute stands in it, outside its elements, lists and excepts.
     pub attributes: bool,
+    /// How many patterns an interleave joins that are no interleaves themselves, or 65,535 where they are more; 1 for another
+    /// pattern.
+    pub members: u16,
     /// The elements that stand in it, outside its attributes, lists and excepts.
     pub elements: Elements,
-    /// How many patterns an interleave joins that are no interleaves themselves, or the greatest number that there is where
-    /// they are more; 1 for another pattern.
-    pub members: usize,
 }
 
 /// Between which numbers those of some elements are.
@@ -49,7 +49,9 @@ pub enum Elements {
     /// There is no element.
     None,
     /// The least number, and the greatest.
-    Within(usize, usize),
+    Within(u32, u32),
+    /// Nothing is known: there is a number of 2^32 or more.
+    Any,
 }
 
 impl Elements {
@@ -59,7 +61,21 @@ impl Elements {
     {
         match self {
             Elements::None => false,
-            Elements::Within(least, greatest) => least <= last && first <= greatest,
+            Elements::Within(least, greatest) => {
+                least as usize <= last && first <= greatest as usize
+            }
+            Elements::Any => true,
+        }
+    }
+
+    /// The element of this number alone.
+    pub(crate) fn one(number: usize) -> Elements
+        ensures { result ≡ one_element number }
+    {
+        if number < 1 << 32 {
+            Elements::Within(number as u32, number as u32)
+        } else {
+            Elements::Any
         }
     }
 
@@ -73,6 +89,7 @@ impl Elements {
             (Elements::Within(first, last), Elements::Within(least, greatest)) => {
                 Elements::Within(first.min(least), last.max(greatest))
             }
+            _ => Elements::Any,
         }
     }
 }

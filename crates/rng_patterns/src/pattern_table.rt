@@ -1,5 +1,5 @@
 // A table of patterns, each once.
-ghost use Rattle.std.specs.Prelude.{◌≡◌, ◌↔◌, [], ℕ, IsTrue, ◌<◌, ◌≤◌, All, IfOk, IfSome, IfNone, Some, length, map, slice_get};
+ghost use Rattle.std.specs.Prelude.{◌≡◌, ◌↔◌, ◌++◌, ◌∷◌, [], ℕ, IsTrue, ◌<◌, ◌≤◌, All, IfOk, IfSome, IfNone, Some, length, map, slice_get};
 ghost use Rattle.std.specs.List.{list_any, list_all};
 ghost use Rattle.rng_model.specs.Table.{Table};
 ghost use Rattle.rng_model.specs.Tree.{s_not_allowed, s_empty};
@@ -50,6 +50,13 @@ impl PatternTable {
             not_allowed: None,
             empty: None,
         }
+    }
+
+    /// How many patterns there are. Takes no memory.
+    pub fn len(&self) -> usize
+        ensures { result ≡ length self.now }
+    {
+        self.rows.len()
     }
 
     /// The pattern of this number. Takes no memory.
@@ -121,7 +128,7 @@ impl PatternTable {
             },
             Pattern::NotAllowed | Pattern::Data(_) => NOTHING_KNOWN,
             Pattern::Element(element) => Facts {
-                elements: Elements::Within(element.0, element.0),
+                elements: Elements::one(element.0),
                 ..NOTHING_KNOWN
             },
             Pattern::Attribute(_) => Facts {
@@ -157,6 +164,17 @@ impl PatternTable {
         if let Some(number) = place_of(&self.rows, &pattern) {
             return Ok(PatternNumber(number));
         }
+        self.add(pattern)
+    }
+
+    /// The number of a pattern that no pattern of the table is equal to, and whose parts are there: a new one.
+    pub(crate) fn add(&mut self, pattern: Pattern) -> Result<PatternNumber, OutOfMemory>
+        requires below { ArePartsBelow (length self.old) (node_of pattern) }
+        requires reduced { (t : Table) → AreReduced (tree_of t self.old) (node_of pattern) }
+        requires new { IsNew self.old (node_of pattern) }
+        ensures longer { Longer self.old self.new }
+        ensures added { IfOk result (λ n. (n.0 ≡ length self.old) × (self.new ≡ self.old ++ node_of pattern ∷ [])) }
+    {
         let number = self.rows.len();
         let facts = self.facts_of(&pattern);
         self.rows.insert(pattern, facts)?;
@@ -168,19 +186,19 @@ impl PatternTable {
 const NOTHING_KNOWN: Facts = Facts {
     nullable: false,
     attributes: false,
-    elements: Elements::None,
     members: 1,
+    elements: Elements::None,
 };
 
 /// What is known of a group or an interleave of two patterns of which this is known, with so many members.
-fn both(first: Facts, second: Facts, members: usize) -> Facts
+fn both(first: Facts, second: Facts, members: u16) -> Facts
     ensures { result ≡ both_facts first second members }
 {
     Facts {
         nullable: first.nullable && second.nullable,
         attributes: first.attributes || second.attributes,
-        elements: first.elements.joined(second.elements),
         members,
+        elements: first.elements.joined(second.elements),
     }
 }
 

@@ -24,5 +24,5 @@ loop-member-preserved c = λ t.
 pub returns : goal.returns
 returns c = λ t.
     let kept = c.loop-member.invariant t in
-    all_members (tree_of t c.args.self.now) c.args.members.now c.loop-member.member-index c.loop-member.known c.requires.two c.loop-member-test.false kept.nullable
-    kept.attributes kept.elements kept.members
+    all_members (tree_of t c.args.self.now) c.args.members.now c.loop-member.member-index c.loop-member.known c.requires.two c.loop-member-test.false
+    kept.nullable kept.attributes kept.elements kept.members
