@@ -13,4 +13,5 @@ mod Interleaves
 pub mod Taking
 mod Renumbering
 mod Copying
+mod Selected
 mod Marking

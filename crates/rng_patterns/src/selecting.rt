@@ -1,10 +1,12 @@
 // Some patterns of a table, in a table of their own.
-ghost use Rattle.std.specs.Prelude.{◌≡◌, ◌<◌, [], ◌∷◌, All, IfOk, length, map};
+ghost use Rattle.std.specs.Prelude.{◌≡◌, ◌<◌, ℕ, [], ◌∷◌, All, IfOk, length, map, take};
 ghost use Rattle.std.specs.List.{AllZip};
 ghost use Rattle.rng_model.specs.Table.{Table};
+ghost use Rattle.rng_patterns.specs.Kept.{AreRestrictedAlike};
 ghost use Rattle.rng_patterns.specs.Node.{node_of};
 ghost use Rattle.rng_patterns.specs.PatternTable.{ArePartsBelow, IsPatternTable};
 ghost use Rattle.rng_patterns.specs.Selecting.{AreClosed, AreCopied, IsMarked, Marks, given_for, node_at, parts_of, renumbered};
+ghost use Rattle.rng_patterns.specs.Taking.{AreTaken};
 ghost use Rattle.rng_patterns.specs.Trees.{tree_of};
 
 use crate::pattern::{Pattern, PatternNumber};
@@ -16,7 +18,9 @@ impl PatternTable {
     /// The patterns of these numbers and what they are made of, in a table of their own, and their numbers there, in the same
     /// order.
     ///
-    /// The trees are the same. The error is want of memory. Takes time and memory in proportion to this table.
+    /// The trees are the same. So where the first of these numbers are those of a grammar's patterns (`of`), they are so there,
+    /// too. The error is want of memory. Takes time and memory in proportion to this table, and what it gives has only the rows
+    /// that are asked for.
     pub fn selected(
         &self,
         alloc: Global,
@@ -26,6 +30,9 @@ impl PatternTable {
         ensures count { IfOk result (λ r. length r.1.items ≡ length numbers.now) }
         ensures inside { IfOk result (λ r. All (λ n. n.0 < length r.0) r.1.items) }
         ensures same { IfOk result (λ r. (t : Table) → AllZip (λ m n. tree_of t r.0 n.0 ≡ tree_of t self.now m.0) numbers.now r.1.items) }
+        ensures taken { IfOk result (λ r. (t : Table) (k : ℕ) → AreTaken t self.now (take k numbers.now) → AreTaken t r.0 (take k r.1.items)) }
+        ensures restricted { IfOk result (λ r. (t : Table) (k : ℕ) → AreRestrictedAlike t self.now (take k numbers.now)
+            → AreRestrictedAlike t r.0 (take k r.1.items)) }
     {
         let marks = self.with_parts(alloc, numbers)?;
         let (table, given) = self.copied(alloc, marks.as_slice())?;

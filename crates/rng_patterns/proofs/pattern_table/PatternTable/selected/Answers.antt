@@ -2,6 +2,7 @@ use Rattle.std.proofs.Common.{◌≡◌, Bool, List, map, subst}
 use Rattle.rng_patterns.specs.Selecting.{AreCopied, given_for}
 use Rattle.rng_patterns.specs.declared.pattern.PatternNumber.{PatternNumber}
 use Rattle.rng_patterns.proofs.Copying.{selected_inside, selected_same}
+use Rattle.rng_patterns.proofs.Selected.{restricted_selected, taken_selected}
 use Rattle.rng_patterns.proofs.pattern_table.PatternTable.selected.Goals as goal
 
 pub returns-clause-inside : goal.returns-clause-inside
@@ -23,3 +24,12 @@ returns-clause-same c =
     selected_same ns c.in_ok-table.table c.in_ok-marks.marks.items given (subst Copied c.as_slice.ensures.value c.in_ok-table.ensures.copied)
     c.in_ok-table.ensures.long c.args.numbers.now c.in_ok-places.places.items c.requires c.in_ok-marks.ensures.marked
     (subst Given c.as_slice-2.ensures.value c.in_ok-places.ensures)
+
+pub returns-clause-taken : goal.returns-clause-taken
+returns-clause-taken c = λ t k.
+    taken_selected t c.args.self.now c.in_ok-table.table c.args.numbers.now c.in_ok-places.places.items (returns-clause-inside c) (returns-clause-same c t) k
+
+pub returns-clause-restricted : goal.returns-clause-restricted
+returns-clause-restricted c = λ t k.
+    restricted_selected t c.args.self.now c.in_ok-table.table c.args.numbers.now c.in_ok-places.places.items (returns-clause-inside c)
+    (returns-clause-same c t) k
