@@ -1,7 +1,7 @@
 -- Renewal: the same patterns by other numbers.
-use Rattle.std.proofs.Common.{◌≡◌, ℕ, ◌<◌, ◌≤◌, ◌+◌, zero, suc, List, [], ◌∷◌, ◌++◌, length, map, fold, take, drop, refl, sym, ap, ◌∙◌, subst, All, arith}
-use Rattle.std.proofs.Common.{slice_set, slice_index_or, Option, None}
-use Rattle.std.specs.List.{AllZip, flat_map}
+use Rattle.std.proofs.Common.{◌≡◌, ℕ, ◌<◌, ◌≤◌, ◌+◌, List, [], ◌∷◌, ◌++◌, length, map, fold, take, drop, refl, sym, ap, ◌∙◌, subst, All, arith}
+use Rattle.std.proofs.Common.{slice_set, slice_index_or, None}
+use Rattle.std.specs.List.{AllZip}
 use Rattle.std.proofs.lemmas.List.{length-take, take_more, take_more_set, drop_more, drop-set-lt, length-set, length-append, length-map, length-drop}
 use Rattle.std.proofs.lemmas.List.Elements.{All-append, All-map, All-nil, All-head, All-tail, All-weaker}
 use Rattle.rng_model.specs.Tree.{Simple}
@@ -11,9 +11,9 @@ use Rattle.rng_matching.specs.LevelStates as level
 use Rattle.rng_patterns.specs.declared.pattern.PatternNumber.{PatternNumber}
 use Rattle.rng_matcher.specs.Numbers.{IsInside, AreRenewed, tree_of}
 use Rattle.rng_matcher.specs.Levels.{IsRestWithin, link_of}
-use Rattle.rng_matcher.specs.States.{IsLevelInside, IsStateInside, levels_of, state_of, with_level}
+use Rattle.rng_matcher.specs.States.{IsLevelInside, IsStateInside, with_level}
 use Rattle.rng_matcher.specs.Strings.{IsHeld, IsHeldInside}
-use Rattle.rng_matcher.specs.Positions.{HasCome, IsPositionInside, IsPositionOf}
+use Rattle.rng_matcher.specs.Positions.{HasCome, IsPositionInside}
 use Rattle.rng_matcher.specs.Renewal.{IsLevelRenewed, IsLinkRenewed, IsPositionRenewed, IsRenewed, IsStateRenewed, rests_in, rests_of, with_rests}
 use Rattle.rng_matcher.specs.declared.links.Link.{Link}
 use Rattle.rng_matcher.specs.declared.position.Position.{Position}

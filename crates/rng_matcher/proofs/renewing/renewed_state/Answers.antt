@@ -1,6 +1,5 @@
-use Rattle.std.proofs.Common.{◌∙◌, ap, sym, subst, All, rules}
+use Rattle.std.proofs.Common.{subst, All, rules}
 use Rattle.rng_matcher.specs.Numbers.{IsInside}
-use Rattle.rng_matcher.specs.Renewal.{rests_in}
 use Rattle.rng_matcher.proofs.Renewal.{held_inside, state_renewed}
 use Rattle.rng_matcher.proofs.renewing.renewed_state.Goals as goal
 
