@@ -4,4 +4,5 @@ pub mod Opening
 pub mod Ending
 pub mod Stepping
 pub mod Positions
+pub mod Renewal
 pub mod Knowing

@@ -4,3 +4,4 @@ pub mod States
 pub mod Strings
 pub mod Outcomes
 pub mod Positions
+pub mod Renewal

@@ -49,3 +49,8 @@ pub record AddsStarts (g : Reading) (q : Name) (old new : List (Simple ℕ)) (p 
   pub longer : Longer old new
   pub inside : All (λ w. IsInside new w.body × IsInside new w.rest) ways
   pub starts : AreStarts g q p (map (way_of new) ways)
+
+-- the numbers beside these stand for the same patterns, in another table
+pub record AreRenewed (old new : List (Simple ℕ)) (held numbers : List PatternNumber) : Type 0 where
+  pub inside : All (IsInside new) numbers
+  pub same : map (tree_of new) numbers ≡ map (tree_of old) held

@@ -5,7 +5,7 @@ ghost use Rattle.rng_model.specs.View.{attribute_of, name_of};
 ghost use Rattle.rng_matching.specs.Derivatives as tree;
 ghost use Rattle.rng_matching.specs.LevelStates.{IsAfterTag, IsAfterText};
 ghost use Rattle.rng_matching.specs.Reading.{Reading};
-ghost use Rattle.rng_matcher.specs.Numbers.{Adds, AddsStarts, IsChoiceOf, IsInside, tree_of};
+ghost use Rattle.rng_matcher.specs.Numbers.{Adds, AddsStarts, AreRenewed, IsChoiceOf, IsInside, tree_of};
 
 use rng_model::{Attr, Name, OutOfMemory};
 use rng_patterns::PatternNumber;
@@ -84,4 +84,18 @@ pub trait Derivatives {
         ensures reading { OnOk result (reading self.new ≡ reading self.old) }
         ensures starts { IfOk result (λ ways. AddsStarts (reading self.old) (name_of name.now) (trees self.old) (trees self.new)
             (tree_of (trees self.old) pattern) ways.items) };
+
+    /// Whether there are so many patterns that those which nobody holds are better let go. Takes no memory.
+    fn is_crowded(&self) -> bool;
+
+    /// Lets all patterns go but these, and what they are made of; answers their new numbers, in the same order. The numbers
+    /// of all others mean nothing any more. The error is want of memory.
+    fn renew(
+        &mut self,
+        alloc: Global,
+        held: &[PatternNumber],
+    ) -> Result<Vec<PatternNumber>, OutOfMemory>
+        requires { All (IsInside (trees self.old)) held.now }
+        ensures reading { OnOk result (reading self.new ≡ reading self.old) }
+        ensures kept { IfOk result (λ numbers. AreRenewed (trees self.old) (trees self.new) held.now numbers.items) };
 }

@@ -15,6 +15,7 @@ mod matcher;
 mod outcome;
 mod position;
 mod progress;
+mod renewing;
 mod state;
 
 pub use derivatives::{Derivatives, Way};

@@ -9,6 +9,7 @@ ghost use Rattle.rng_matcher.specs.Positions.{AddsProgress, AddsStep, HasCome, I
 
 use crate::derivatives::Derivatives;
 use crate::position::{Position, after_end, after_start, after_text};
+use crate::renewing::renewed;
 use rng_model::{Event, EventKind, OutOfMemory};
 use rng_patterns::PatternNumber;
 use std::alloc::Global;
@@ -72,6 +73,7 @@ fn go_on<D: Derivatives>(
     if is_hopeless(derivatives, position.state.now.as_slice()) {
         return Ok(Progress::Failed(event.line));
     }
+    let position = renewed(derivatives, alloc, position)?;
     Ok(Progress::Going {
         position,
         line: event.line,

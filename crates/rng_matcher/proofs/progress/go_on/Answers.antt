@@ -1,9 +1,10 @@
-use Rattle.std.proofs.Common.{◌≡◌, ◌∙◌, sym, subst, true, false}
+use Rattle.std.proofs.Common.{◌≡◌, ◌∙◌, sym, subst, true, false, ◌++◌, ◌∷◌, []}
 use Rattle.std.specs.List.{list_all}
 use Rattle.rng_model.specs.EventView.{event_of}
 use Rattle.rng_matching.specs.Derivatives.{is_not_allowed}
 use Rattle.rng_matcher.specs.Numbers.{tree_of}
 use Rattle.rng_matcher.proofs.Knowing.{comes_on, fails}
+use Rattle.rng_matcher.proofs.Renewal.{come_renewed}
 use Rattle.rng_matcher.proofs.progress.go_on.Goals as goal
 
 pub returns-then-is_hopeless-clause-progress : goal.returns-then-is_hopeless-clause-progress
@@ -23,11 +24,15 @@ pub returns-clause-progress : goal.returns-clause-progress
 returns-clause-progress g c =
     let trees = g.D.Derivatives.trees in
     let reading = g.D.Derivatives.reading c.args.derivatives.now in
-    let new = trees c.step.new.derivatives in
-    let some = subst (λ ns. list_all (λ n. is_not_allowed (tree_of new n)) ns ≡ false) c.as_slice.ensures.value
+    let mid = trees c.step.new.derivatives in
+    let new = trees c.renewed.new.derivatives in
+    let event = event_of c.args.event in
+    let some = subst (λ ns. list_all (λ n. is_not_allowed (tree_of mid n)) ns ≡ false) c.as_slice.ensures.value
     (sym c.is_hopeless.ensures ∙ c.if-is_hopeless.false) in
     record {
-      inside = c.in_ok-position.ensures.step.inside;
-      stands = λ es come. comes_on reading (trees c.args.derivatives.now) new c.args.position c.in_ok-position.position (event_of c.args.event)
-          c.in_ok-position.ensures.step come.0 es come.1 some;
+      inside = c.in_ok-position-2.ensures.renewed.inside;
+      stands = λ es come. come_renewed reading mid new c.in_ok-position.position c.in_ok-position-2.position event.line (es ++ event ∷ [])
+          c.in_ok-position-2.ensures.renewed
+          (comes_on reading (trees c.args.derivatives.now) mid c.args.position c.in_ok-position.position event c.in_ok-position.ensures.step come.0 es come.1
+          some);
     }

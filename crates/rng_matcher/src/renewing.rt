@@ -1,0 +1,110 @@
+// Patterns that a position does not hold are let go.
+ghost use Rattle.std.specs.Prelude.{◌≡◌, ◌++◌, ◌≤◌, ℕ, List, IfOk, OnOk, drop, length, take};
+ghost use Rattle.std.specs.List.{AllZip};
+ghost use Rattle.rng_model.specs.Tree.{Simple};
+ghost use Rattle.rng_matcher.specs.Positions.{IsPositionInside};
+ghost use Rattle.rng_matcher.specs.Renewal.{IsLevelRenewed, IsPositionRenewed, IsRenewed, IsStateRenewed, rests_in, rests_of, with_rests};
+ghost use Rattle.rng_matcher.specs.States.{IsStateInside};
+
+use crate::derivatives::Derivatives;
+use crate::links::Link;
+use crate::position::Position;
+use crate::state::{Level, State};
+use rng_model::OutOfMemory;
+use rng_patterns::PatternNumber;
+use std::alloc::Global;
+
+/// Adds what the ways out of an element leave.
+fn add_rests(held: &mut Vec<PatternNumber>, links: &[Link]) -> Result<(), OutOfMemory>
+    ensures { OnOk result (held.new.items ≡ held.old.items ++ rests_of links.now) }
+{
+    'links: for link in links {
+        held.push(link.rest)?;
+    }
+    Ok(())
+}
+
+/// Adds what the ways out of all these elements leave.
+fn add_levels(held: &mut Vec<PatternNumber>, levels: &[Level]) -> Result<(), OutOfMemory>
+    ensures { OnOk result (held.new.items ≡ held.old.items ++ rests_in levels.now) }
+{
+    'levels: for level in levels {
+        add_rests(held, level.links.as_slice())?;
+    }
+    Ok(())
+}
+
+/// Puts the first of the numbers in place of what the ways out of an element leave; answers those behind them.
+fn put_rests<'a>(level: &mut Level, numbers: &'a [PatternNumber]) -> &'a [PatternNumber]
+    requires { length level.old.links.items ≤ length numbers.now }
+    ensures around { level.new.around ≡ level.old.around }
+    ensures links { level.new.links.items ≡ with_rests level.old.links.items (take (length level.old.links.items) numbers.now) }
+    ensures behind { result.now ≡ drop (length level.old.links.items) numbers.now }
+{
+    let (rests, behind) = numbers.split_at(level.links.len());
+    'rests: for (place, rest) in rests.iter().enumerate() {
+        level.links[place].rest = *rest;
+    }
+    behind
+}
+
+/// Puts the numbers in place of what the ways out of all these elements leave.
+fn put_levels(levels: &mut Vec<Level>, numbers: &[PatternNumber])
+    requires { length (rests_in levels.old.items) ≤ length numbers.now }
+    ensures { (old new : List (Simple ℕ)) → AllZip (IsRenewed old new) (rests_in levels.old.items) numbers.now
+        → AllZip (IsLevelRenewed old new) levels.old.items levels.new.items }
+{
+    let mut behind = numbers;
+    'levels: for level in levels.iter_mut() {
+        behind = put_rests(level, behind);
+    }
+}
+
+/// The state, where all patterns are let go that it does not hold.
+fn renewed_state<D: Derivatives>(
+    derivatives: &mut D,
+    alloc: Global,
+    state: State,
+) -> Result<State, OutOfMemory>
+    requires { IsStateInside (D.trees derivatives.old) state }
+    ensures reading { OnOk result (D.reading derivatives.new ≡ D.reading derivatives.old) }
+    ensures renewed { IfOk result (λ s. IsStateRenewed (D.trees derivatives.old) (D.trees derivatives.new) state s) }
+{
+    let State {
+        now: mut held,
+        mut levels,
+    } = state;
+    let count = held.len();
+    add_levels(&mut held, levels.as_slice())?;
+    let mut numbers = derivatives.renew(alloc, held.as_slice())?;
+    let (_, rests) = numbers.as_slice().split_at(count);
+    put_levels(&mut levels, rests);
+    numbers.truncate(count);
+    Ok(State {
+        now: numbers,
+        levels,
+    })
+}
+
+/// The position, where all patterns are let go that it does not hold if there are too many.
+///
+/// While a string is held there are only those more that are left after it, so the next event is waited for.
+pub fn renewed<D: Derivatives>(
+    derivatives: &mut D,
+    alloc: Global,
+    position: Position,
+) -> Result<Position, OutOfMemory>
+    requires { IsPositionInside (D.trees derivatives.old) position }
+    ensures reading { OnOk result (D.reading derivatives.new ≡ D.reading derivatives.old) }
+    ensures renewed { IfOk result (λ q. IsPositionRenewed (D.trees derivatives.old) (D.trees derivatives.new) position q) }
+{
+    if position.held.is_some() || !derivatives.is_crowded() {
+        return Ok(position);
+    }
+    let state = renewed_state(derivatives, alloc, position.state)?;
+    Ok(Position {
+        state,
+        has_begun: position.has_begun,
+        held: None,
+    })
+}
