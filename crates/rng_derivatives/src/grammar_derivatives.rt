@@ -201,4 +201,18 @@ impl Derivatives for GrammarDerivatives<'_> {
         self.table = Some(table);
         Ok(starts)
     }
+
+    fn is_crowded(&self) -> bool {
+        false
+    }
+
+    fn renew(
+        &mut self,
+        alloc: Global,
+        held: &[PatternNumber],
+    ) -> Result<Vec<PatternNumber>, OutOfMemory> {
+        let mut numbers = Vec::new(alloc);
+        numbers.extend_from_slice(held)?;
+        Ok(numbers)
+    }
 }

@@ -1,4 +1,4 @@
--- Numbered patterns: the trees that their numbers stand for, in a table that only grows.
+-- Numbered patterns: the trees that their numbers stand for, in a table that only grows, but for its renewals.
 use Rattle.std.specs.Prelude.{◌≡◌, ◌↔◌, ℕ, ◌<◌, List, [], ◌++◌, length, map, All, Contains}
 use Rattle.std.specs.List.{AllZip}
 use Rattle.rng_model.specs.Names.{Name}

@@ -62,7 +62,7 @@ IsKnown g trees (progress.Going p line) es = HasCome g trees p line es
 IsKnown g trees (progress.Failed line) es = FailsAt g es line
 IsKnown g trees progress.Lost es = ⊤
 
--- what is known after one more event, in a table that may have grown
+-- what is known after one more event, in the table as it is then
 pub record AddsProgress (g : Reading) (e : Event) (Before : List Event → Type 0) (new : List (Simple ℕ)) (p : Progress) : Type 0 where
   pub inside : IsProgressInside new p
   pub stands : (es : List Event) → Before es → IsKnown g new p (es ++ e ∷ [])

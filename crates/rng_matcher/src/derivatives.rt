@@ -86,6 +86,8 @@ pub trait Derivatives {
             (tree_of (trees self.old) pattern) ways.items) };
 
     /// Whether there are so many patterns that those which nobody holds are better let go. Takes no memory.
+    ///
+    /// Asked after each start and each end; where it stays so after a renewal, each of them renews.
     fn is_crowded(&self) -> bool;
 
     /// Lets all patterns go but these, and what they are made of; answers their new numbers, in the same order. The numbers

@@ -2,7 +2,7 @@
 //!
 //! Open elements are levels: of the innermost the matcher keeps alternatives for what remains of it, and of each the ways
 //! out into the alternatives around it (`rng_matching`'s `LevelStates`). What is left of a pattern is asked of
-//! `Derivatives`.
+//! `Derivatives`. Where there are too many patterns, those that no level holds are let go.
 #![tactic(auto)]
 
 mod closing;

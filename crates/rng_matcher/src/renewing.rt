@@ -86,9 +86,9 @@ fn renewed_state<D: Derivatives>(
     })
 }
 
-/// The position, where all patterns are let go that it does not hold if there are too many.
+/// The position, where all patterns are let go that it does not hold, if there are too many.
 ///
-/// While a string is held there are only those more that are left after it, so the next event is waited for.
+/// Not while a string is held, which is settled with the next event. Costs what the position holds, and the renewal of that.
 pub fn renewed<D: Derivatives>(
     derivatives: &mut D,
     alloc: Global,
