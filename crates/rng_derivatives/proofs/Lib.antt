@@ -2,3 +2,4 @@ mod Joining
 mod Served
 mod LikeNames
 mod Memo
+mod Renewal

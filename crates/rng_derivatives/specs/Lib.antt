@@ -1,3 +1,4 @@
 pub mod Serving
 pub mod Starts
 pub mod StartMemo
+pub mod Renewal

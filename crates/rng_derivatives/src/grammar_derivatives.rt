@@ -7,6 +7,7 @@ ghost use Rattle.rng_matcher.specs.Numbers.{IsInside, tree_of};
 ghost use Rattle.rng_patterns.specs.Trees.{trees};
 ghost use Rattle.rng_ways.specs.Kinds.{reading_of};
 
+use crate::renewing::{Selection, count_start, limit_beside, renewed};
 use crate::start_memo::{StartKey, StartMemo, copied, keep, kept};
 use crate::starts::joined_ways;
 use rng_keys::NameKeys;
@@ -33,6 +34,10 @@ pub struct GrammarDerivatives<'a> {
     memo: StartMemo,
     /// The ways that are known of parts of patterns.
     known: Known,
+    /// How many starts were worked out since there was nothing known of them.
+    starts: usize,
+    /// How many patterns there may be before those that nobody holds are let go.
+    limit: usize,
     /// `None` after want of memory.
     table: Option<PatternTable>,
 }
@@ -73,6 +78,7 @@ impl<'a> GrammarDerivatives<'a> {
         let start = numbers[grammar.start().0];
         let keys = NameKeys::of(alloc, grammar)?;
         let known = Known::new(alloc, &keys)?;
+        let limit = limit_beside(table.len());
         Ok((
             GrammarDerivatives {
                 grammar,
@@ -80,6 +86,8 @@ impl<'a> GrammarDerivatives<'a> {
                 keys,
                 memo: HashMap::new(alloc),
                 known,
+                starts: 0,
+                limit,
                 table: Some(table),
             },
             start,
@@ -185,6 +193,7 @@ impl Derivatives for GrammarDerivatives<'_> {
             self.table = Some(table);
             return Ok(ways);
         }
+        count_start(alloc, &self.keys, &mut self.known, &mut self.starts)?;
         let numbers = self.numbers.as_slice();
         let ways = start(
             alloc,
@@ -203,7 +212,10 @@ impl Derivatives for GrammarDerivatives<'_> {
     }
 
     fn is_crowded(&self) -> bool {
-        false
+        match &self.table {
+            Some(table) => table.len() >= self.limit,
+            None => false,
+        }
     }
 
     fn renew(
@@ -211,8 +223,19 @@ impl Derivatives for GrammarDerivatives<'_> {
         alloc: Global,
         held: &[PatternNumber],
     ) -> Result<Vec<PatternNumber>, OutOfMemory> {
-        let mut numbers = Vec::new(alloc);
-        numbers.extend_from_slice(held)?;
-        Ok(numbers)
+        let Some(table) = self.table.take() else {
+            return Err(OutOfMemory);
+        };
+        let Selection {
+            table,
+            numbers,
+            held,
+        } = renewed(alloc, &table, self.numbers.as_slice(), held)?;
+        self.known = Known::new(alloc, &self.keys)?;
+        self.memo = HashMap::new(alloc);
+        self.numbers = numbers;
+        self.limit = limit_beside(table.len());
+        self.table = Some(table);
+        Ok(held)
     }
 }

@@ -6,6 +6,7 @@
 
 mod grammar_derivatives;
 mod grammar_matcher;
+mod renewing;
 mod start_memo;
 mod starts;
 

@@ -40,7 +40,7 @@ held_inside trees s inside =
 
 -- ---- numbers side by side
 
-zip_split : {A B : Type 0} (R : A → B → Type 0) (xs ys : List A) (ns : List B) → AllZip R (xs ++ ys) ns
+pub zip_split : {A B : Type 0} (R : A → B → Type 0) (xs ys : List A) (ns : List B) → AllZip R (xs ++ ys) ns
     → AllZip R xs (take (length xs) ns) × AllZip R ys (drop (length xs) ns)
 zip_split R [] ys ns h = (tt, h)
 zip_split R (x ∷ xs) ys [] h = absurd h

@@ -84,3 +84,11 @@ returns-clause-starts c =
     (subst (λ (ws : List numbered.Way). OpensLike t new (ways_by (tree_of t middle) ws) c.in_ok-starts.starts.items) c.as_slice.ensures
     (c.in_ok-starts.ensures.ways t))
     c.requires)
+
+pub start-requires-clause-known : goal.start-requires-clause-known
+start-requires-clause-known c =
+    let d = c.self.inside in
+    let t = d.grammar.now in
+    let old = c.in-Some.table in
+    let there = sym c.in-Some.ensures.value in
+    c.in_ok-count_start.ensures t old (there_served t d.keys d.table old d.numbers.items d.memo d.known there c.self.invariant).3
