@@ -15,7 +15,7 @@ use crate::way::{Kind, Way, Ways};
 use crate::ways::ways;
 use rng_keys::{NameKey, NameKeys};
 use rng_model::{Name, OutOfMemory, PatternId, SimpleGrammar};
-use rng_patterns::{Pattern, PatternNumber, PatternTable};
+use rng_patterns::{Elements, Pattern, PatternNumber, PatternTable};
 use smallvec::SmallVec;
 use std::alloc::Global;
 
@@ -80,6 +80,7 @@ fn element_ways(
         grammar,
         table,
         &mut known[key.0],
+        Elements::Any,
         Kind::Element(name),
         number,
     )
