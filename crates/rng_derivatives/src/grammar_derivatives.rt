@@ -72,7 +72,7 @@ impl<'a> GrammarDerivatives<'a> {
         let (table, numbers) = PatternTable::of(alloc, grammar)?;
         let start = numbers[grammar.start().0];
         let keys = NameKeys::of(alloc, grammar)?;
-        let known = Known::new(alloc, &keys)?;
+        let known = Known::new(alloc, grammar, &keys)?;
         Ok((
             GrammarDerivatives {
                 grammar,

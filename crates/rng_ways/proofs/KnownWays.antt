@@ -65,11 +65,11 @@ none_known t ns kind known empty n ways h = absurd (none_is (subst (λ es. looku
 
 -- ---- by key
 
-some_is : {A : Type 0} {x y : A} → Some x ≡ Some y → x ≡ y
+pub some_is : {A : Type 0} {x y : A} → Some x ≡ Some y → x ≡ y
 some_is e = cc
 
 -- what stands in a list once an item was written
-set_found : {A : Type 0} (xs : List A) (k : ℕ) (y : A) (j : ℕ) (m : A) → slice_get (slice_set xs k y) j ≡ Some m
+pub set_found : {A : Type 0} (xs : List A) (k : ℕ) (y : A) (j : ℕ) (m : A) → slice_get (slice_set xs k y) j ≡ Some m
     → ((j ≡ k) × (m ≡ y)) ⊎ (slice_get xs j ≡ Some m)
 set_found [] k y j m e = inr e
 set_found (x ∷ xs) zero y zero m e = inl (refl, sym (some_is e))
@@ -77,7 +77,7 @@ set_found (x ∷ xs) zero y (suc j) m e = inr e
 set_found (x ∷ xs) (suc k) y zero m e = inr e
 set_found (x ∷ xs) (suc k) y (suc j) m e = ⊎_elim (λ a. inl (ap suc a.0, a.1)) (λ b. inr b) (set_found xs k y j m e)
 
-set_length : {A : Type 0} (xs : List A) (k : ℕ) (y : A) → length (slice_set xs k y) ≡ length xs
+pub set_length : {A : Type 0} (xs : List A) (k : ℕ) (y : A) → length (slice_set xs k y) ≡ length xs
 set_length [] k y = refl
 set_length (x ∷ xs) zero y = refl
 set_length (x ∷ xs) (suc k) y = ap suc (set_length xs k y)
@@ -153,6 +153,7 @@ all_longer t keys old new longer known all = record {
   texts = known_longer t old new kinds.Text longer known.texts all.texts;
   elements = by_key_longer IsElementKind t keys old new longer known.elements.items all.elements;
   attributes = by_key_longer IsAttributeKind t keys old new longer known.attributes.items all.attributes;
+  takers = all.takers;
 }
 
 -- ---- elements

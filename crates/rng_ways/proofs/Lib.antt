@@ -7,8 +7,8 @@ pub mod Rows
 mod WaysOfLeaves
 mod Composing
 mod Weights
-mod Takers
 pub mod KnownWays
+mod ElementTakers
 mod Bareness
 mod Closings
 pub mod Starts

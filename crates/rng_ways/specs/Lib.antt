@@ -1,6 +1,6 @@
 pub mod Kinds
-pub mod Ways
 pub mod Takers
+pub mod Ways
 pub mod KnownWays
 pub mod Closing
 pub mod Starting

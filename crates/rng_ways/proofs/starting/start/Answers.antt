@@ -2,6 +2,7 @@ use Rattle.std.proofs.Common.{List, sym, subst}
 use Rattle.rng_keys.specs.Keys.{name_at}
 use Rattle.rng_patterns.specs.Trees.{tree_of}
 use Rattle.rng_ways.specs.Starting.{AreBodies}
+use Rattle.rng_ways.specs.Takers.{IsTold}
 use Rattle.rng_ways.specs.Ways.{AreInside}
 use Rattle.rng_ways.specs.KnownWays.{IsAttributeKind}
 use Rattle.rng_ways.specs.declared.way.Kind.TheVariants as kinds
@@ -10,6 +11,10 @@ use Rattle.rng_ways.specs.declared.way.Way as numbered
 use Rattle.rng_ways.proofs.KnownWays.{by_key_longer, element_kept, element_law, known_longer}
 use Rattle.rng_ways.proofs.Starts.{ready_longer, starts_made}
 use Rattle.rng_ways.proofs.starting.start.Goals as goal
+
+pub element_ways-requires-clause-takers : goal.element_ways-requires-clause-takers
+element_ways-requires-clause-takers c = λ e q is named.
+    c.of-takers.ensures e (subst (λ k. IsTold c.args.known.now.takers k e) is (c.requires.known.takers e q named))
 
 pub add_starts-requires : goal.add_starts-requires
 add_starts-requires c = record {
@@ -41,4 +46,5 @@ returns-clause-known c =
       elements = c.in_ok-ways.ensures.known;
       attributes = by_key_longer IsAttributeKind t c.args.keys.now old new c.in_ok-ways.ensures.longer c.args.known.now.attributes.items
           c.requires.known.attributes;
+      takers = c.requires.known.takers;
     }

@@ -21,7 +21,7 @@ use Rattle.rng_ways.proofs.Composing.{map_numbers, no_order_between, over_same, 
 use Rattle.rng_ways.proofs.Kept.{Obeys-hereditary, choice_has}
 use Rattle.rng_ways.proofs.KnownWays.{known_longer, known_more, those_known}
 use Rattle.rng_ways.proofs.Nodes.{is_over, other_single, parts_there, single_alone}
-use Rattle.rng_ways.proofs.Takers.{idle_ways}
+use Rattle.rng_ways.proofs.ElementTakers.{idle_ways}
 use Rattle.rng_ways.proofs.Weights.{member_less, opened_less, right_less}
 use Rattle.rng_ways.proofs.ways.+ways.Goals as goal
 
@@ -46,7 +46,8 @@ new_ways-ways_of_choice-requires t c =
     let one = below.1 k dm.0 (omega (arith, long, h)) in
     let at = get_or-map (λ (m : PatternNumber). m.0) ms k dm in
     omega (arith, one, at, inside) in
-    (omega (arith, w, v, d), (subst Inside (sym e) member, (subst (λ (ms : List PatternNumber). 2 ≤ length ms) (sym e) two_members, (c.requires.known, c.requires.takers))))
+    let two_there = subst (λ (ms : List PatternNumber). 2 ≤ length ms) (sym e) two_members in
+    (omega (arith, w, v, d), (subst Inside (sym e) member, (two_there, (c.requires.known, c.requires.takers))))
 
 pub new_ways-ways_of_group-requires : goal.new_ways-ways_of_group-requires
 new_ways-ways_of_group-requires t c =
@@ -67,8 +68,10 @@ new_ways-ways_of_both-requires t c =
     let first = below.0 in
     let second = below.1 in
     let d = c.decreases in
-    let inside = c.requires.inside in
-    (omega (arith, w, d), (no_order_between c.args.kind, (omega (arith, first, inside), (omega (arith, second, inside), (c.requires.known, c.requires.takers)))))
+    let inside = c.requires.inside in (
+      omega (arith, w, d),
+      (no_order_between c.args.kind, (omega (arith, first, inside), (omega (arith, second, inside), (c.requires.known, c.requires.takers)))),
+    )
 
 pub new_ways-ways_of_copies-requires : goal.new_ways-ways_of_copies-requires
 new_ways-ways_of_copies-requires t c =
