@@ -28,7 +28,7 @@ use Rattle.rng_ways.specs.Ways.{AreWaysOf}
 use Rattle.rng_ways.specs.declared.takers.Takers.{Takers}
 use Rattle.rng_ways.specs.declared.way.Kind.{Kind}
 use Rattle.rng_ways.specs.declared.way.Kind.TheVariants as kinds
-use Rattle.rng_ways.proofs.KnownWays.{set_found, some_is}
+use Rattle.rng_ways.proofs.KnownWays.{some_is}
 use Rattle.rng_ways.proofs.Rows.{class_there, no_class_there}
 
 module _ (q : Name) where
@@ -152,29 +152,6 @@ module _ (t : Table) (keys : Keys) (k : ℕ) (q : Name) (own : key_of keys q ≡
   element_takers kind (elements.Within first last) named h = among kind (elements.Within first last) named h
   element_takers kind elements.Any named h = tt
 
--- one more of those whose class is one name
-wider : (m own others : Elements) (e : ℕ) → IsWithin (joined_elements m others) e → IsWithin (joined_elements (joined_elements m own) others) e
-wider elements.None own others e h = joined_second own others e h
-wider (elements.Within first last) elements.None others e h = h
-wider (elements.Within first last) (elements.Within least greatest) elements.None e h =
-    let low = h.0 in let high = h.1 in (omega (arith, low), omega (arith, high))
-wider (elements.Within first last) (elements.Within least greatest) (elements.Within below above) e h =
-    let low = h.0 in let high = h.1 in (omega (arith, low), omega (arith, high))
-wider (elements.Within first last) (elements.Within least greatest) elements.Any e h = tt
-wider (elements.Within first last) elements.Any others e h = tt
-wider elements.Any own others e h = tt
-
--- one more of the others
-wider_others : (m others own : Elements) (e : ℕ) → IsWithin (joined_elements m others) e → IsWithin (joined_elements m (joined_elements others own)) e
-wider_others elements.None others own e h = joined_first others own e h
-wider_others (elements.Within first last) elements.None own e h = joined_first (elements.Within first last) own e h
-wider_others (elements.Within first last) (elements.Within least greatest) elements.None e h = h
-wider_others (elements.Within first last) (elements.Within least greatest) (elements.Within below above) e h =
-    let low = h.0 in let high = h.1 in (omega (arith, low), omega (arith, high))
-wider_others (elements.Within first last) (elements.Within least greatest) elements.Any e h = tt
-wider_others (elements.Within first last) elements.Any own e h = tt
-wider_others elements.Any others own e h = tt
-
 set_same : {A : Type 0} (xs : List A) (k : ℕ) (y m : A) → slice_get (slice_set xs k y) k ≡ Some m → m ≡ y
 set_same [] k y m e = absurd (cc)
 set_same (x ∷ xs) zero y m e = sym (some_is e)
@@ -186,23 +163,9 @@ Tells all others k e = (m : Elements) → slice_get all k ≡ Some m → IsWithi
 
 module _ (all : List Elements) (others : Elements) where
   -- the element of this number has one name, of this key
-  pub named_stays : (k : ℕ) (m own : Elements) → slice_get all k ≡ Some m → (j e : ℕ) → Tells all others j e
-      → Tells (slice_set all k (joined_elements m own)) others j e
-  named_stays k m own found j e h = λ n at. ⊎_elim
-      (λ a. subst (λ n. IsWithin (joined_elements n others) e) (sym a.1)
-      (wider m own others e (h m (subst (λ j. slice_get all j ≡ Some m) (sym a.0) found))))
-      (λ b. h n b) (set_found all k (joined_elements m own) j n at)
-
   pub named_told : (k : ℕ) (m : Elements) (e : ℕ) → Tells (slice_set all k (joined_elements m (one_element e))) others k e
   named_told k m e = λ n at. subst (λ n. IsWithin (joined_elements n others) e) (sym (set_same all k (joined_elements m (one_element e)) n at))
       (joined_first (joined_elements m (one_element e)) others e (joined_second m (one_element e) e (one_within e)))
-
-  -- it has another class
-  pub other_stays : (own : Elements) (j e : ℕ) → Tells all others j e → Tells all (joined_elements others own) j e
-  other_stays own j e h = λ n at. wider_others n others own e (h n at)
-
-  pub other_told : (j e : ℕ) → Tells all (joined_elements others (one_element e)) j e
-  other_told j e = λ n at. joined_second n (joined_elements others (one_element e)) e (joined_second others (one_element e) e (one_within e))
 
 -- all below this number are told of
 abbrev pub AreToldBelow : Table → Keys → Takers → ℕ → Type 0
@@ -231,10 +194,3 @@ module _ (t : Table) (keys : Keys) (takers : Takers) where
       | inr beyond ↦ let no = no_class_there t e q beyond.1 in let both : true ≡ false = sym named ∙ no in absurd (cc)
     ]
   ]
-
-  -- nothing is told of any key
-  pub none_told : takers.by_key.items ≡ [] → AreAllTold t keys takers
-  none_told empty e q named m at = absurd (none_is (subst (λ all. slice_get all (key_of keys q) ≡ Some m) empty at))
-    where
-      none_is : {A : Type 0} {x : A} → None ≡ Some x → ⊥
-      none_is e = cc

@@ -1,7 +1,7 @@
 -- What is known of patterns stays so as a table grows.
-use Rattle.std.proofs.Common.{◌≡◌, ◌∙◌, ◌⊎◌, ◌<◌, ◌≤◌, ◌+◌, ℕ, zero, suc, List, [], ◌∷◌, ◌++◌, length, slice_get, slice_set, Some, None}
+use Rattle.std.proofs.Common.{◌≡◌, ◌∙◌, ◌⊎◌, ◌<◌, ℕ, zero, suc, List, [], ◌∷◌, ◌++◌, length, slice_get, slice_set, Some, None}
 use Rattle.std.proofs.Common.{inl, inr, ⊎_elim, refl, sym, ap, subst, arith}
-use Rattle.std.specs.HashMap.{HashMap, get, IsEmpty}
+use Rattle.std.specs.HashMap.{HashMap, IsEmpty}
 use Rattle.std.specs.Map.{lookup}
 use Rattle.smallvec.specs.SmallVec.{SmallVec}
 use Rattle.rng_keys.specs.Keys.{Keys, name_at}
@@ -69,7 +69,7 @@ pub some_is : {A : Type 0} {x y : A} → Some x ≡ Some y → x ≡ y
 some_is e = cc
 
 -- what stands in a list once an item was written
-pub set_found : {A : Type 0} (xs : List A) (k : ℕ) (y : A) (j : ℕ) (m : A) → slice_get (slice_set xs k y) j ≡ Some m
+set_found : {A : Type 0} (xs : List A) (k : ℕ) (y : A) (j : ℕ) (m : A) → slice_get (slice_set xs k y) j ≡ Some m
     → ((j ≡ k) × (m ≡ y)) ⊎ (slice_get xs j ≡ Some m)
 set_found [] k y j m e = inr e
 set_found (x ∷ xs) zero y zero m e = inl (refl, sym (some_is e))
@@ -77,7 +77,7 @@ set_found (x ∷ xs) zero y (suc j) m e = inr e
 set_found (x ∷ xs) (suc k) y zero m e = inr e
 set_found (x ∷ xs) (suc k) y (suc j) m e = ⊎_elim (λ a. inl (ap suc a.0, a.1)) (λ b. inr b) (set_found xs k y j m e)
 
-pub set_length : {A : Type 0} (xs : List A) (k : ℕ) (y : A) → length (slice_set xs k y) ≡ length xs
+set_length : {A : Type 0} (xs : List A) (k : ℕ) (y : A) → length (slice_set xs k y) ≡ length xs
 set_length [] k y = refl
 set_length (x ∷ xs) zero y = refl
 set_length (x ∷ xs) (suc k) y = ap suc (set_length xs k y)

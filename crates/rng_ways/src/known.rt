@@ -33,11 +33,7 @@ pub struct Known {
 
 impl Known {
     /// No ways are known, for a grammar with these keys of names. The error is want of memory.
-    pub fn new(
-        alloc: Global,
-        grammar: &SimpleGrammar,
-        keys: &NameKeys,
-    ) -> Result<Self, OutOfMemory>
+    pub fn new(alloc: Global, grammar: &SimpleGrammar, keys: &NameKeys) -> Result<Self, OutOfMemory>
         ensures { IfOk result (λ known. (ns : List Node) → AreAllKnown grammar.now keys.now ns known) }
     {
         let elements = none_known(alloc, keys)?;

@@ -23,11 +23,7 @@ pub struct Takers {
 
 impl Takers {
     /// Those of a grammar with these keys of names. The error is want of memory.
-    pub fn new(
-        alloc: Global,
-        grammar: &SimpleGrammar,
-        keys: &NameKeys,
-    ) -> Result<Self, OutOfMemory>
+    pub fn new(alloc: Global, grammar: &SimpleGrammar, keys: &NameKeys) -> Result<Self, OutOfMemory>
         ensures { IfOk result (AreAllTold grammar.now keys.now) }
     {
         let mut takers = Takers {

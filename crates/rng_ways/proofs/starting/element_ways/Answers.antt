@@ -1,4 +1,4 @@
-use Rattle.std.proofs.Common.{◌≡◌, refl, sym}
+use Rattle.std.proofs.Common.{refl, sym}
 use Rattle.std.proofs.lemmas.Option.{slice_get_read}
 use Rattle.rng_model.specs.View.{name_of}
 use Rattle.rng_patterns.proofs.Choices.{if_ok}

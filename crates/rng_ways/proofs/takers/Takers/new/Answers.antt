@@ -1,5 +1,5 @@
 use Rattle.std.proofs.Common.{sym}
-use Rattle.rng_ways.proofs.ElementTakers.{all_told, none_told, one_more_told}
+use Rattle.rng_ways.proofs.ElementTakers.{all_told, one_more_told}
 use Rattle.rng_ways.proofs.takers.Takers.new.Goals as goal
 
 pub elements-preserved : goal.elements-preserved
