@@ -43,7 +43,8 @@ IsAttributeKind q (kinds.Attribute r) = name_of r.now ≡ q
 IsAttributeKind q kinds.Text = ⊥
 
 -- so are all that are known for the names that stand for keys, where these are the kinds of a name
-pub record AreKnownByKey {Z : Type 0} (Are : Name → Kind → Type 0) (t : Table) (keys : Keys) (ns : List Node) (known : List (HashMap PatternNumber (SmallVec Way) Z)) : Type 0 where
+pub record AreKnownByKey {Z : Type 0} (Are : Name → Kind → Type 0) (t : Table) (keys : Keys) (ns : List Node)
+    (known : List (HashMap PatternNumber (SmallVec Way) Z)) : Type 0 where
   pub count : length known ≡ length keys.names
   pub each : (k : ℕ) (m : HashMap PatternNumber (SmallVec Way) Z) (kind : Kind) → slice_get known k ≡ Some m → Are (name_at keys k) kind
       → AreKnown t ns kind m

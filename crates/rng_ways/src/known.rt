@@ -32,7 +32,8 @@ pub struct Known {
 }
 
 impl Known {
-    /// No ways are known, for a grammar with these keys of names. The error is want of memory.
+    /// No ways are known, for a grammar with these keys of names. The error is want of memory. Costs a look-up for each element
+    /// whose name class is one name.
     pub fn new(alloc: Global, grammar: &SimpleGrammar, keys: &NameKeys) -> Result<Self, OutOfMemory>
         ensures { IfOk result (λ known. (ns : List Node) → AreAllKnown grammar.now keys.now ns known) }
     {

@@ -40,7 +40,8 @@ pub fn start(
     requires known { AreAllKnown grammar.now keys.now table.old known.old }
     ensures longer { OnOk result (Longer table.old table.new) }
     ensures known { OnOk result (AreAllKnown grammar.now keys.now table.new known.new) }
-    ensures starts { IfOk result (λ ws. AreStarts grammar.now table.new numbers.now (tree_of grammar.now table.old number.0) (name_at keys.now key.0) ws.items) }
+    ensures starts { IfOk result (λ ws. AreStarts grammar.now table.new numbers.now (tree_of grammar.now table.old number.0)
+        (name_at keys.now key.0) ws.items) }
 {
     let name = keys.name(key);
     let takers = known.takers.of(key);

@@ -30,7 +30,8 @@ returns-clause-starts c =
     let p = tree_of t c.args.table.now c.args.number.0 in
     let q = name_at c.args.keys.now c.args.key.0 in
     let told = c.in_ok-ways.ensures.ways in
-    starts_made t new c.args.numbers.now p q c.in_ok-ways.ways.items c.add_starts.new.starts.items (element_law t new q p c.in_ok-ways.ways.items told.0 told.1 told.2)
+    starts_made t new c.args.numbers.now p q c.in_ok-ways.ways.items c.add_starts.new.starts.items
+    (element_law t new q p c.in_ok-ways.ways.items told.0 told.1 told.2)
     (λ o. element_kept t new q p c.in_ok-ways.ways.items told.0 told.1 told.2 places.Content o)
     (subst (λ (ws : List numbered.Way). AreBodies t new c.args.numbers.now q ws c.add_starts.new.starts.items)
     c.as_slice.ensures (subst (λ q. AreBodies t new c.args.numbers.now q c.as_slice.result.now c.add_starts.new.starts.items) c.name-name.ensures.name
