@@ -77,7 +77,7 @@ impl<'a> GrammarDerivatives<'a> {
         let (table, numbers) = PatternTable::of(alloc, grammar)?;
         let start = numbers[grammar.start().0];
         let keys = NameKeys::of(alloc, grammar)?;
-        let known = Known::new(alloc, &keys)?;
+        let known = Known::new(alloc, grammar, &keys)?;
         let limit = limit_beside(table.len());
         Ok((
             GrammarDerivatives {
@@ -193,7 +193,13 @@ impl Derivatives for GrammarDerivatives<'_> {
             self.table = Some(table);
             return Ok(ways);
         }
-        count_start(alloc, &self.keys, &mut self.known, &mut self.starts)?;
+        count_start(
+            alloc,
+            self.grammar,
+            &self.keys,
+            &mut self.known,
+            &mut self.starts,
+        )?;
         let numbers = self.numbers.as_slice();
         let ways = start(
             alloc,
@@ -231,7 +237,7 @@ impl Derivatives for GrammarDerivatives<'_> {
             numbers,
             held,
         } = renewed(alloc, &table, self.numbers.as_slice(), held)?;
-        self.known = Known::new(alloc, &self.keys)?;
+        self.known = Known::new(alloc, self.grammar, &self.keys)?;
         self.memo = HashMap::new(alloc);
         self.numbers = numbers;
         self.limit = limit_beside(table.len());

@@ -6,7 +6,7 @@ ghost use Rattle.rng_ways.specs.KnownWays.{AreAllKnown};
 ghost use Rattle.rng_derivatives.specs.Renewal.{AreSameTrees};
 
 use rng_keys::NameKeys;
-use rng_model::OutOfMemory;
+use rng_model::{OutOfMemory, SimpleGrammar};
 use rng_patterns::{PatternNumber, PatternTable};
 use rng_ways::Known;
 use std::alloc::Global;
@@ -25,7 +25,7 @@ pub struct Selection {
 const ROOM: usize = 16_384;
 
 /// So many starts may be worked out before what is known of the parts of patterns is let go.
-const MOST_STARTS: usize = 4_096;
+const MOST_STARTS: usize = 1_024;
 
 /// How many patterns a table may have before those that nobody holds are let go, where it has so many that are wanted.
 pub fn limit_beside(wanted: usize) -> usize {
@@ -84,17 +84,18 @@ pub fn renewed(
 /// bounded. The error is want of memory.
 pub fn count_start(
     alloc: Global,
+    grammar: &SimpleGrammar,
     keys: &NameKeys,
     known: &mut Known,
     starts: &mut usize,
 ) -> Result<(), OutOfMemory>
-    ensures { OnOk result ((t : Table) (ns : List Node) → AreAllKnown t keys.now ns known.old → AreAllKnown t keys.now ns known.new) }
+    ensures { OnOk result ((ns : List Node) → AreAllKnown grammar.now keys.now ns known.old → AreAllKnown grammar.now keys.now ns known.new) }
 {
     *starts = starts.saturating_add(1);
     if *starts < MOST_STARTS {
         return Ok(());
     }
-    *known = Known::new(alloc, keys)?;
+    *known = Known::new(alloc, grammar, keys)?;
     *starts = 0;
     Ok(())
 }

@@ -98,21 +98,21 @@ all_members f ms i known two over n a e o =
         ∙ ap₂ (λ x y. record { nullable = b.nullable; attributes = b.attributes; elements = x; members = y }) e m
 
 -- an element that stands in the tree is within those that are known
-one_within : (k : ℕ) → IsWithin (one_element k) k
+pub one_within : (k : ℕ) → IsWithin (one_element k) k
 one_within k = by (nat_lt k (2 ^ 32))
   where
     by : (b : Bool) → IsWithin (cond b (elements.Within k k) elements.Any) k
     by true = (omega arith, omega arith)
     by false = tt
 
-joined_first : (a b : Elements) (k : ℕ) → IsWithin a k → IsWithin (joined_elements a b) k
+pub joined_first : (a b : Elements) (k : ℕ) → IsWithin a k → IsWithin (joined_elements a b) k
 joined_first elements.None b k h = absurd h
 joined_first (elements.Within first last) elements.None k h = h
 joined_first (elements.Within first last) (elements.Within least greatest) k h = let low = h.0 in let high = h.1 in (omega (arith, low), omega (arith, high))
 joined_first (elements.Within first last) elements.Any k h = tt
 joined_first elements.Any b k h = tt
 
-joined_second : (a b : Elements) (k : ℕ) → IsWithin b k → IsWithin (joined_elements a b) k
+pub joined_second : (a b : Elements) (k : ℕ) → IsWithin b k → IsWithin (joined_elements a b) k
 joined_second elements.None b k h = h
 joined_second (elements.Within first last) elements.None k h = absurd h
 joined_second (elements.Within first last) (elements.Within least greatest) k h = let low = h.0 in let high = h.1 in (omega (arith, low), omega (arith, high))

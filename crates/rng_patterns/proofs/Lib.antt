@@ -1,6 +1,6 @@
 pub mod Trees
 mod EqualPatterns
-mod KnownFacts
+pub mod KnownFacts
 mod Rows
 mod PatternKinds
 pub mod Choices

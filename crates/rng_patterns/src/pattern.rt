@@ -68,8 +68,8 @@ impl Elements {
         }
     }
 
-    /// The element of this number alone.
-    pub(crate) fn one(number: usize) -> Elements
+    /// The element of this number alone. Takes no memory.
+    pub fn one(number: usize) -> Elements
         ensures { result ≡ one_element number }
     {
         if number < 1 << 32 {
@@ -79,8 +79,8 @@ impl Elements {
         }
     }
 
-    /// These and others.
-    pub(crate) fn joined(self, others: Elements) -> Elements
+    /// These and others. Takes no memory.
+    pub fn joined(self, others: Elements) -> Elements
         ensures { result ≡ joined_elements self others }
     {
         match (self, others) {

@@ -1,7 +1,7 @@
 -- What is known of patterns stays so as a table grows.
-use Rattle.std.proofs.Common.{◌≡◌, ◌∙◌, ◌⊎◌, ◌<◌, ◌≤◌, ◌+◌, ℕ, zero, suc, List, [], ◌∷◌, ◌++◌, length, slice_get, slice_set, Some, None}
+use Rattle.std.proofs.Common.{◌≡◌, ◌∙◌, ◌⊎◌, ◌<◌, ℕ, zero, suc, List, [], ◌∷◌, ◌++◌, length, slice_get, slice_set, Some, None}
 use Rattle.std.proofs.Common.{inl, inr, ⊎_elim, refl, sym, ap, subst, arith}
-use Rattle.std.specs.HashMap.{HashMap, get, IsEmpty}
+use Rattle.std.specs.HashMap.{HashMap, IsEmpty}
 use Rattle.std.specs.Map.{lookup}
 use Rattle.smallvec.specs.SmallVec.{SmallVec}
 use Rattle.rng_keys.specs.Keys.{Keys, name_at}
@@ -57,7 +57,8 @@ known_more t ns kind known more n ways all those within = λ m ws h. ⊎_elim (�
     (λ b. subst (λ m. AreThoseOf t ns kind m ws) (sym b.0) (subst (AreThoseOf t ns kind n) (sym b.1) those)) (within m ws h)
 
 -- nothing is known
-pub none_known : {Z : Type 0} (t : Table) (ns : List Node) (kind : Kind) (known : HashMap PatternNumber (SmallVec Way) Z) → IsEmpty known → AreKnown t ns kind known
+pub none_known : {Z : Type 0} (t : Table) (ns : List Node) (kind : Kind) (known : HashMap PatternNumber (SmallVec Way) Z) → IsEmpty known
+    → AreKnown t ns kind known
 none_known t ns kind known empty n ways h = absurd (none_is (subst (λ es. lookup (same.ghosts.eq n) es ≡ Some h.0) empty h.1))
   where
     none_is : {A : Type 0} {x : A} → None ≡ Some x → ⊥
@@ -65,7 +66,7 @@ none_known t ns kind known empty n ways h = absurd (none_is (subst (λ es. looku
 
 -- ---- by key
 
-some_is : {A : Type 0} {x y : A} → Some x ≡ Some y → x ≡ y
+pub some_is : {A : Type 0} {x y : A} → Some x ≡ Some y → x ≡ y
 some_is e = cc
 
 -- what stands in a list once an item was written
@@ -148,11 +149,13 @@ module _ {Z : Type 0} (Are : Name → Kind → Type 0) (t : Table) (keys : Keys)
         (λ b. known_longer t old new other longer m (all.each j m other b told)) (set_found known k more j m at);
   }
 
-pub all_longer : (t : Table) (keys : Keys) (old new : List Node) → Longer old new → (known : Known) → AreAllKnown t keys old known → AreAllKnown t keys new known
+pub all_longer : (t : Table) (keys : Keys) (old new : List Node) → Longer old new → (known : Known) → AreAllKnown t keys old known
+    → AreAllKnown t keys new known
 all_longer t keys old new longer known all = record {
   texts = known_longer t old new kinds.Text longer known.texts all.texts;
   elements = by_key_longer IsElementKind t keys old new longer known.elements.items all.elements;
   attributes = by_key_longer IsAttributeKind t keys old new longer known.attributes.items all.attributes;
+  takers = all.takers;
 }
 
 -- ---- elements

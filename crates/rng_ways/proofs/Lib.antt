@@ -8,6 +8,7 @@ mod WaysOfLeaves
 mod Composing
 mod Weights
 pub mod KnownWays
+mod ElementTakers
 mod Bareness
 mod Closings
 pub mod Starts

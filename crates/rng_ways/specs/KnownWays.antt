@@ -10,6 +10,7 @@ use Rattle.rng_patterns.specs.Node.{Node}
 use Rattle.rng_patterns.specs.Trees.{tree_of}
 use Rattle.rng_patterns.specs.declared.pattern.PatternNumber.{PatternNumber}
 use Rattle.rng_patterns.specs.contracts.pattern.PatternNumberPartialEq.TheImpl as same
+use Rattle.rng_ways.specs.Takers.{AreAllTold}
 use Rattle.rng_ways.specs.Ways.{AreWaysOf}
 use Rattle.rng_ways.specs.declared.known.Known.{Known}
 use Rattle.rng_ways.specs.declared.way.Kind.{Kind}
@@ -42,7 +43,8 @@ IsAttributeKind q (kinds.Attribute r) = name_of r.now ≡ q
 IsAttributeKind q kinds.Text = ⊥
 
 -- so are all that are known for the names that stand for keys, where these are the kinds of a name
-pub record AreKnownByKey {Z : Type 0} (Are : Name → Kind → Type 0) (t : Table) (keys : Keys) (ns : List Node) (known : List (HashMap PatternNumber (SmallVec Way) Z)) : Type 0 where
+pub record AreKnownByKey {Z : Type 0} (Are : Name → Kind → Type 0) (t : Table) (keys : Keys) (ns : List Node)
+    (known : List (HashMap PatternNumber (SmallVec Way) Z)) : Type 0 where
   pub count : length known ≡ length keys.names
   pub each : (k : ℕ) (m : HashMap PatternNumber (SmallVec Way) Z) (kind : Kind) → slice_get known k ≡ Some m → Are (name_at keys k) kind
       → AreKnown t ns kind m
@@ -52,8 +54,9 @@ pub record AreNone {Z : Type 0} (keys : Keys) (known : List (HashMap PatternNumb
   pub count : length known ≡ length keys.names
   pub empty : (k : ℕ) (m : HashMap PatternNumber (SmallVec Way) Z) → slice_get known k ≡ Some m → IsEmpty m
 
--- and all that are known of strings, of elements and of attributes
+-- and all that are known of strings, of elements and of attributes, and the elements that may have a name
 pub record AreAllKnown (t : Table) (keys : Keys) (ns : List Node) (known : Known) : Type 0 where
   pub texts : AreKnown t ns kinds.Text known.texts
   pub elements : AreKnownByKey IsElementKind t keys ns known.elements.items
   pub attributes : AreKnownByKey IsAttributeKind t keys ns known.attributes.items
+  pub takers : AreAllTold t keys known.takers

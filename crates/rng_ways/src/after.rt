@@ -27,7 +27,7 @@ use crate::ways::ways;
 use rng_keys::NameKeys;
 use rng_model::{Attr, Name, OutOfMemory, PatternId, Simple, SimpleGrammar, split_blanks};
 use rng_names::contains;
-use rng_patterns::{Pattern, PatternNumber, PatternTable};
+use rng_patterns::{Elements, Pattern, PatternNumber, PatternTable};
 use std::alloc::Global;
 use std::collections::HashMap;
 
@@ -64,6 +64,7 @@ fn attribute_ways(
             grammar,
             table,
             &mut none,
+            Elements::Any,
             Kind::Attribute(name),
             number,
         );
@@ -73,6 +74,7 @@ fn attribute_ways(
         grammar,
         table,
         &mut known[key.0],
+        Elements::Any,
         Kind::Attribute(name),
         number,
     )
@@ -95,7 +97,15 @@ fn ways_for(
     ensures ways { IfOk result (λ ws. AreWaysFor grammar.now table.new first.entry (tree_of grammar.now table.old number.0) ws.items) }
 {
     match first {
-        First::Text(_, _) => ways(alloc, grammar, table, &mut known.texts, Kind::Text, number),
+        First::Text(_, _) => ways(
+            alloc,
+            grammar,
+            table,
+            &mut known.texts,
+            Elements::Any,
+            Kind::Text,
+            number,
+        ),
         First::Attribute(attr) => attribute_ways(
             alloc,
             grammar,

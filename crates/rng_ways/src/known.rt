@@ -1,16 +1,16 @@
 // Ways that are known of patterns.
 ghost use Rattle.std.specs.Prelude.{◌≡◌, ◌⊎◌, IfOk, IfSome, List, OnOk, length, true};
 ghost use Rattle.rng_keys.specs.Keys.{Keys};
-ghost use Rattle.rng_model.specs.Table.{Table};
 ghost use Rattle.rng_model.specs.View.{name_of};
 ghost use Rattle.rng_patterns.specs.Node.{Node};
 ghost use Rattle.rng_patterns.specs.declared.pattern.PatternNumber.{PatternNumber};
 ghost use Rattle.rng_ways.specs.KnownWays.{AreAllKnown, AreNone, HasKnown};
 ghost use Rattle.rng_ways.specs.declared.way.Way.{Way};
 
+use crate::takers::Takers;
 use crate::way::{Way, Ways};
 use rng_keys::NameKeys;
-use rng_model::{Name, OutOfMemory};
+use rng_model::{Name, OutOfMemory, SimpleGrammar};
 use rng_patterns::PatternNumber;
 use smallvec::SmallVec;
 use std::alloc::Global;
@@ -27,19 +27,24 @@ pub struct Known {
     pub(crate) elements: Vec<KnownWays>,
     /// Those of attributes of the name that stands for a key, by keys.
     pub(crate) attributes: Vec<KnownWays>,
+    /// The elements that may have a name, by its key.
+    pub(crate) takers: Takers,
 }
 
 impl Known {
-    /// Nothing is known, for a grammar with these keys of names. The error is want of memory.
-    pub fn new(alloc: Global, keys: &NameKeys) -> Result<Self, OutOfMemory>
-        ensures { IfOk result (λ known. (t : Table) (ns : List Node) → AreAllKnown t keys.now ns known) }
+    /// No ways are known, for a grammar with these keys of names. The error is want of memory. Costs a look-up for each element
+    /// whose name class is one name.
+    pub fn new(alloc: Global, grammar: &SimpleGrammar, keys: &NameKeys) -> Result<Self, OutOfMemory>
+        ensures { IfOk result (λ known. (ns : List Node) → AreAllKnown grammar.now keys.now ns known) }
     {
         let elements = none_known(alloc, keys)?;
         let attributes = none_known(alloc, keys)?;
+        let takers = Takers::new(alloc, grammar, keys)?;
         Ok(Known {
             texts: HashMap::new(alloc),
             elements,
             attributes,
+            takers,
         })
     }
 }

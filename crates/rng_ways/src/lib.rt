@@ -11,6 +11,7 @@ mod filling;
 mod known;
 mod leaves;
 mod starting;
+mod takers;
 mod texts;
 mod way;
 mod ways;

@@ -8,6 +8,7 @@ ghost use Rattle.rng_ways.specs.KnownWays.{AreAllKnown, AreKnownByKey, IsElement
 ghost use Rattle.rng_ways.specs.declared.way.Kind.{Kind};
 ghost use Rattle.rng_ways.specs.Ways.{AreInside, AreWaysOf};
 ghost use Rattle.rng_ways.specs.Starting.{AreBodies, AreStarts, IsBodyOf, IsReady};
+ghost use Rattle.rng_ways.specs.Takers.{AreOfKey};
 
 use crate::known::{Known, KnownWays};
 use crate::leaves::element_takes;
@@ -15,7 +16,7 @@ use crate::way::{Kind, Way, Ways};
 use crate::ways::ways;
 use rng_keys::{NameKey, NameKeys};
 use rng_model::{Name, OutOfMemory, PatternId, SimpleGrammar};
-use rng_patterns::{Pattern, PatternNumber, PatternTable};
+use rng_patterns::{Elements, Pattern, PatternNumber, PatternTable};
 use smallvec::SmallVec;
 use std::alloc::Global;
 
@@ -39,15 +40,18 @@ pub fn start(
     requires known { AreAllKnown grammar.now keys.now table.old known.old }
     ensures longer { OnOk result (Longer table.old table.new) }
     ensures known { OnOk result (AreAllKnown grammar.now keys.now table.new known.new) }
-    ensures starts { IfOk result (λ ws. AreStarts grammar.now table.new numbers.now (tree_of grammar.now table.old number.0) (name_at keys.now key.0) ws.items) }
+    ensures starts { IfOk result (λ ws. AreStarts grammar.now table.new numbers.now (tree_of grammar.now table.old number.0)
+        (name_at keys.now key.0) ws.items) }
 {
     let name = keys.name(key);
+    let takers = known.takers.of(key);
     let ways = element_ways(
         alloc,
         grammar,
         keys,
         table,
         &mut known.elements,
+        takers,
         key,
         number,
     )?;
@@ -63,12 +67,14 @@ fn element_ways(
     keys: &NameKeys,
     table: &mut PatternTable,
     known: &mut Vec<KnownWays>,
+    takers: Elements,
     key: NameKey,
     number: PatternNumber,
 ) -> Result<Ways, OutOfMemory>
     requires inside { number.0 < length table.old }
     requires key { key.0 < length keys.now.names }
     requires known { AreKnownByKey IsElementKind grammar.now keys.now table.old known.old.items }
+    requires takers { AreOfKey grammar.now keys.now key.0 takers }
     ensures longer { OnOk result (Longer table.old table.new) }
     ensures known { OnOk result (AreKnownByKey IsElementKind grammar.now keys.now table.new known.new.items) }
     ensures ways { IfOk result (λ ws. (kind : Kind) × IsElementKind (name_at keys.now key.0) kind
@@ -80,6 +86,7 @@ fn element_ways(
         grammar,
         table,
         &mut known[key.0],
+        takers,
         Kind::Element(name),
         number,
     )

@@ -1,4 +1,4 @@
-use Rattle.std.proofs.Common.{◌≡◌, ◌∙◌, sym, arith}
+use Rattle.std.proofs.Common.{◌∙◌, sym}
 use Rattle.std.proofs.lemmas.Option.{slice_get_read}
 use Rattle.rng_patterns.proofs.Choices.{if_ok}
 use Rattle.rng_ways.specs.KnownWays.{IsAttributeKind}

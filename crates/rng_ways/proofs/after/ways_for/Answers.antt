@@ -31,6 +31,7 @@ returns-in-Text-clause-known c =
           c.requires.known.elements;
       attributes = by_key_longer IsAttributeKind c.args.grammar.now c.args.keys.now c.args.table.now c.ways.new.table h.0
           c.args.known.now.attributes.items c.requires.known.attributes;
+      takers = c.requires.known.takers;
     }) (both_ok c.ways.result _ _ c.ways.ensures.longer c.ways.ensures.known)
 
 pub returns-in-Attribute-clause-known : goal.returns-in-Attribute-clause-known
@@ -40,4 +41,5 @@ returns-in-Attribute-clause-known c =
       elements = by_key_longer IsElementKind c.args.grammar.now c.args.keys.now c.args.table.now c.attribute_ways.new.table h.0
           c.args.known.now.elements.items c.requires.known.elements;
       attributes = h.1;
+      takers = c.requires.known.takers;
     }) (both_ok c.attribute_ways.result _ _ c.attribute_ways.ensures.longer c.attribute_ways.ensures.known)

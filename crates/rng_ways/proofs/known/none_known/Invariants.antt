@@ -1,8 +1,5 @@
 use Rattle.std.proofs.Common.{◌≡◌, ℕ, length, slice_get, Some}
-use Rattle.std.specs.HashMap.{HashMap, IsEmpty}
-use Rattle.smallvec.specs.SmallVec.{SmallVec}
-use Rattle.rng_patterns.specs.declared.pattern.PatternNumber.{PatternNumber}
-use Rattle.rng_ways.specs.declared.way.Way.{Way}
+use Rattle.std.specs.HashMap.{IsEmpty}
 use Rattle.rng_ways.proofs.known.none_known.Given as goal
 
 abbrev pub invariant-keys : goal.invariant-keys

@@ -1,10 +1,12 @@
-use Rattle.std.proofs.Common.{◌≡◌, sym}
+use Rattle.std.proofs.Common.{refl, sym}
 use Rattle.std.proofs.lemmas.Option.{slice_get_read}
+use Rattle.rng_model.specs.View.{name_of}
 use Rattle.rng_patterns.proofs.Choices.{if_ok}
 use Rattle.rng_ways.specs.KnownWays.{IsElementKind}
 use Rattle.rng_ways.specs.declared.way.Kind.TheVariants as kinds
 use Rattle.rng_ways.proofs.Closings.{both_ok}
 use Rattle.rng_ways.proofs.KnownWays.{by_key_changed, same_elements}
+use Rattle.rng_ways.proofs.ElementTakers.{element_takers}
 use Rattle.rng_ways.proofs.starting.element_ways.Goals as goal
 
 pub ways-requires-clause-known : goal.ways-requires-clause-known
@@ -12,6 +14,11 @@ ways-requires-clause-known c =
     let count = c.requires.known.count in
     c.requires.known.each c.args.key.0 c.index_mut.result.now (kinds.Element c.name-name.result)
     (slice_get_read c.args.known.now.items _ c.args.key.0 c.index_mut.result.now (sym count) c.requires.key c.index_mut.ensures.value) c.name-name.ensures.name
+
+pub ways-requires-clause-takers : goal.ways-requires-clause-takers
+ways-requires-clause-takers c =
+    element_takers c.args.grammar.now c.args.keys.now c.args.key.0 (name_of c.name-name.result.now) c.name-name.ensures.own
+    (kinds.Element c.name-name.result) c.args.takers refl c.requires.takers
 
 pub returns-clause-known : goal.returns-clause-known
 returns-clause-known c =

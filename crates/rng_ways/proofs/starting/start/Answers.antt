@@ -2,6 +2,7 @@ use Rattle.std.proofs.Common.{List, sym, subst}
 use Rattle.rng_keys.specs.Keys.{name_at}
 use Rattle.rng_patterns.specs.Trees.{tree_of}
 use Rattle.rng_ways.specs.Starting.{AreBodies}
+use Rattle.rng_ways.specs.Takers.{IsTold}
 use Rattle.rng_ways.specs.Ways.{AreInside}
 use Rattle.rng_ways.specs.KnownWays.{IsAttributeKind}
 use Rattle.rng_ways.specs.declared.way.Kind.TheVariants as kinds
@@ -10,6 +11,10 @@ use Rattle.rng_ways.specs.declared.way.Way as numbered
 use Rattle.rng_ways.proofs.KnownWays.{by_key_longer, element_kept, element_law, known_longer}
 use Rattle.rng_ways.proofs.Starts.{ready_longer, starts_made}
 use Rattle.rng_ways.proofs.starting.start.Goals as goal
+
+pub element_ways-requires-clause-takers : goal.element_ways-requires-clause-takers
+element_ways-requires-clause-takers c = λ e q is named.
+    c.of-takers.ensures e (subst (λ k. IsTold c.args.known.now.takers k e) is (c.requires.known.takers e q named))
 
 pub add_starts-requires : goal.add_starts-requires
 add_starts-requires c = record {
@@ -25,7 +30,8 @@ returns-clause-starts c =
     let p = tree_of t c.args.table.now c.args.number.0 in
     let q = name_at c.args.keys.now c.args.key.0 in
     let told = c.in_ok-ways.ensures.ways in
-    starts_made t new c.args.numbers.now p q c.in_ok-ways.ways.items c.add_starts.new.starts.items (element_law t new q p c.in_ok-ways.ways.items told.0 told.1 told.2)
+    starts_made t new c.args.numbers.now p q c.in_ok-ways.ways.items c.add_starts.new.starts.items
+    (element_law t new q p c.in_ok-ways.ways.items told.0 told.1 told.2)
     (λ o. element_kept t new q p c.in_ok-ways.ways.items told.0 told.1 told.2 places.Content o)
     (subst (λ (ws : List numbered.Way). AreBodies t new c.args.numbers.now q ws c.add_starts.new.starts.items)
     c.as_slice.ensures (subst (λ q. AreBodies t new c.args.numbers.now q c.as_slice.result.now c.add_starts.new.starts.items) c.name-name.ensures.name
@@ -41,4 +47,5 @@ returns-clause-known c =
       elements = c.in_ok-ways.ensures.known;
       attributes = by_key_longer IsAttributeKind t c.args.keys.now old new c.in_ok-ways.ensures.longer c.args.known.now.attributes.items
           c.requires.known.attributes;
+      takers = c.requires.known.takers;
     }

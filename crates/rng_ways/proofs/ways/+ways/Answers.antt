@@ -21,6 +21,7 @@ use Rattle.rng_ways.proofs.Composing.{map_numbers, no_order_between, over_same, 
 use Rattle.rng_ways.proofs.Kept.{Obeys-hereditary, choice_has}
 use Rattle.rng_ways.proofs.KnownWays.{known_longer, known_more, those_known}
 use Rattle.rng_ways.proofs.Nodes.{is_over, other_single, parts_there, single_alone}
+use Rattle.rng_ways.proofs.ElementTakers.{idle_ways}
 use Rattle.rng_ways.proofs.Weights.{member_less, opened_less, right_less}
 use Rattle.rng_ways.proofs.ways.+ways.Goals as goal
 
@@ -45,7 +46,8 @@ new_ways-ways_of_choice-requires t c =
     let one = below.1 k dm.0 (omega (arith, long, h)) in
     let at = get_or-map (λ (m : PatternNumber). m.0) ms k dm in
     omega (arith, one, at, inside) in
-    (omega (arith, w, v, d), (subst Inside (sym e) member, (subst (λ (ms : List PatternNumber). 2 ≤ length ms) (sym e) two_members, c.requires.known)))
+    let two_there = subst (λ (ms : List PatternNumber). 2 ≤ length ms) (sym e) two_members in
+    (omega (arith, w, v, d), (subst Inside (sym e) member, (two_there, (c.requires.known, c.requires.takers))))
 
 pub new_ways-ways_of_group-requires : goal.new_ways-ways_of_group-requires
 new_ways-ways_of_group-requires t c =
@@ -56,7 +58,7 @@ new_ways-ways_of_group-requires t c =
     let second = below.1 in
     let d = c.decreases in
     let inside = c.requires.inside in
-    (omega (arith, w, d), (omega (arith, first, inside), (omega (arith, second, inside), c.requires.known)))
+    (omega (arith, w, d), (omega (arith, first, inside), (omega (arith, second, inside), (c.requires.known, c.requires.takers))))
 
 pub new_ways-ways_of_both-requires : goal.new_ways-ways_of_both-requires
 new_ways-ways_of_both-requires t c =
@@ -66,8 +68,10 @@ new_ways-ways_of_both-requires t c =
     let first = below.0 in
     let second = below.1 in
     let d = c.decreases in
-    let inside = c.requires.inside in
-    (omega (arith, w, d), (no_order_between c.args.kind, (omega (arith, first, inside), (omega (arith, second, inside), c.requires.known))))
+    let inside = c.requires.inside in (
+      omega (arith, w, d),
+      (no_order_between c.args.kind, (omega (arith, first, inside), (omega (arith, second, inside), (c.requires.known, c.requires.takers)))),
+    )
 
 pub new_ways-ways_of_copies-requires : goal.new_ways-ways_of_copies-requires
 new_ways-ways_of_copies-requires t c =
@@ -83,7 +87,7 @@ new_ways-ways_of_copies-requires t c =
           (
             is_over t0 c.args.table.now c.args.number.0 c.pattern.result.now _ c.pattern.ensures.table
                 c.pattern.ensures.found c.in-OneOrMore.is,
-            c.requires.known,
+            (c.requires.known, c.requires.takers),
           ),
         ),
       ),
@@ -126,7 +130,7 @@ ways_of_both-ways-requires-2 t c =
     let d = c.decreases in
     let inside = c.requires.second in
     let long = Longer-length c.args.table.now c.ways.new.table c.in_ok-firsts.ensures.longer in
-    (omega (arith, stays, less, d), (omega (arith, inside, long), c.in_ok-firsts.ensures.known))
+    (omega (arith, stays, less, d), (omega (arith, inside, long), (c.in_ok-firsts.ensures.known, c.requires.takers)))
 
 pub ways_of_both-returns-clause-ways : goal.ways_of_both-returns-clause-ways
 ways_of_both-returns-clause-ways t c =
@@ -177,7 +181,10 @@ item_ways_of_group-ways-requires-2 t c =
       omega (arith, stays, less, d),
       (
         omega (arith, inside, long),
-        known_longer t0 c.ways.new.table c.add_filled.new.table c.args.kind c.in_ok-add_filled.ensures.longer c.ways.new.known c.in_ok-firsts.ensures.known,
+        (
+          known_longer t0 c.ways.new.table c.add_filled.new.table c.args.kind c.in_ok-add_filled.ensures.longer c.ways.new.known c.in_ok-firsts.ensures.known,
+          c.requires.takers,
+        ),
       ),
     )
 
@@ -219,7 +226,7 @@ ways_of_choice-ways-requires t c =
     let less = member_less (tree_of t0 n0) (map (λ (m : PatternNumber). m.0) ms) i 0 (omega (arith, long, within)) (omega (arith, long, two)) in
     let more = Longer-length n0 c.members.table c.members.invariant.longer in
     let d = c.decreases in
-    (omega (arith, stays, at, less, d), (omega (arith, inside, more), c.members.invariant.known))
+    (omega (arith, stays, at, less, d), (omega (arith, inside, more), (c.members.invariant.known, c.requires.takers)))
 
 pub ways_of_choice-members-preserved : goal.ways_of_choice-members-preserved
 ways_of_choice-members-preserved t c =
@@ -311,7 +318,10 @@ ways_of_group-ways-requires t c =
       omega (arith, w, v, less, d),
       (
         c.in_ok-whole.ensures.tree.inside,
-        known_longer t0 n0 n2 c.args.kind (Longer-trans n0 n1 n2 c.in_ok-rest.ensures.longer c.in_ok-whole.ensures.longer) c.args.known.now c.requires.known,
+        (
+          known_longer t0 n0 n2 c.args.kind (Longer-trans n0 n1 n2 c.in_ok-rest.ensures.longer c.in_ok-whole.ensures.longer) c.args.known.now c.requires.known,
+          c.requires.takers,
+        ),
       ),
     )
 
@@ -378,6 +388,13 @@ ways-returns-clause-known t c =
     (those_known t0 n0 n1 c.args.kind c.in_ok-ways.ensures.longer c.args.number ws c.requires.inside
     (subst (AreWaysOf t0 n1 c.args.kind (tree_of t0 n0 c.args.number.0)) (sym c.as_slice.ensures) c.in_ok-ways.ensures.ways))
     c.in_ok-keep.ensures
+
+pub ways-returns-then-is_idle-clause-ways : goal.ways-returns-then-is_idle-clause-ways
+ways-returns-then-is_idle-clause-ways t c =
+    let t0 = c.args.grammar.now in
+    let p = tree_of t0 c.args.table.now c.args.number.0 in
+    subst (AreWaysOf t0 c.args.table.now c.args.kind p) (sym c.new.ensures.items)
+    (idle_ways t0 c.args.table.now p c.args.kind c.args.takers c.requires.takers (c.is_idle.ensures c.if-is_idle.true t0))
 
 pub new_ways-returns-in_default : goal.new_ways-returns-in_default
 new_ways-returns-in_default t c = record {

@@ -18,7 +18,7 @@ invariant_of-self-2 c =
           (subst (λ (ms : List PatternNumber). AreSameTrees t old new ms numbers) c.as_slice.ensures.value (c.in_ok-table.ensures.numbers t)) served.0,
       served.1,
       (λ k ws h. absurd (none_kept c.new-2.result c.new-2.ensures.empty k ws h)),
-      c.in_ok-self-inside.ensures t new,
+      c.in_ok-self-inside.ensures new,
     )
 
 pub returns-clause-kept : goal.returns-clause-kept

@@ -91,4 +91,4 @@ start-requires-clause-known c =
     let t = d.grammar.now in
     let old = c.in-Some.table in
     let there = sym c.in-Some.ensures.value in
-    c.in_ok-count_start.ensures t old (there_served t d.keys d.table old d.numbers.items d.memo d.known there c.self.invariant).3
+    c.in_ok-count_start.ensures old (there_served t d.keys d.table old d.numbers.items d.memo d.known there c.self.invariant).3

@@ -4,8 +4,10 @@ use Rattle.rng_ways.proofs.KnownWays.{none_by_key, none_known}
 use Rattle.rng_ways.proofs.known.Known.new.Goals as goal
 
 pub returns : goal.returns
-returns c = λ t ns. record {
-  texts = none_known t ns kinds.Text c.new.result c.new.ensures.empty;
-  elements = none_by_key IsElementKind t c.args.keys.now ns c.in_ok-elements.elements.items c.in_ok-elements.ensures;
-  attributes = none_by_key IsAttributeKind t c.args.keys.now ns c.in_ok-attributes.attributes.items c.in_ok-attributes.ensures;
-}
+returns c =
+    let t = c.args.grammar.now in λ ns. record {
+      texts = none_known t ns kinds.Text c.new-2.result c.new-2.ensures.empty;
+      elements = none_by_key IsElementKind t c.args.keys.now ns c.in_ok-elements.elements.items c.in_ok-elements.ensures;
+      attributes = none_by_key IsAttributeKind t c.args.keys.now ns c.in_ok-attributes.attributes.items c.in_ok-attributes.ensures;
+      takers = c.in_ok-takers.ensures;
+    }

@@ -1,0 +1,24 @@
+use Rattle.std.proofs.Common.{◌≡◌, ◌∙◌, List, slice_set, ap, subst, sym, true}
+use Rattle.rng_keys.specs.Keys.{key_of}
+use Rattle.rng_model.specs.View.{name_of}
+use Rattle.rng_names.specs.Holding.{holds}
+use Rattle.rng_names.proofs.Holding.{same_name-Decides}
+use Rattle.rng_names.proofs.Views.{name_class_is}
+use Rattle.rng_patterns.specs.Facts.{joined_elements, one_element}
+use Rattle.rng_patterns.specs.declared.pattern.Elements.{Elements}
+use Rattle.rng_ways.proofs.ElementTakers.{Tells, named_told}
+use Rattle.rng_ways.proofs.takers.Takers.add.Goals as goal
+
+pub returns-in-Name-clause-told : goal.returns-in-Name-clause-told
+returns-in-Name-clause-told c = λ q held.
+    let all : List Elements = c.args.self.now.by_key.items in
+    let others : Elements = c.args.self.now.others in
+    let key = c.key-key.result.0 in
+    let e = c.args.number in
+    let view = name_class_is c.args.class.now c.in-Name.name c.in-Name.is in
+    let same = (same_name-Decides (name_of c.in-Name.name) q).0 (subst (λ class. holds class q ≡ true) view held) in
+    let own : key_of c.args.keys.now q ≡ key = ap (key_of c.args.keys.now) same ∙ sym c.key-key.ensures.key in
+    let wider : c.joined-wider.result ≡ joined_elements c.index.result.now (one_element e) =
+    c.joined-wider.ensures ∙ ap (joined_elements c.index.result.now) c.one-own.ensures in
+    subst (λ k. Tells (slice_set all key c.joined-wider.result) others k e) (sym own)
+    (subst (λ m. Tells (slice_set all key m) others key e) (sym wider) (named_told all others key c.index.result.now e))
