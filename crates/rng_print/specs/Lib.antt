@@ -8,3 +8,4 @@ pub mod Parts
 pub mod Items
 pub mod Lines
 pub mod SchemaText
+pub mod Printing

@@ -15,4 +15,4 @@ mod prefixes;
 mod printing;
 
 pub use laws::printing_laws;
-pub use printing::printed_text;
+pub use printing::{PrintFault, print, printed_text};

@@ -1,14 +1,27 @@
-// The printed text of a simple grammar.
-ghost use Rattle.std.specs.Prelude.{IfOk};
+// The printed text of a simple grammar, made and written.
+ghost use Rattle.std.specs.Prelude.{◌≡◌, ◌-◌, ◌^◌, ◌<◌, IfOk, OnOk, IsErrOf};
+ghost use Rattle.rng_model.specs.Device.{device_inner, device_failures, device_taken};
 ghost use Rattle.rng_model.specs.Table.{grammar_of};
 ghost use Rattle.rng_print.specs.PrintedText.{IsPrinted};
 ghost use Rattle.rng_print.specs.Items.{AreToldApart};
+ghost use Rattle.rng_print.specs.Printing.{AppendsPrinted, AppendsPrintedBeginning};
 
 use crate::items::Items;
 use crate::lines::Lines;
 use crate::prefixes::Prefixes;
-use rng_model::{OutOfMemory, SimpleGrammar};
+use rng_model::{Device, OutOfMemory, SimpleGrammar};
+use rng_output::write_whole;
 use std::alloc::Global;
+use std::io::Write;
+
+/// Why a grammar was not printed.
+#[derive(Clone, Copy, Debug, PartialEq, Eq)]
+pub enum PrintFault {
+    /// A write failed, and the device counted it.
+    Write,
+    /// There was no memory for the text.
+    Memory,
+}
 
 /// The text of a grammar in which equal patterns have one number: a schema in the compact syntax that has this simple form.
 ///
@@ -34,4 +47,37 @@ pub fn printed_text(alloc: Global, grammar: &SimpleGrammar) -> Result<Vec<u8>, O
     lines.write_start(&mut text)?;
     lines.write_items(&mut text)?;
     Ok(text)
+}
+
+/// Prints a grammar in which equal patterns have one number: writes its text, which `printed_text` says, to a device.
+///
+/// The text is made whole before its first byte is written. So after `PrintFault::Memory` the device is as it was, and after
+/// `PrintFault::Write`, which comes only where the device counted a failed call, a beginning of the text was written. Nothing
+/// is flushed. Takes what `printed_text` takes, and no more calls of the writer than the text has bytes.
+pub fn print<W: Write>(
+    alloc: Global,
+    grammar: &SimpleGrammar,
+    output: &mut Device<W>,
+) -> Result<(), PrintFault>
+    requires apart { AreToldApart grammar.now }
+    requires output { device_failures output.old < 2 ^ 64 - 1 }
+
+    // Where it answers, no call failed, and the text is all that was written.
+    ensures calm { OnOk result (device_failures output.new ≡ device_failures output.old) }
+    ensures printed { OnOk result (AppendsPrinted (grammar_of grammar.now) (W.contents (device_inner output.old)) (W.contents (device_inner output.new))) }
+
+    // A fault of the device is answered only where it counted one.
+    ensures write { IsErrOf result PrintFault.Write → device_failures output.old < device_failures output.new }
+    ensures beginning { IsErrOf result PrintFault.Write →
+        AppendsPrintedBeginning (grammar_of grammar.now) (W.contents (device_inner output.old)) (W.contents (device_inner output.new)) }
+    ensures memory { IsErrOf result PrintFault.Memory → output.new ≡ output.old }
+    ensures taken { device_taken output.new ≡ device_taken output.old }
+{
+    let Ok(text) = printed_text(alloc, grammar) else {
+        return Err(PrintFault::Memory);
+    };
+    if write_whole(output, text.as_slice()).is_err() {
+        return Err(PrintFault::Write);
+    }
+    Ok(())
 }

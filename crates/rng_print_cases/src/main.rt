@@ -3,20 +3,25 @@
 //!
 //! A row has what is asked for, and files: the name of each, a text, and how often the text stands in it. Texts of one name
 //! stand behind one another. In each of them `^` is its number, from 0, and `^+` the next one. The first file is the main one.
-//! Asked for is `text`, the whole text; `end`, how many lines it has, and the last; or `again`, no more than whether it is
-//! printed as itself again.
+//! Asked for is `text`, the whole text; `end`, how many lines it has, and the last; `again`, no more than whether it is
+//! printed as itself again; or `written`, what comes of printing the grammar to writers, and nothing else.
 #![tactic(auto)]
 
+ghost use Rattle.std.specs.Prelude.{IfOk};
+ghost use Rattle.rng_print.specs.Items.{AreToldApart};
+
 mod files;
+mod writers;
 
 use case_rows::{Row, rows};
 use files::files_of;
 use rng_load::load;
-use rng_model::SchemaFault;
+use rng_model::{SchemaFault, SimpleGrammar};
 use rng_print::printed_text;
 use rng_simple::simplify_schema;
 use std::alloc::Global;
 use std::io;
+use writers::print_to_writers;
 
 fn main(rt: HostRuntime) -> io::Result<()> {
     for row in rows(&rt, "cases.txt")? {
@@ -28,9 +33,34 @@ fn main(rt: HostRuntime) -> io::Result<()> {
 /// Prints what is asked for of the text of a row's files.
 fn print_case(rt: &(impl Print + AllocGlobal), row: &Row) -> io::Result<()> {
     let files = files_of(rt.alloc(), row)?;
-    match text_of_files(rt.alloc(), files.as_slice(), row.text(1)?) {
+    match row.text(0)? {
+        "written" => print_written(rt, files.as_slice(), row.text(1)?),
+        asked => print_asked(rt, asked, files.as_slice(), row.text(1)?),
+    }
+}
+
+/// Prints what comes of printing the simple grammar of files to writers.
+fn print_written(
+    rt: &(impl Print + AllocGlobal),
+    files: &[(String, Vec<u8>)],
+    main: &str,
+) -> io::Result<()> {
+    match grammar_of_files(rt.alloc(), files, main) {
+        Ok(grammar) => print_to_writers(rt, &grammar),
+        Err(fault) => print_fault(rt, fault),
+    }
+}
+
+/// Prints what is asked for of the text of files, and whether that text is printed as itself again.
+fn print_asked(
+    rt: &(impl Print + AllocGlobal),
+    asked: &str,
+    files: &[(String, Vec<u8>)],
+    main: &str,
+) -> io::Result<()> {
+    match text_of_files(rt.alloc(), files, main) {
         Ok(text) => {
-            print_text(rt, row.text(0)?, text.as_str())?;
+            print_text(rt, asked, text.as_str())?;
             print_again(rt, text.as_str())
         }
         Err(fault) => print_fault(rt, fault),
@@ -76,8 +106,19 @@ fn text_of_files(
     files: &[(String, Vec<u8>)],
     main: &str,
 ) -> Result<String, SchemaFault> {
-    let schema = load(alloc, files, main)?;
-    let grammar = simplify_schema(alloc, &schema)?;
+    let grammar = grammar_of_files(alloc, files, main)?;
     let bytes = printed_text(alloc, &grammar).map_err(|_| SchemaFault::Memory)?;
     String::from_utf8(bytes).map_err(|_| SchemaFault::Memory)
+}
+
+/// The simple grammar of the schema that files make.
+fn grammar_of_files(
+    alloc: Global,
+    files: &[(String, Vec<u8>)],
+    main: &str,
+) -> Result<SimpleGrammar, SchemaFault>
+    ensures { IfOk result (λ grammar. AreToldApart grammar) }
+{
+    let schema = load(alloc, files, main)?;
+    simplify_schema(alloc, &schema)
 }

@@ -1,5 +1,5 @@
 -- What a run answers, and what it leaves behind.
-use Rattle.std.specs.Prelude.{◌≡◌, ℕ, List, [], ◌∷◌, All, take, Option, string_bytes}
+use Rattle.std.specs.Prelude.{◌≡◌, ℕ, List, [], ◌∷◌, All, Option, string_bytes}
 use Rattle.std.specs.Io.KnownBytes.{Appends, Keeps}
 use Rattle.rng_model.specs.Names.{In, Name}
 use Rattle.rng_model.specs.Schema.{Schema}
@@ -10,6 +10,7 @@ use Rattle.rng_run.specs.Answer.{Answer, refused, refused_file, schema_ok, print
 use Rattle.rng_load.specs.Loading.{FilesVerdict, file_breaks, together_break, are_taken, IsTheFilesVerdict}
 use Rattle.rng_load.specs.LoadedSchema.{AreSchema}
 use Rattle.rng_load.specs.SchemaFile.{NamedFile}
+use Rattle.rng_output.specs.Written.{AppendsBeginning}
 use Rattle.rng_print.specs.SchemaText.{IsPrintedForm}
 use Rattle.rng_run.specs.Verdict.{IsJudgedBy}
 use Rattle.rng_run.specs.declared.answer.Status.{Status}
@@ -75,10 +76,6 @@ pub record WritesAnswer (answers : Answer → Type 0) (status : Status) (old new
   pub is : answers answer
   pub status_is : status ≡ status_of answer
   pub output : Appends old new (output_of answer)
-
--- the known bytes grow by a beginning of these
-abbrev pub AppendsBeginning : Option (List ℕ) → Option (List ℕ) → List ℕ → Type 0
-AppendsBeginning old new bytes = (n : ℕ) × Appends old new (take n bytes)
 
 -- a beginning of the answer is all that was written
 pub record WritesBeginning (answers : Answer → Type 0) (old new : Option (List ℕ)) : Type 0 where

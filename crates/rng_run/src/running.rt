@@ -12,9 +12,9 @@ ghost use Rattle.rng_run.specs.Run.{IsAnswer, IsAnswerBy, JudgesDocuments, Judge
 use crate::answer::{Answer, Status};
 use crate::compiling::{Compiled, compile};
 use crate::judging::{JudgeFault, document_verdict};
-use crate::streams::write_whole;
 use rng_load::{Schema, load};
 use rng_model::{Device, OutOfMemory, SchemaFault};
+use rng_output::write_whole;
 use std::alloc::Global;
 use std::io::{Read, Write};
 

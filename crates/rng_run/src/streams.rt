@@ -1,15 +1,13 @@
-// Taking a document from a device, and writing to one until all is written.
-ghost use Rattle.std.specs.Prelude.{◌≡◌, ◌+◌, ◌-◌, ◌^◌, ◌<◌, is_ok, IfErr, OnOk, OnErr, IsErrOf, if◌then◌else◌};
-ghost use Rattle.std.specs.Io.KnownBytes.{Appends};
+// Taking a document from a device.
+ghost use Rattle.std.specs.Prelude.{◌≡◌, ◌-◌, ◌^◌, ◌<◌, IfErr, OnOk, IsErrOf};
 ghost use Rattle.pyx.specs.View.{Hands};
 ghost use Rattle.rng_model.specs.Device.{device_inner, device_failures};
 ghost use Rattle.rng_run.specs.Documents.{IsFaultOfInput, IsTaken};
-ghost use Rattle.rng_run.specs.Run.{AppendsBeginning};
 
 use pyx::{PyxFault, Reader};
-use rng_model::{Device, DeviceFault, Events};
+use rng_model::{Device, Events};
 use std::alloc::Global;
-use std::io::{Read, Write};
+use std::io::Read;
 
 /// How many bytes are read at once, at most.
 const PIECE: usize = 32768;
@@ -55,18 +53,4 @@ pub fn take_document<R: Read, E: Events>(
         Ok(()) => Ok(()),
         Err(fault) => Err(DocumentFault::Pyx(fault)),
     }
-}
-
-/// Writes all of a slice, in as many calls as the writer takes.
-pub fn write_whole<W: Write>(output: &mut Device<W>, bytes: &[u8]) -> Result<(), DeviceFault>
-    requires { device_failures output.old < 2 ^ 64 - 1 }
-    ensures ok { OnOk result (Appends (W.contents (device_inner output.old)) (W.contents (device_inner output.new)) bytes.now) }
-    ensures err { OnErr result (AppendsBeginning (W.contents (device_inner output.old)) (W.contents (device_inner output.new)) bytes.now) }
-    ensures failures { device_failures output.new ≡ device_failures output.old + (if is_ok result then 0 else 1) }
-{
-    let mut at = 0;
-    'pieces: while at < bytes.len() {
-        at += output.write(&bytes[at..])?;
-    }
-    Ok(())
 }

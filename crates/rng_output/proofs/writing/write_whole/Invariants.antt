@@ -1,7 +1,7 @@
 use Rattle.std.proofs.Common.{◌≡◌, ◌≤◌, ◌-◌, length, take}
 use Rattle.std.specs.Io.KnownBytes.{Appends}
-use Rattle.rng_model.specs.Device.{device_inner, device_failures}
-use Rattle.rng_run.proofs.streams.write_whole.Given as goal
+use Rattle.rng_model.specs.Device.{device_inner, device_failures, device_taken}
+use Rattle.rng_output.proofs.writing.write_whole.Given as goal
 
 abbrev pub invariant-pieces : goal.invariant-pieces
 invariant-pieces g l =
@@ -9,6 +9,7 @@ invariant-pieces g l =
       within : l.at ≤ length l.bytes;
       written : Appends (contents (device_inner l.fn.output)) (contents (device_inner l.output)) (take l.at l.bytes);
       calm : device_failures l.output ≡ device_failures l.fn.output;
+      taken : device_taken l.output ≡ device_taken l.fn.output;
     }
 
 abbrev pub decreases-pieces : goal.decreases-pieces

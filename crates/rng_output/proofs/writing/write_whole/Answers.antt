@@ -3,7 +3,7 @@ use Rattle.std.proofs.Math.Seq.{take-add}
 use Rattle.std.proofs.lemmas.List.{take_all, length-drop}
 use Rattle.std.specs.Io.KnownBytes.{Appends}
 use Rattle.std.proofs.KnownBytes.{Appends-trans}
-use Rattle.rng_run.proofs.streams.write_whole.Goals as goal
+use Rattle.rng_output.proofs.writing.write_whole.Goals as goal
 
 -- `&xs[i..]` is what is left
 take-rest : (xs : List ℕ) (i : ℕ) → take (length xs - i) (drop i xs) ≡ drop i xs
@@ -19,4 +19,5 @@ pieces-preserved g c = record {
   within = search rules;
   written = Appends-more _ _ _ _ _ _ c.pieces.invariant.written c.in_ok-at.ensures.bytes;
   calm = search rules;
+  taken = search rules;
 }
