@@ -1,0 +1,5 @@
+pub mod FineTrees
+pub mod RenamedSteps
+pub mod Listed
+pub mod ItemNames
+pub mod LinesFound

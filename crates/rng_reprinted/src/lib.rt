@@ -1,0 +1,2 @@
+//! Test.
+#![tactic(auto)]
