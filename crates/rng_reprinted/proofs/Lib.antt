@@ -3,3 +3,8 @@ pub mod RenamedSteps
 pub mod Listed
 pub mod ItemNames
 pub mod LinesFound
+pub mod Flattened
+pub mod ClassParts
+pub mod SimpleDepths
+pub mod GoodGrammars
+pub mod LineTrees
