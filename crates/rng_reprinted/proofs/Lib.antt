@@ -8,3 +8,5 @@ pub mod ClassParts
 pub mod SimpleDepths
 pub mod GoodGrammars
 pub mod LineTrees
+pub mod LinesForm
+pub mod LinesGrammar

@@ -40,7 +40,7 @@ not_again w xs x n a =
     let last = has_right same_item item_exact item_itself w (x ∷ []) x (or_first (same_item x x) false (item_itself x)) in
     false_true (sym (new_among (w ++ x ∷ []) xs x n a) ∙ last)
 
-in_rest : (i j : Item) (js : List Item) → same_item i j ≡ false → Among i (j ∷ js) → Among i js
+pub in_rest : (i j : Item) (js : List Item) → same_item i j ≡ false → Among i (j ∷ js) → Among i js
 in_rest i j js e here = absurd (false_true (sym e ∙ item_itself i))
 in_rest i j js e (there b) = b
 
