@@ -10,3 +10,4 @@ pub mod GoodGrammars
 pub mod LineTrees
 pub mod LinesForm
 pub mod LinesGrammar
+pub mod LinesWritten

@@ -18,7 +18,7 @@ use Rattle.rng_reprinted.proofs.Flattened.{with_flattened}
 use Rattle.rng_reprinted.proofs.LinesFound.{line_number, item_found, start_found}
 use Rattle.rng_reprinted.proofs.GoodGrammars.{IsGoodTree}
 
-plain_datatype : (d : Datatype) → d.parameters ≡ [] → without_parameters d.library d.name ≡ d
+pub plain_datatype : (d : Datatype) → d.parameters ≡ [] → without_parameters d.library d.name ≡ d
 plain_datatype d e = ap (λ ps. record { library = d.library; name = d.name; parameters = ps }) (sym e)
 
 module _ (g : Grammar) (items : List Item) where

@@ -24,7 +24,7 @@ false_by : (b : Bool) → (b ≡ true → ⊥) → b ≡ false
 false_by true n = absurd (n refl)
 false_by false n = refl
 
-abbrev AreItemsNew : List Item → List Item → Type 0
+abbrev pub AreItemsNew : List Item → List Item → Type 0
 AreItemsNew = AreNew same_item item_exact item_itself
 
 -- what is new behind others is none of them
@@ -35,7 +35,7 @@ new_among w (x ∷ xs) i n (there a) =
     let later = new_among (w ++ x ∷ []) xs i n.1 a in
     false_by (has same_item w i) (λ e. false_true (sym later ∙ has_left same_item item_exact item_itself w (x ∷ []) i e))
 
-not_again : (w xs : List Item) (x : Item) → AreItemsNew (w ++ x ∷ []) xs → Among x xs → ⊥
+pub not_again : (w xs : List Item) (x : Item) → AreItemsNew (w ++ x ∷ []) xs → Among x xs → ⊥
 not_again w xs x n a =
     let last = has_right same_item item_exact item_itself w (x ∷ []) x (or_first (same_item x x) false (item_itself x)) in
     false_true (sym (new_among (w ++ x ∷ []) xs x n a) ∙ last)
