@@ -11,3 +11,4 @@ pub mod LineTrees
 pub mod LinesForm
 pub mod LinesGrammar
 pub mod LinesWritten
+pub mod LinesKept

@@ -99,7 +99,7 @@ module _ (g : Grammar) (items : List Item) where
     placed_back a h = renamed_twice (number_at items) (leaf_at g items) a ∙ renamed_itself (λ k. number_at items (leaf_at g items k)) a (λ k i. number_back k (h k i))
 
     -- no rule of simplification applies in the tree with its elements where their lines have them
-    placed_last : (a : Simple ℕ) → IsLastSimple a → ((k : ℕ) → LeafIn k (as_tree a) → Among (element k) items) → (x : RuleGroup) (b : Tree Leaf)
+    pub placed_last : (a : Simple ℕ) → IsLastSimple a → ((k : ℕ) → LeafIn k (as_tree a) → Among (element k) items) → (x : RuleGroup) (b : Tree Leaf)
         → Step x (as_tree (placed g items a)) b → ⊥
     placed_last a last h x b st =
         let back : renamed (number_at items) (as_tree (placed g items a)) ≡ as_tree a =
@@ -123,10 +123,10 @@ module _ (s r : Schema) (g : Grammar) (items : List Item) (good : IsGoodGrammar 
   abbrev n : ℕ
   n = length g.elements
 
-  start_leaf : (k : ℕ) → LeafIn k (as_tree g.start) → Among (element k) items
+  pub start_leaf : (k : ℕ) → LeafIn k (as_tree g.start) → Among (element k) items
   start_leaf k i = leaf_among g items numbered g.start k (start_among g items numbered) i
 
-  body_leaf : (m : ℕ) → Among (element m) items → (k : ℕ) → LeafIn k (as_tree (element_at g m).1) → Among (element k) items
+  pub body_leaf : (m : ℕ) → Among (element m) items → (k : ℕ) → LeafIn k (as_tree (element_at g m).1) → Among (element k) items
   body_leaf m a k i = leaf_among g items numbered (element_at g m).1 k (line_among g items numbered (element m) a) i
 
   pub start_is_tree : IsTreeOf r (main_start r) (line_tree_of g items g.start)
