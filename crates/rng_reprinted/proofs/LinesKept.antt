@@ -22,7 +22,8 @@ use Rattle.rng_graph.proofs.SimpleClass.{is_only_simple_class}
 use Rattle.rng_simple.proofs.NumberedSchema.{one_of_definition, same_class, only_simple_grammar}
 use Rattle.rng_simple.proofs.Renamed.{origin}
 use Rattle.rng_simple.proofs.SameRestrictions.{same_restrictions}
-use Rattle.rng_reprinted.specs.LinesSchema.{IsSchemaOfLines, IsReprinted}
+use Rattle.rng_reprinted.specs.LinesSchema.{IsSchemaOfLines, IsReprinted, IsReprintedAs}
+use Rattle.rng_print.specs.SchemaText.{IsPrintedForm}
 use Rattle.rng_reprinted.proofs.Flattened.{leaves_flattened, twos_flattened}
 use Rattle.rng_reprinted.proofs.GoodGrammars.{IsGoodTree, IsGoodBody, IsGoodGrammar, IsLastSimple, good_grammar}
 use Rattle.rng_reprinted.proofs.LineTrees.{leaf_at, placed, line_tree_of}
@@ -133,3 +134,18 @@ module _ (s r : Schema) (g : Grammar) (items : List Item) (h : IsReprinted s r g
 
   pub reprinted_kept : BreaksNoClause r
   reprinted_kept = no_clause s r g items good h.numbered h.few h.lines h.form.0 h.form.1 h.form.2 h.kept
+
+module _ (s r : Schema) (text : List ℕ) (h : IsReprintedAs s r text) where
+  is_reprinted : IsReprinted s r h.printed.grammar h.printed.is_printed.items
+  is_reprinted = record { kept = h.kept; form = h.printed.is_form; numbered = h.printed.is_printed.numbered; few = h.few; lines = h.lines }
+
+  pub reprinted_text : BreaksNoClause r × IsPrintedForm r text
+  reprinted_text = (
+    reprinted_kept s r h.printed.grammar h.printed.is_printed.items is_reprinted,
+    record {
+      grammar = h.printed.grammar;
+      is_form = reprinted_form s r h.printed.grammar h.printed.is_printed.items is_reprinted;
+      only = reprinted_only s r h.printed.grammar h.printed.is_printed.items is_reprinted;
+      is_printed = h.printed.is_printed;
+    },
+  )

@@ -10,7 +10,8 @@ use Rattle.rng_model.specs.Schema.{Schema, Component}
 use Rattle.rng_model.specs.SchemaForm.{IsSimpleGrammarOf}
 use Rattle.rng_model.specs.SchemaClauses.{BreaksNoClause}
 use Rattle.rng_model.specs.declared.method.Method.TheVariants as methods
-use Rattle.rng_print.specs.PrintedText.{Item, element, pattern, element_at, item_name, IsItemsOf}
+use Rattle.rng_print.specs.PrintedText.{Item, element, pattern, element_at, item_name, IsItemsOf, IsPrinted}
+use Rattle.rng_print.specs.SchemaText.{IsPrintedForm}
 
 -- ---- name classes: a choice that is the first member of a choice is written without parentheses, so its members are members
 
@@ -87,3 +88,10 @@ pub record IsReprinted (s r : Schema) (g : Grammar) (items : List Item) : Type 0
   pub numbered : IsItemsOf g items
   pub few : length items < 2 ^ 64
   pub lines : IsSchemaOfLines g items r
+
+-- The second schema is that of the lines of the text that is printed for the first, which breaks no clause. So many lines are numbered.
+pub record IsReprintedAs (s r : Schema) (text : List ℕ) : Type 0 where
+  pub kept : BreaksNoClause s
+  pub printed : IsPrintedForm s text
+  pub few : length printed.is_printed.items < 2 ^ 64
+  pub lines : IsSchemaOfLines printed.grammar printed.is_printed.items r

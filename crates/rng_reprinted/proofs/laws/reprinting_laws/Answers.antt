@@ -1,0 +1,14 @@
+use Rattle.rng_reprinted.proofs.LinesKept.{reprinted_kept, reprinted_form, reprinted_only, reprinted_text}
+use Rattle.rng_reprinted.proofs.laws.reprinting_laws.Goals as goal
+
+pub returns-clause-kept : goal.returns-clause-kept
+returns-clause-kept c = reprinted_kept
+
+pub returns-clause-form : goal.returns-clause-form
+returns-clause-form c = reprinted_form
+
+pub returns-clause-only : goal.returns-clause-only
+returns-clause-only c = reprinted_only
+
+pub returns-clause-printed : goal.returns-clause-printed
+returns-clause-printed c = reprinted_text
