@@ -12,3 +12,5 @@ pub mod LinesForm
 pub mod LinesGrammar
 pub mod LinesWritten
 pub mod LinesKept
+pub mod ReadClasses
+pub mod ReadLines

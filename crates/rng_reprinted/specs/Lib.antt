@@ -1,1 +1,2 @@
 pub mod LinesSchema
+pub mod LinesTree

@@ -1,6 +1,6 @@
 -- The schema of the lines of a printed grammar: one grammar, with a plain start, and a plain define for each item, each with the pattern that its line
 -- shows (RELAX NG Compact Syntax, "Syntax"; RELAX NG Specification, sections 4.17 and 4.18).
-use Rattle.std.specs.Prelude.{◌≡◌, ℕ, ◌<◌, ◌^◌, List, [], ◌∷◌, ◌++◌, length, map, Some, None}
+use Rattle.std.specs.Prelude.{◌≡◌, ℕ, ◌<◌, ◌^◌, List, [], ◌∷◌, ◌++◌, length, map, Option, Some, None}
 use Rattle.rng_model.specs.Names.{NameClass, any_name, any_except, ns_name, ns_except, name_is, one_of, NameClasses, no_classes, class_and, some_of}
 use Rattle.rng_model.specs.Tree.{Simple, s_not_allowed, s_empty, s_text, s_leaf, s_attribute, s_list, s_data, s_data_except, s_value, s_one_or_more, s_joined}
 use Rattle.rng_model.specs.Table.{Grammar}
@@ -80,6 +80,14 @@ pub record IsSchemaOfLines (g : Grammar) (items : List Item) (s : Schema) : Type
   pub main : s.main ≡ []
   pub components : s.components [] ≡ Some (lines_components g items)
   pub only : (x : Place) (cs : List Component) → s.components x ≡ Some cs → x ≡ []
+
+-- such a schema
+abbrev pub components_at : Grammar → List Item → Place → Option (List Component)
+components_at g items [] = Some (lines_components g items)
+components_at g items (n ∷ x) = None
+
+abbrev pub schema_of_lines : Grammar → List Item → Schema
+schema_of_lines g items = record { main = []; components = components_at g items; outer = λ x. None }
 
 -- The second schema is that of the lines in which a simple grammar of the first, which breaks no clause, is printed. So many lines are numbered.
 pub record IsReprinted (s r : Schema) (g : Grammar) (items : List Item) : Type 0 where
