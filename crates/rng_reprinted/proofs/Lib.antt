@@ -14,3 +14,4 @@ pub mod LinesWritten
 pub mod LinesKept
 pub mod ReadClasses
 pub mod ReadLines
+pub mod LinesTaken
