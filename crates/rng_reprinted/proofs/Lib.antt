@@ -2,6 +2,7 @@ pub mod FineTrees
 pub mod RenamedSteps
 pub mod Listed
 pub mod ItemNames
+pub mod FewItems
 pub mod LinesFound
 pub mod Flattened
 pub mod ClassParts
@@ -15,3 +16,4 @@ pub mod LinesKept
 pub mod ReadClasses
 pub mod ReadLines
 pub mod LinesTaken
+pub mod LinesLoaded

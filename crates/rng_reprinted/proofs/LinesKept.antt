@@ -16,6 +16,7 @@ use Rattle.rng_model.specs.Simplification.{rewriting, Step, IsRewritten, no_step
 use Rattle.rng_model.specs.Unfolding.{Leaf, IsTreeOf, IsBodyOf}
 use Rattle.rng_model.proofs.Unfolding.{one_tree}
 use Rattle.rng_print.specs.PrintedText.{Item, element, element_at, IsItemsOf}
+use Rattle.rng_print.proofs.OneForm.{one_form}
 use Rattle.rng_graph.specs.InTwos.{in_twos}
 use Rattle.rng_graph.proofs.InTwos.{rewritten_is}
 use Rattle.rng_graph.proofs.SimpleClass.{is_only_simple_class}
@@ -24,6 +25,7 @@ use Rattle.rng_simple.proofs.Renamed.{origin}
 use Rattle.rng_simple.proofs.SameRestrictions.{same_restrictions}
 use Rattle.rng_reprinted.specs.LinesSchema.{IsSchemaOfLines, IsReprinted, IsReprintedAs}
 use Rattle.rng_print.specs.SchemaText.{IsPrintedForm}
+use Rattle.rng_reprinted.proofs.FewItems.{items_few}
 use Rattle.rng_reprinted.proofs.Flattened.{leaves_flattened, twos_flattened}
 use Rattle.rng_reprinted.proofs.GoodGrammars.{IsGoodTree, IsGoodBody, IsGoodGrammar, IsLastSimple, good_grammar}
 use Rattle.rng_reprinted.proofs.LineTrees.{leaf_at, placed, line_tree_of}
@@ -136,8 +138,11 @@ module _ (s r : Schema) (g : Grammar) (items : List Item) (h : IsReprinted s r g
   reprinted_kept = no_clause s r g items good h.numbered h.few h.lines h.form.0 h.form.1 h.form.2 h.kept
 
 module _ (s r : Schema) (text : List ℕ) (h : IsReprintedAs s r text) where
+  few_items : length h.printed.is_printed.items < 2 ^ 64
+  few_items = let n = items_few h.printed.grammar text h.printed.is_printed in let few = h.few in omega (arith, n, few)
+
   is_reprinted : IsReprinted s r h.printed.grammar h.printed.is_printed.items
-  is_reprinted = record { kept = h.kept; form = h.printed.is_form; numbered = h.printed.is_printed.numbered; few = h.few; lines = h.lines }
+  is_reprinted = record { kept = h.kept; form = h.printed.is_form; numbered = h.printed.is_printed.numbered; few = few_items; lines = h.lines }
 
   pub reprinted_text : BreaksNoClause r × IsPrintedForm r text
   reprinted_text = (
@@ -149,3 +154,7 @@ module _ (s r : Schema) (text : List ℕ) (h : IsReprintedAs s r text) where
       is_printed = h.printed.is_printed;
     },
   )
+
+-- each text that is printed for it is that one
+pub same_text_again : (s r : Schema) (text other : List ℕ) → IsReprintedAs s r text → IsPrintedForm r other → other ≡ text
+same_text_again s r text other h p = one_form r other text p (reprinted_text s r text h).1

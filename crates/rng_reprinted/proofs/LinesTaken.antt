@@ -19,6 +19,7 @@ use Rattle.rng_load.specs.LoadedSchema.{AreSchema}
 use Rattle.rng_load.specs.Places.{IsSchemaOf}
 use Rattle.rng_load.specs.SchemaFile.{Name, NamedFile, HasTree}
 use Rattle.rng_reprinted.specs.LinesSchema.{IsSchemaOfLines, schema_of_lines}
+use Rattle.rng_reprinted.specs.HandedIn.{lines_alone}
 use Rattle.rng_reprinted.specs.LinesTree as lines
 use Rattle.rng_reprinted.specs.LinesTree.{lines_tree}
 use Rattle.rng_reprinted.proofs.ReadLines.{lines_read, lines_are_read}
@@ -134,23 +135,23 @@ module _ (main : Name) (t : FileTree) (none : mentions_of t ≡ []) where
 -- ---- the file of the lines
 
 module _ (main : Name) (g : Grammar) (items : List Item) where
-  abbrev pub lines_alone : TakenFiles
-  lines_alone = (main, lines_tree g items) ∷ []
+  abbrev only_lines : TakenFiles
+  only_lines = lines_alone main g items
 
-  pub lines_taken : (files : List NamedFile) → HasTree files main main (lines_tree g items) → IsFilesVerdict files main (are_taken lines_alone)
+  pub lines_taken : (files : List NamedFile) → HasTree files main main (lines_tree g items) → IsFilesVerdict files main (are_taken only_lines)
   lines_taken files has = verdict_alone main (lines_tree g items) (lines_mention g items) files has
 
   tree_is : {t u : FileTree} {o : Option FileTree} → o ≡ Some t → o ≡ Some u → t ≡ u
   tree_is e f = cc
 
-  pub lines_are_schema : (r : Schema) → AreSchema lines_alone main r → IsSchemaOfLines g items r
+  pub lines_are_schema : (r : Schema) → AreSchema only_lines main r → IsSchemaOfLines g items r
   lines_are_schema r a =
       let e : a.tree ≡ lines_tree g items = tree_is a.main_file (main_tree main (lines_tree g items) (lines_mention g items)) in
-      lines_read (tree_in lines_alone) g items r (subst (λ t. IsSchemaOf (tree_in lines_alone) t r) e a.is)
+      lines_read (tree_in only_lines) g items r (subst (λ t. IsSchemaOf (tree_in only_lines) t r) e a.is)
 
-  pub schema_is_lines : AreSchema lines_alone main (schema_of_lines g items)
+  pub schema_is_lines : AreSchema only_lines main (schema_of_lines g items)
   schema_is_lines = record {
     tree = lines_tree g items;
     main_file = main_tree main (lines_tree g items) (lines_mention g items);
-    is = lines_are_read (tree_in lines_alone) g items;
+    is = lines_are_read (tree_in only_lines) g items;
   }

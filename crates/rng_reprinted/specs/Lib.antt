@@ -1,2 +1,3 @@
 pub mod LinesSchema
 pub mod LinesTree
+pub mod HandedIn

@@ -97,9 +97,9 @@ pub record IsReprinted (s r : Schema) (g : Grammar) (items : List Item) : Type 0
   pub few : length items < 2 ^ 64
   pub lines : IsSchemaOfLines g items r
 
--- The second schema is that of the lines of the text that is printed for the first, which breaks no clause. So many lines are numbered.
+-- The second schema is that of the lines of the text that is printed for the first, which breaks no clause. So many bytes are numbered.
 pub record IsReprintedAs (s r : Schema) (text : List ℕ) : Type 0 where
   pub kept : BreaksNoClause s
   pub printed : IsPrintedForm s text
-  pub few : length printed.is_printed.items < 2 ^ 64
+  pub few : length text < 2 ^ 64
   pub lines : IsSchemaOfLines printed.grammar printed.is_printed.items r

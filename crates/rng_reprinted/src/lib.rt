@@ -10,4 +10,4 @@
 
 mod laws;
 
-pub use laws::reprinting_laws;
+pub use laws::{printed_file_laws, reprinting_laws};

@@ -1,4 +1,4 @@
-use Rattle.rng_reprinted.proofs.LinesKept.{reprinted_kept, reprinted_form, reprinted_only, reprinted_text}
+use Rattle.rng_reprinted.proofs.LinesKept.{reprinted_kept, reprinted_form, reprinted_only, reprinted_text, same_text_again}
 use Rattle.rng_reprinted.proofs.laws.reprinting_laws.Goals as goal
 
 pub returns-clause-kept : goal.returns-clause-kept
@@ -12,3 +12,6 @@ returns-clause-only c = reprinted_only
 
 pub returns-clause-printed : goal.returns-clause-printed
 returns-clause-printed c = reprinted_text
+
+pub returns-clause-same : goal.returns-clause-same
+returns-clause-same c = same_text_again
