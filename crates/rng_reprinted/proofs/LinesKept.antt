@@ -16,7 +16,8 @@ use Rattle.rng_model.specs.Simplification.{rewriting, Step, IsRewritten, no_step
 use Rattle.rng_model.specs.Unfolding.{Leaf, IsTreeOf, IsBodyOf}
 use Rattle.rng_model.proofs.Unfolding.{one_tree}
 use Rattle.rng_print.specs.PrintedText.{Item, element, element_at, IsItemsOf}
-use Rattle.rng_print.proofs.OneForm.{one_form}
+use Rattle.rng_print.specs.Renumbered.{AreSameUpToNumbering}
+use Rattle.rng_print.proofs.OneForm.{one_form, same_numbering}
 use Rattle.rng_graph.specs.InTwos.{in_twos}
 use Rattle.rng_graph.proofs.InTwos.{rewritten_is}
 use Rattle.rng_graph.proofs.SimpleClass.{is_only_simple_class}
@@ -133,6 +134,10 @@ module _ (s r : Schema) (g : Grammar) (items : List Item) (h : IsReprinted s r g
 
   pub reprinted_only : IsOnlySimpleGrammarOf r g
   reprinted_only = only_simple_grammar r g reprinted_form
+
+  -- each simple grammar of it is that one, but for the numbers of its elements
+  pub reprinted_numbers : (other : Grammar) → IsSimpleGrammarOf r other → AreSameUpToNumbering g other
+  reprinted_numbers other is = same_numbering r g other reprinted_form.0 reprinted_form.1 reprinted_form.2 (only_simple_grammar r other is)
 
   pub reprinted_kept : BreaksNoClause r
   reprinted_kept = no_clause s r g items good h.numbered h.few h.lines h.form.0 h.form.1 h.form.2 h.kept

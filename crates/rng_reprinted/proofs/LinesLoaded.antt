@@ -1,6 +1,7 @@
 -- What is answered where the file of the lines is handed in as the main one.
-use Rattle.std.proofs.Common.{◌≡◌, refl, sym, subst, ℕ, ◌<◌, ◌^◌, List, length, Option, Some, Result, Ok, Err}
+use Rattle.std.proofs.Common.{◌≡◌, refl, sym, subst, inl, inr, ℕ, ◌<◌, ◌≤◌, ◌^◌, List, [], ◌∷◌, length, arith, Option, Some, Result, Ok, Err}
 use Rattle.std.specs.Prelude.{MatchResult, string_bytes}
+use Rattle.rng_model.specs.Lists.{here, HasTwo, first_and, both_later}
 use Rattle.rng_model.specs.Schema.{Schema}
 use Rattle.rng_model.specs.SchemaClauses.{BreaksNoClause}
 use Rattle.rng_model.specs.Table.{Grammar}
@@ -9,11 +10,11 @@ use Rattle.rng_model.specs.declared.fault.SchemaFault.TheVariants as faults
 use Rattle.rng_load.specs.LoadedSchema.{AreSchema, IsLoaded}
 use Rattle.rng_load.specs.Loading.{TakenFiles, FilesVerdict, file_breaks, together_break, are_taken, IsTheFilesVerdict}
 use Rattle.rng_load.specs.PlacedGrammars.{schema_of}
-use Rattle.rng_load.specs.SchemaFile.{Name, NamedFile, HasTree}
+use Rattle.rng_load.specs.SchemaFile.{Name, NamedFile, HasTree, BreaksLimit, size_limit}
 use Rattle.rng_load.specs.declared.schema.Schema as loaded
 use Rattle.rng_print.specs.PrintedText.{Item}
 use Rattle.rng_print.specs.SchemaText.{IsPrintedForm}
-use Rattle.rng_reprinted.specs.HandedIn.{lines_alone, IsHandedInAgain, IsAgain}
+use Rattle.rng_reprinted.specs.HandedIn.{lines_alone, IsHandedInAgain, IsAgain, IsPrintedFile, text_alone}
 use Rattle.rng_reprinted.specs.LinesSchema.{IsSchemaOfLines, IsReprintedAs}
 use Rattle.rng_reprinted.specs.LinesTree.{lines_tree}
 use Rattle.rng_reprinted.proofs.LinesKept.{reprinted_text}
@@ -49,3 +50,26 @@ module _ (s : Schema) (text : List ℕ) (files : List NamedFile) (main : Name) (
 
   pub printed_again : (result : Result loaded.Schema SchemaFault) → IsLoaded files main result → IsAgain text result
   printed_again result l = again result (lines_loaded files main h.printed.grammar h.printed.is_printed.items h.tree result l)
+
+-- ---- the text alone
+
+one_file : (P : NamedFile → NamedFile → Type 0) (a : NamedFile) → HasTwo P (a ∷ []) → ⊥
+one_file P a (first_and b p) = elim b [ ]
+one_file P a (both_later t) = elim t [ ]
+
+within_limits : (main : Name) (text : List ℕ) → length text ≤ size_limit → ¬ (BreaksLimit (text_alone main text) main main text)
+within_limits main text small (inl b) = let more = b.1 in omega (arith, more)
+within_limits main text small (inr more) = omega (arith, small, more)
+
+pub printed_alone : (s : Schema) (text : List ℕ) → IsPrintedFile s text → (main : Name) → IsHandedInAgain s text (text_alone main text) main
+printed_alone s text h main = record {
+  kept = h.kept;
+  printed = h.printed;
+  few = let small = h.small in omega (arith, small);
+  tree = record {
+    bytes = text;
+    handed_in = record { there = here; once = one_file (λ a b. (a.name ≡ main) × (b.name ≡ main)) (record { name = main; bytes = text }) };
+    small = within_limits main text h.small;
+    is = h.is;
+  };
+}

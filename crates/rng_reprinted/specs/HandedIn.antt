@@ -1,5 +1,5 @@
 -- What is printed for a schema, handed in as the main file.
-use Rattle.std.specs.Prelude.{◌≡◌, ℕ, ◌<◌, ◌^◌, List, [], ◌∷◌, length, Result, MatchResult}
+use Rattle.std.specs.Prelude.{◌≡◌, ℕ, ◌<◌, ◌≤◌, ◌^◌, List, [], ◌∷◌, length, Result, MatchResult}
 use Rattle.rng_model.specs.Schema.{Schema}
 use Rattle.rng_model.specs.SchemaClauses.{BreaksNoClause}
 use Rattle.rng_model.specs.Table.{Grammar}
@@ -7,7 +7,7 @@ use Rattle.rng_model.specs.declared.fault.SchemaFault.{SchemaFault}
 use Rattle.rng_model.specs.declared.fault.SchemaFault.TheVariants as faults
 use Rattle.rng_load.specs.Loading.{TakenFiles}
 use Rattle.rng_load.specs.PlacedGrammars.{schema_of}
-use Rattle.rng_load.specs.SchemaFile.{Name, NamedFile, HasTree}
+use Rattle.rng_load.specs.SchemaFile.{Name, NamedFile, HasTree, IsSchemaFile, size_limit}
 use Rattle.rng_load.specs.declared.schema.Schema as loaded
 use Rattle.rng_print.specs.PrintedText.{Item}
 use Rattle.rng_print.specs.SchemaText.{IsPrintedForm}
@@ -23,6 +23,18 @@ pub record IsHandedInAgain (s : Schema) (text : List ℕ) (files : List NamedFil
   pub printed : IsPrintedForm s text
   pub few : length text < 2 ^ 64
   pub tree : HasTree files main main (lines_tree printed.grammar printed.is_printed.items)
+
+-- The text that is printed for the schema, which breaks no clause, is no longer than a file may be, and breaks no clause of a file; its tree is that of
+-- its lines.
+pub record IsPrintedFile (s : Schema) (text : List ℕ) : Type 0 where
+  pub kept : BreaksNoClause s
+  pub printed : IsPrintedForm s text
+  pub small : length text ≤ size_limit
+  pub is : IsSchemaFile text (lines_tree printed.grammar printed.is_printed.items)
+
+-- the text alone, as the file of this name
+abbrev pub text_alone : Name → List ℕ → List NamedFile
+text_alone main text = record { name = main; bytes = text } ∷ []
 
 -- the schema that is answered breaks no clause, and this is printed for it; unless memory ran out
 abbrev pub IsAgain : List ℕ → Result loaded.Schema SchemaFault → Type 0

@@ -1,4 +1,4 @@
-use Rattle.rng_reprinted.proofs.LinesLoaded.{printed_again}
+use Rattle.rng_reprinted.proofs.LinesLoaded.{printed_again, printed_alone}
 use Rattle.rng_reprinted.proofs.LinesTaken.{lines_taken, lines_are_schema, schema_is_lines}
 use Rattle.rng_reprinted.proofs.laws.printed_file_laws.Goals as goal
 
@@ -13,3 +13,6 @@ returns-clause-there c = schema_is_lines
 
 pub returns-clause-again : goal.returns-clause-again
 returns-clause-again c = printed_again
+
+pub returns-clause-alone : goal.returns-clause-alone
+returns-clause-alone c = printed_alone

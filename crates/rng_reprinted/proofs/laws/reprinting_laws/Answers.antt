@@ -1,4 +1,4 @@
-use Rattle.rng_reprinted.proofs.LinesKept.{reprinted_kept, reprinted_form, reprinted_only, reprinted_text, same_text_again}
+use Rattle.rng_reprinted.proofs.LinesKept.{reprinted_kept, reprinted_form, reprinted_only, reprinted_numbers, reprinted_text, same_text_again}
 use Rattle.rng_reprinted.proofs.laws.reprinting_laws.Goals as goal
 
 pub returns-clause-kept : goal.returns-clause-kept
@@ -15,3 +15,6 @@ returns-clause-printed c = reprinted_text
 
 pub returns-clause-same : goal.returns-clause-same
 returns-clause-same c = same_text_again
+
+pub returns-clause-numbers : goal.returns-clause-numbers
+returns-clause-numbers c = reprinted_numbers
