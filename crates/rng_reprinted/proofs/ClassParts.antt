@@ -1,6 +1,6 @@
 -- The parts of a name class that are no choices are, but for nesting, those of the class with its members nested in twos; so the rules on name
 -- classes are broken by both or by neither.
-use Rattle.std.proofs.Common.{◌≡◌, ◌⊎◌, inl, inr, refl, ap, sym, subst, List, ℕ}
+use Rattle.std.proofs.Common.{◌≡◌, ◌⊎◌, inl, inr, refl, sym, subst, List, ℕ}
 use Rattle.rng_model.specs.Names.{NameClass, any_name, any_except, ns_name, ns_except, name_is, one_of, NameClasses, no_classes, class_and}
 use Rattle.rng_model.specs.SchemaClauses as clause
 use Rattle.rng_model.specs.SchemaClauses.{IsPartOf, IsPartOfOne, IsAny, IsNamespace, IsOfDeclarations, BreaksClassExcept}

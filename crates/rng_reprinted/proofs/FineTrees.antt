@@ -1,12 +1,11 @@
 -- What holds of each name class, datatype and value that is written in a schema holds of those in its simple form, as far as the nesting of name
 -- classes keeps it.
-use Rattle.std.proofs.Common.{◌≡◌, refl, sym, subst, ℕ, ◌+◌, Bool, true, false, if◌then◌else◌, List, [], ◌∷◌, Option, Some, None, All, Contains}
-use Rattle.std.proofs.lemmas.List.Elements.{All-contains}
+use Rattle.std.proofs.Common.{◌≡◌, refl, subst, ℕ, ◌+◌, Bool, true, false, if◌then◌else◌, List, [], ◌∷◌, Option, Some, None}
 use Rattle.rng_model.specs.Lists.{Among, here, there}
 use Rattle.rng_model.specs.Names.{NameClass}
 use Rattle.rng_model.specs.ClassSteps.{ClassStep}
 use Rattle.rng_model.specs.Tree.{Datatype, Connector, Tree, not_allowed, empty, text, leaf, attribute, list, data_of, data_except, value, mixed, optional}
-use Rattle.rng_model.specs.Tree.{zero_or_more, one_or_more, joined, Trees, no_trees, tree_and, as_tree}
+use Rattle.rng_model.specs.Tree.{zero_or_more, one_or_more, joined, Trees, no_trees, tree_and}
 use Rattle.rng_model.specs.Leaves.{LeafIn, LeafAmong}
 use Rattle.rng_model.specs.Patterns as written
 use Rattle.rng_model.specs.Patterns.{Place, Position, Pattern, Patterns, no_patterns, pattern_and, Point, an_element, a_ref, a_parent_ref, a_grammar}

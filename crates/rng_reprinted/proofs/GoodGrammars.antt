@@ -1,5 +1,5 @@
 -- What a schema that breaks no clause leaves of its clauses on its simple grammar.
-use Rattle.std.proofs.Common.{◌≡◌, ◌∙◌, refl, sym, ap, subst, ℕ, ◌<◌, ◌≤◌, List, [], length, Some, All, Contains, slice_get, arith}
+use Rattle.std.proofs.Common.{◌≡◌, ◌∙◌, refl, sym, ap, subst, ℕ, ◌<◌, ◌≤◌, List, [], length, Some, slice_get, arith}
 use Rattle.std.proofs.lemmas.List.Elements.{All-contains}
 use Rattle.std.proofs.lemmas.Option.{slice_get-get_or}
 use Rattle.rng_model.specs.Names.{NameClass, any_name}
@@ -13,7 +13,7 @@ use Rattle.rng_model.specs.Leaves.{LeafIn, renamed, AreLeavesBelow}
 use Rattle.rng_model.specs.Leaves as at
 use Rattle.rng_model.specs.Patterns as written
 use Rattle.rng_model.specs.Patterns.{Place, Pattern, without_parameters}
-use Rattle.rng_model.specs.Schema.{Schema, IsWrittenAt, main_start}
+use Rattle.rng_model.specs.Schema.{Schema, IsWrittenAt}
 use Rattle.rng_model.specs.SchemaForm.{Element, SimpleForm, IsElementOf, IsSimpleFormOfSchema, IsSameUpToNumbering}
 use Rattle.rng_model.specs.SchemaClauses as clause
 use Rattle.rng_model.specs.SchemaClauses.{BreaksNoClause}
@@ -72,7 +72,8 @@ pub record IsGoodGrammar (g : Grammar) : Type 0 where
 
 -- ---- what is so with other names is so
 
-module _ (IsClass : NameClass → Type 0) (IsData : Datatype → Type 0) (IsValue : Datatype → List ℕ → Type 0) {L : Type 0} (IsLeaf : L → Type 0) (f : ℕ → L) (n : ℕ) where
+module _ (IsClass : NameClass → Type 0) (IsData : Datatype → Type 0) (IsValue : Datatype → List ℕ → Type 0) {L : Type 0} (IsLeaf : L → Type 0)
+    (f : ℕ → L) (n : ℕ) where
   numbered_fine : (a : Simple ℕ) → IsFine IsClass IsData IsValue IsLeaf (renamed f (as_tree a)) → AreLeavesBelow n (as_tree a)
       → IsFine IsClass IsData IsValue (λ k. k < n) (as_tree a)
   numbered_fine s_not_allowed h i = tt
@@ -123,7 +124,8 @@ module _ (s : Schema) (kept : BreaksNoClause s) where
 
     -- a simple form of a tree that is reached, with other names
     last_body : (a : Simple ℕ) (t b : Tree Leaf) → IsSimpleFormOf t b → b ≡ renamed same.element (as_tree a) → IsLastSimple a
-    last_body a t b form e g c st = form.last (renamed same.element c) (g, subst (λ d. Step g d (renamed same.element c)) (sym e) (step_renamed same.element st))
+    last_body a t b form e g c st =
+        form.last (renamed same.element c) (g, subst (λ d. Step g d (renamed same.element c)) (sym e) (step_renamed same.element st))
 
     shallow_body : (a : Simple ℕ) (t b : Tree Leaf) → IsReachedTree s t → IsSimpleFormOf t b → b ≡ renamed same.element (as_tree a) → depth a ≤ depth_limit
     shallow_body a t b r form e =

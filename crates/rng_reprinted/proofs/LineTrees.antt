@@ -1,6 +1,6 @@
 -- What is written for a pattern stands for the pattern's tree, its elements named by their lines.
-use Rattle.std.proofs.Common.{◌≡◌, refl, sym, ap, subst, ℕ, ◌<◌, ◌^◌, List, [], ◌∷◌, ◌++◌, length, Some}
-use Rattle.rng_model.specs.Lists.{Among, here, there}
+use Rattle.std.proofs.Common.{◌≡◌, refl, sym, ap, subst, ℕ, ◌<◌, ◌^◌, List, [], ◌∷◌, length}
+use Rattle.rng_model.specs.Lists.{Among, here}
 use Rattle.rng_model.specs.Tree.{Datatype, Tree, leaf, value, as_tree}
 use Rattle.rng_model.specs.Tree.{Simple, s_not_allowed, s_empty, s_text, s_leaf, s_attribute, s_list, s_data, s_data_except, s_value, s_one_or_more, s_joined}
 use Rattle.rng_model.specs.Table.{Grammar}
@@ -10,7 +10,7 @@ use Rattle.rng_model.specs.Patterns.{Position, Point, a_ref, pattern_tree, witho
 use Rattle.rng_model.specs.Schema.{Schema, main_start}
 use Rattle.rng_model.specs.Unfolding as u
 use Rattle.rng_model.specs.Unfolding.{Leaf, Unfolds, IsTreeOf, IsBodyOf}
-use Rattle.rng_print.specs.PrintedText.{Item, element, pattern, item_of, item_name, element_at, parts_of, mentions, IsItemsOf}
+use Rattle.rng_print.specs.PrintedText.{Item, element, pattern, item_of, item_name, element_at, parts_of, IsItemsOf}
 use Rattle.rng_simple.specs.Renamed.{simple_renamed}
 use Rattle.rng_reprinted.specs.LinesSchema.{flattened, reference_pattern, item_pattern, IsSchemaOfLines}
 use Rattle.rng_reprinted.proofs.Listed.{AreAmong, among_left, among_right, start_among, line_among}
@@ -105,13 +105,12 @@ module _ (g : Grammar) (items : List Item) where
 
         -- the start stands for its tree, and the body of an element for its own
         pub start_tree_is : IsGoodTree n g.start → IsTreeOf r (main_start r) (line_tree_of g.start)
-        start_tree_is f =
-            (
-              pattern_tree (0 ∷ []) (reference_pattern items g.start),
-              start_found g items numbered few r lines,
-              subst (λ x. Unfolds r x (pattern_tree (0 ∷ []) (reference_pattern items g.start)) (line_tree_of g.start)) (sym lines.main)
-                  (reference_unfolds g.start (0 ∷ []) f (start_among g items numbered)),
-            )
+        start_tree_is f = (
+          pattern_tree (0 ∷ []) (reference_pattern items g.start),
+          start_found g items numbered few r lines,
+          subst (λ x. Unfolds r x (pattern_tree (0 ∷ []) (reference_pattern items g.start)) (line_tree_of g.start)) (sym lines.main)
+              (reference_unfolds g.start (0 ∷ []) f (start_among g items numbered)),
+        )
 
         pub body_tree_is : (k : ℕ) → IsGoodTree n (element_at g k).1 → Among (element k) items → IsBodyOf r (leaf_at k) (line_tree_of (element_at g k).1)
         body_tree_is k f a = reference_unfolds (element_at g k).1 _ f (line_among g items numbered (element k) a)

@@ -1,10 +1,11 @@
 -- The simple form of the schema of the lines is the grammar that was printed.
-use Rattle.std.proofs.Common.{◌≡◌, ◌∙◌, refl, sym, ap, subst, ℕ, zero, suc, ◌+◌, ◌<◌, ◌^◌, Bool, true, false, cond, List, [], ◌∷◌, length, get_or, Some, All, slice_get, arith}
-use Rattle.std.specs.Prelude.{Contains, not}
+use Rattle.std.proofs.Common.{◌≡◌, ◌∙◌, refl, sym, ap, subst, ℕ, suc, ◌+◌, ◌<◌, ◌^◌, Bool, true, false, cond, List, [], ◌∷◌, length, Some}
+use Rattle.std.proofs.Common.{slice_get, arith}
+use Rattle.std.specs.Prelude.{not}
 use Rattle.std.specs.List.{slice_index_or}
 use Rattle.std.proofs.lemmas.List.Elements.{All-contains}
 use Rattle.std.proofs.lemmas.Option.{slice_get-get_or}
-use Rattle.rng_model.specs.Lists.{Among, here, there}
+use Rattle.rng_model.specs.Lists.{Among}
 use Rattle.rng_model.specs.Names.{NameClass, any_name}
 use Rattle.rng_model.specs.ClassSteps.{ClassStep, IsSimpleClassOf}
 use Rattle.rng_model.specs.Tree.{Tree, as_tree}
@@ -14,16 +15,14 @@ use Rattle.rng_model.specs.Leaves.{LeafIn, renamed, AreLeavesBelow}
 use Rattle.rng_model.specs.Leaves as at
 use Rattle.rng_model.specs.Patterns.{Position}
 use Rattle.rng_model.specs.Schema.{Schema, main_start}
-use Rattle.rng_model.specs.SchemaForm.{Element, SimpleForm, IsElementOf, IsSimpleFormOfSchema, IsSameUpToNumbering, IsSimpleGrammarOf}
+use Rattle.rng_model.specs.SchemaForm.{SimpleForm, IsElementOf, IsSimpleFormOfSchema, IsSameUpToNumbering}
 use Rattle.rng_model.specs.Simplification.{RuleGroup, Step, IsSimpleFormOf}
 use Rattle.rng_model.specs.Reached.{IsReachedBySimpleForms, from_simple_start, from_simple_body}
 use Rattle.rng_model.specs.Unfolding.{Leaf, IsTreeOf, IsBodyOf}
 use Rattle.rng_model.proofs.Unfolding.{one_tree}
 use Rattle.rng_print.specs.Numbering.{place_in}
 use Rattle.rng_print.specs.PrintedText.{Item, element, pattern, same_item, element_at, IsItemsOf}
-use Rattle.rng_print.proofs.Booleans.{false_true}
-use Rattle.rng_print.proofs.Equal.{item_exact, item_itself}
-use Rattle.rng_graph.specs.InTwos.{nested}
+use Rattle.rng_print.proofs.Equal.{item_exact}
 use Rattle.rng_graph.proofs.SimpleClass.{has_simple_class, class_unchanged}
 use Rattle.rng_simple.specs.Renamed.{simple_renamed}
 use Rattle.rng_simple.specs.SimpleOf.{simple_of}
@@ -34,8 +33,8 @@ use Rattle.rng_simple.proofs.RenamedTwice.{renamed_twice, renamed_itself}
 use Rattle.rng_simple.proofs.SimpleForms.{has_simple_form}
 use Rattle.rng_reprinted.specs.LinesSchema.{flattened, IsSchemaOfLines}
 use Rattle.rng_reprinted.proofs.FineTrees.{leaf_of}
-use Rattle.rng_reprinted.proofs.Flattened.{with_flattened, nested_flattened, simple_flattened}
-use Rattle.rng_reprinted.proofs.GoodGrammars.{IsAttributeClass, IsGoodData, IsGoodValue, IsGoodTree, IsGoodBody, IsGoodElement, IsGoodGrammar, IsLastSimple}
+use Rattle.rng_reprinted.proofs.Flattened.{nested_flattened, simple_flattened}
+use Rattle.rng_reprinted.proofs.GoodGrammars.{IsAttributeClass, IsGoodData, IsGoodValue, IsGoodTree, IsGoodGrammar, IsLastSimple}
 use Rattle.rng_reprinted.proofs.LinesFound.{in_rest}
 use Rattle.rng_reprinted.proofs.LineTrees.{leaf_at, placed, line_tree_of, leaf_among, start_tree_is, body_tree_is}
 use Rattle.rng_reprinted.proofs.Listed.{start_among, line_among}
@@ -96,7 +95,8 @@ module _ (g : Grammar) (items : List Item) where
 
   module _ (numbered : IsItemsOf g items) where
     placed_back : (a : Simple ℕ) → ((k : ℕ) → LeafIn k (as_tree a) → Among (element k) items) → simple_renamed (number_at items) (placed g items a) ≡ a
-    placed_back a h = renamed_twice (number_at items) (leaf_at g items) a ∙ renamed_itself (λ k. number_at items (leaf_at g items k)) a (λ k i. number_back k (h k i))
+    placed_back a h =
+        renamed_twice (number_at items) (leaf_at g items) a ∙ renamed_itself (λ k. number_at items (leaf_at g items k)) a (λ k i. number_back k (h k i))
 
     -- no rule of simplification applies in the tree with its elements where their lines have them
     pub placed_last : (a : Simple ℕ) → IsLastSimple a → ((k : ℕ) → LeafIn k (as_tree a) → Among (element k) items) → (x : RuleGroup) (b : Tree Leaf)
@@ -153,7 +153,8 @@ module _ (s r : Schema) (g : Grammar) (items : List Item) (good : IsGoodGrammar 
   pub listed_row : (k : ℕ) → k < n → slice_get g.elements k ≡ Some (element_at g k)
   listed_row k l = slice_get-get_or g.elements k (any_name, s_not_allowed) l
 
-  row_is : (k : ℕ) → k < n → IsElementOf s (record { name = same.element k; class = (element_at g k).0; body = renamed same.element (as_tree (element_at g k).1) })
+  row_is : (k : ℕ) → k < n
+      → IsElementOf s (record { name = same.element k; class = (element_at g k).0; body = renamed same.element (as_tree (element_at g k).1) })
   row_is k l = All-contains (IsElementOf s) f.elements _ is.elements (same.bodies k (element_at g k).0 (element_at g k).1 (listed_row k l)).0
 
   listed : {l : Leaf} → IsReachedBySimpleForms s l → IsListed l

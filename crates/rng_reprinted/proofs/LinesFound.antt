@@ -1,18 +1,17 @@
 -- A name finds its line.
 use Rattle.std.proofs.Common.{◌≡◌, ◌∙◌, refl, sym, ap, subst, ℕ, ◌+◌, ◌<◌, ◌^◌, Bool, true, false, List, [], ◌∷◌, ◌++◌, length, map, Option, Some, None, arith}
-use Rattle.std.specs.Prelude.{not}
 use Rattle.std.specs.Str.{bytes_eq}
 use Rattle.rng_model.specs.Lists.{Among, here, there}
 use Rattle.rng_model.specs.Tree.{Tree, Connector}
 use Rattle.rng_model.specs.Table.{Grammar}
-use Rattle.rng_model.specs.Patterns.{Pattern, Point, pattern_tree}
+use Rattle.rng_model.specs.Patterns.{Point, pattern_tree}
 use Rattle.rng_model.specs.Schema.{Schema, Component, Definition, main_start, same_name, trees_named, connector_of, nested, body_among, body}
 use Rattle.rng_print.specs.Numbering.{has, place_in}
 use Rattle.rng_print.specs.PrintedText.{Item, same_item, item_name, IsItemsOf}
 use Rattle.rng_print.proofs.Booleans.{false_true}
 use Rattle.rng_print.proofs.Equal.{item_exact, item_itself, bytes_exact, bytes_itself}
 use Rattle.rng_print.proofs.Numberings.{AreNew, has_left, has_right, or_first}
-use Rattle.rng_reprinted.specs.LinesSchema.{reference_pattern, item_pattern, start_line, item_line, lines_components, IsSchemaOfLines}
+use Rattle.rng_reprinted.specs.LinesSchema.{reference_pattern, item_pattern, item_line, lines_components, IsSchemaOfLines}
 use Rattle.rng_reprinted.proofs.Listed.{each_once}
 use Rattle.rng_reprinted.proofs.ItemNames.{names_apart}
 
@@ -63,7 +62,8 @@ module _ (g : Grammar) (items : List Item) where
   none_named : (y : List ℕ) (n : ℕ) (js : List Item) → ((j : Item) → Among j js → item_name items j ≡ y → ⊥) → trees_named (Some y) n (rows js) ≡ []
   none_named y n [] h = refl
   none_named y n (j ∷ js) h =
-      without_name (Some y) n (item_line g items j) (rows js) (false_by (bytes_eq y (item_name items j)) (λ e. h j here (sym (bytes_exact y (item_name items j) e))))
+      without_name (Some y) n (item_line g items j) (rows js)
+      (false_by (bytes_eq y (item_name items j)) (λ e. h j here (sym (bytes_exact y (item_name items j) e))))
       ∙ none_named y (n + 1) js (λ i a. h i (there a))
 
   no_start : (n : ℕ) (js : List Item) → trees_named None n (rows js) ≡ []
@@ -98,7 +98,8 @@ module _ (g : Grammar) (items : List Item) where
             ∙ ap (λ (m : ℕ). line_tree m i ∷ []) place
         by_test rest_named false e =
             let name = false_by (bytes_eq (item_name items i) (item_name items j))
-            (λ f. false_true (sym e ∙ subst (λ (k : Item). same_item i k ≡ true) (name_of (bytes_exact (item_name items i) (item_name items j) f)) (item_itself i))) in
+            (λ f. false_true (sym e ∙
+            subst (λ (k : Item). same_item i k ≡ true) (name_of (bytes_exact (item_name items i) (item_name items j) f)) (item_itself i))) in
             let place : (n + 1) + place_in same_item js i ≡ n + place_in same_item (j ∷ js) i = rw e (omega arith) in
             without_name (Some (item_name items i)) n (item_line g items j) (rows js) name
             ∙ rest_named (in_rest i j js e a)

@@ -1,9 +1,9 @@
 -- The grammar that was printed is a simple grammar of the schema of its lines, and the only one up to the numbers of its elements.
-use Rattle.std.proofs.Common.{◌≡◌, ◌∙◌, refl, sym, ap, subst, ℕ, zero, suc, ◌+◌, ◌<◌, ◌^◌, List, [], ◌∷◌, length, get_or, Some, All, slice_get, arith}
+use Rattle.std.proofs.Common.{◌≡◌, ◌∙◌, refl, sym, ap, subst, ℕ, zero, suc, ◌+◌, ◌<◌, ◌^◌, List, [], ◌∷◌, length, get_or, arith}
 use Rattle.std.specs.Prelude.{Contains}
 use Rattle.std.proofs.lemmas.Option.{slice_get_within, get_or_from_slice_get}
 use Rattle.rng_model.specs.Names.{NameClass, any_name}
-use Rattle.rng_model.specs.Tree.{Tree, Simple, s_not_allowed, as_tree}
+use Rattle.rng_model.specs.Tree.{Simple, s_not_allowed, as_tree}
 use Rattle.rng_model.specs.Table.{Grammar}
 use Rattle.rng_model.specs.Leaves.{renamed, AreLeavesBelow}
 use Rattle.rng_model.specs.Schema.{Schema}
@@ -15,7 +15,8 @@ use Rattle.rng_simple.proofs.Renamed.{as_tree_renamed}
 use Rattle.rng_reprinted.specs.LinesSchema.{IsSchemaOfLines}
 use Rattle.rng_reprinted.proofs.GoodGrammars.{IsGoodGrammar}
 use Rattle.rng_reprinted.proofs.LineTrees.{leaf_at, placed, line_tree_of}
-use Rattle.rng_reprinted.proofs.LinesForm.{HasLine, number_at, number_back, below_of, class_is_form, start_is_tree, start_is_form, body_is_tree, body_is_form, has_line, is_line}
+use Rattle.rng_reprinted.proofs.LinesForm.{HasLine, number_at, number_back, below_of, class_is_form}
+use Rattle.rng_reprinted.proofs.LinesForm.{start_is_tree, start_is_form, body_is_tree, body_is_form, has_line, is_line}
 
 abbrev Row : Type 0
 Row = NameClass × Simple ℕ

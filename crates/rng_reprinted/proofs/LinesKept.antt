@@ -1,7 +1,6 @@
 -- The schema of the lines breaks no clause.
-use Rattle.std.proofs.Common.{◌≡◌, ◌∙◌, refl, sym, ap, subst, ℕ, ◌<◌, ◌≤◌, ◌^◌, List, length, arith}
+use Rattle.std.proofs.Common.{◌≡◌, ◌∙◌, sym, ap, subst, ℕ, ◌<◌, ◌≤◌, ◌^◌, List, length, arith}
 use Rattle.rng_model.specs.Lists.{Among}
-use Rattle.rng_model.specs.Names.{NameClass}
 use Rattle.rng_model.specs.ClassSteps.{IsSimpleClassOf}
 use Rattle.rng_model.specs.Tree.{Tree, Simple, as_tree}
 use Rattle.rng_model.specs.Table.{Grammar}
@@ -12,7 +11,7 @@ use Rattle.rng_model.specs.Schema.{Schema, main_start}
 use Rattle.rng_model.specs.SchemaClauses as clause
 use Rattle.rng_model.specs.SchemaClauses.{BreaksExpansion, BreaksDepth, BreaksSchemaClause, BreaksClause, BreaksNoClause}
 use Rattle.rng_model.specs.SchemaForm.{SimpleForm, IsSimpleFormOfSchema, IsSameUpToNumbering, IsSimpleGrammarOf, IsOnlySimpleGrammarOf}
-use Rattle.rng_model.specs.Simplification.{rewriting, Step, IsRewritten, no_step}
+use Rattle.rng_model.specs.Simplification.{rewriting, IsRewritten, no_step}
 use Rattle.rng_model.specs.Unfolding.{Leaf, IsTreeOf, IsBodyOf}
 use Rattle.rng_model.proofs.Unfolding.{one_tree}
 use Rattle.rng_print.specs.PrintedText.{Item, element, element_at, IsItemsOf}
@@ -20,7 +19,6 @@ use Rattle.rng_print.specs.Renumbered.{AreSameUpToNumbering}
 use Rattle.rng_print.proofs.OneForm.{one_form, same_numbering}
 use Rattle.rng_graph.specs.InTwos.{in_twos}
 use Rattle.rng_graph.proofs.InTwos.{rewritten_is}
-use Rattle.rng_graph.proofs.SimpleClass.{is_only_simple_class}
 use Rattle.rng_simple.proofs.NumberedSchema.{one_of_definition, same_class, only_simple_grammar}
 use Rattle.rng_simple.proofs.Renamed.{origin}
 use Rattle.rng_simple.proofs.SameRestrictions.{same_restrictions}
@@ -28,7 +26,7 @@ use Rattle.rng_reprinted.specs.LinesSchema.{IsSchemaOfLines, IsReprinted, IsRepr
 use Rattle.rng_print.specs.SchemaText.{IsPrintedForm}
 use Rattle.rng_reprinted.proofs.FewItems.{items_few}
 use Rattle.rng_reprinted.proofs.Flattened.{leaves_flattened, twos_flattened}
-use Rattle.rng_reprinted.proofs.GoodGrammars.{IsGoodTree, IsGoodBody, IsGoodGrammar, IsLastSimple, good_grammar}
+use Rattle.rng_reprinted.proofs.GoodGrammars.{IsGoodTree, IsGoodBody, IsGoodGrammar, good_grammar}
 use Rattle.rng_reprinted.proofs.LineTrees.{leaf_at, placed, line_tree_of}
 use Rattle.rng_reprinted.proofs.LinesForm.{HasLine, IsLine, placed_last, below_of, class_is_form, start_leaf, body_leaf, start_is_tree, body_is_tree, has_line}
 use Rattle.rng_reprinted.proofs.LinesGrammar.{lines_grammar}

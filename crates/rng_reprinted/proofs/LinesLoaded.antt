@@ -1,21 +1,19 @@
 -- What is answered where the file of the lines is handed in as the main one.
-use Rattle.std.proofs.Common.{◌≡◌, refl, sym, subst, inl, inr, ℕ, ◌<◌, ◌≤◌, ◌^◌, List, [], ◌∷◌, length, arith, Option, Some, Result, Ok, Err}
-use Rattle.std.specs.Prelude.{MatchResult, string_bytes}
+use Rattle.std.proofs.Common.{◌≡◌, refl, subst, inl, inr, ℕ, ◌≤◌, List, [], ◌∷◌, length, arith, Result, Ok, Err}
+use Rattle.std.specs.Prelude.{MatchResult}
 use Rattle.rng_model.specs.Lists.{here, HasTwo, first_and, both_later}
 use Rattle.rng_model.specs.Schema.{Schema}
-use Rattle.rng_model.specs.SchemaClauses.{BreaksNoClause}
 use Rattle.rng_model.specs.Table.{Grammar}
 use Rattle.rng_model.specs.declared.fault.SchemaFault.{SchemaFault}
 use Rattle.rng_model.specs.declared.fault.SchemaFault.TheVariants as faults
 use Rattle.rng_load.specs.LoadedSchema.{AreSchema, IsLoaded}
-use Rattle.rng_load.specs.Loading.{TakenFiles, FilesVerdict, file_breaks, together_break, are_taken, IsTheFilesVerdict}
+use Rattle.rng_load.specs.Loading.{TakenFiles, file_breaks, together_break, are_taken}
 use Rattle.rng_load.specs.PlacedGrammars.{schema_of}
 use Rattle.rng_load.specs.SchemaFile.{Name, NamedFile, HasTree, BreaksLimit, size_limit}
 use Rattle.rng_load.specs.declared.schema.Schema as loaded
 use Rattle.rng_print.specs.PrintedText.{Item}
-use Rattle.rng_print.specs.SchemaText.{IsPrintedForm}
 use Rattle.rng_reprinted.specs.HandedIn.{lines_alone, IsHandedInAgain, IsAgain, IsPrintedFile, text_alone}
-use Rattle.rng_reprinted.specs.LinesSchema.{IsSchemaOfLines, IsReprintedAs}
+use Rattle.rng_reprinted.specs.LinesSchema.{IsSchemaOfLines}
 use Rattle.rng_reprinted.specs.LinesTree.{lines_tree}
 use Rattle.rng_reprinted.proofs.LinesKept.{reprinted_text}
 use Rattle.rng_reprinted.proofs.LinesTaken.{lines_taken, lines_are_schema}
@@ -44,7 +42,8 @@ module _ (files : List NamedFile) (main : Name) (g : Grammar) (items : List Item
 
 module _ (s : Schema) (text : List ℕ) (files : List NamedFile) (main : Name) (h : IsHandedInAgain s text files main) where
   again : (result : Result loaded.Schema SchemaFault)
-      → MatchResult result (λ r. IsSchemaOfLines h.printed.grammar h.printed.is_printed.items (schema_of r)) (λ fault. fault ≡ faults.Memory) → IsAgain text result
+      → MatchResult result (λ r. IsSchemaOfLines h.printed.grammar h.printed.is_printed.items (schema_of r)) (λ fault. fault ≡ faults.Memory)
+      → IsAgain text result
   again (Ok r) lines = reprinted_text s (schema_of r) text (record { kept = h.kept; printed = h.printed; few = h.few; lines = lines })
   again (Err fault) e = e
 

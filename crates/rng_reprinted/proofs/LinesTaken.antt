@@ -1,5 +1,6 @@
 -- The file of the lines, handed in as the main one, is taken alone, and breaks no clause of files together.
-use Rattle.std.proofs.Common.{◌≡◌, ◌∙◌, refl, sym, ap, ap₂, subst, inl, inr, ℕ, ◌<◌, Bool, true, false, cond, List, [], ◌∷◌, ◌++◌, map, length, Option, Some, None, slice_get, arith}
+use Rattle.std.proofs.Common.{◌≡◌, ◌∙◌, refl, sym, ap, ap₂, subst, inl, inr, ℕ, ◌<◌, Bool, true, false, cond, List, [], ◌∷◌, ◌++◌, map}
+use Rattle.std.proofs.Common.{length, Option, Some, None, slice_get, arith}
 use Rattle.std.specs.List.{fold}
 use Rattle.std.proofs.lemmas.Option.{slice_get_within}
 use Rattle.std.specs.Str.{bytes_eq}
@@ -12,7 +13,7 @@ use Rattle.rng_print.proofs.Equal.{bytes_itself}
 use Rattle.rnc_grammar.specs.FileTree as tree
 use Rattle.rnc_grammar.specs.FileTree.{FileTree}
 use Rattle.rnc_grammar.specs.Mentions.{MentionedFile, mention_of, mentions_of, mentions_of_pattern, mentions_of_component, mentions_of_components}
-use Rattle.rng_load.specs.MentionPaths.{Path, Mentions, directly, through, IsPath, path_ends, path_goes_on, HasMorePathsThan, BreaksMentions, path_limit}
+use Rattle.rng_load.specs.MentionPaths.{Path, Mentions, directly, through, IsPath, path_ends, path_goes_on, BreaksMentions, path_limit}
 use Rattle.rng_load.specs.Loading.{TakenFiles, with_name, hrefs_of, tree_in, hrefs_if, hrefs_in, none_yet, one_more, AreTaken, BreaksIncludes, BreaksTogether}
 use Rattle.rng_load.specs.Loading.{mentions_break, includes_break, are_taken, IsFilesVerdict}
 use Rattle.rng_load.specs.LoadedSchema.{AreSchema}

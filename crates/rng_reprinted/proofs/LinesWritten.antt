@@ -1,5 +1,5 @@
 -- What is written in the lines of a printed grammar.
-use Rattle.std.proofs.Common.{◌≡◌, ◌∙◌, refl, sym, ap, subst, ℕ, ◌+◌, ◌<◌, ◌^◌, List, [], ◌∷◌, ◌++◌, length, map, Option, Some, None}
+use Rattle.std.proofs.Common.{◌≡◌, ◌∙◌, refl, sym, ap, subst, ℕ, ◌<◌, ◌^◌, List, [], ◌∷◌, ◌++◌, length, map, Option, Some, None}
 use Rattle.rng_model.specs.Lists.{Among, here, there, HasTwo, first_and, both_later}
 use Rattle.rng_model.specs.Names.{NameClass}
 use Rattle.rng_model.specs.Datatypes.{IsAllowed}
@@ -10,11 +10,8 @@ use Rattle.rng_model.specs.Patterns.{Place, Pattern, IsWrittenIn, without_parame
 use Rattle.rng_model.specs.Schema.{Schema, Component, HasComponent, IsWrittenAt}
 use Rattle.rng_model.specs.SchemaClauses as clause
 use Rattle.rng_model.specs.SchemaClauses.{BreaksNameClass, BreaksDatatype, BreaksCombination, HasNoStart, BreaksRef}
-use Rattle.rng_model.specs.declared.method.Method.{Method}
 use Rattle.rng_model.specs.declared.method.Method.TheVariants as methods
-use Rattle.rng_model.proofs.Unfolding.{some_is}
 use Rattle.rng_print.specs.PrintedText.{Item, element, pattern, item_of, item_name, element_at, parts_of, mentions, IsItemsOf}
-use Rattle.rng_graph.specs.InTwos.{nested}
 use Rattle.rng_reprinted.specs.LinesSchema.{flattened, reference_pattern, item_pattern, start_line, item_line, lines_components, IsSchemaOfLines}
 use Rattle.rng_reprinted.proofs.ClassParts.{IsGoodClass, IsFreeOfDeclarations, good_nested, good_from_nested, free_from_nested}
 use Rattle.rng_reprinted.proofs.Flattened.{nested_flattened}
@@ -141,7 +138,8 @@ module _ (g : Grammar) (items : List Item) (good : IsGoodGrammar g) (numbered : 
   good_flattened : (c : NameClass) → IsGoodClass c → IsGoodClass (flattened c)
   good_flattened c h = good_from_nested (flattened c) (subst IsGoodClass (sym (nested_flattened c)) (good_nested c h))
 
-  in_tree_line : (a : Simple ℕ) → IsWhole a → IsGoodTree n a → AreAmong items (parts_of a) → (q : Pattern) → IsWrittenIn q (item_pattern g items (pattern a)) → Asked q
+  in_tree_line : (a : Simple ℕ) → IsWhole a → IsGoodTree n a → AreAmong items (parts_of a) → (q : Pattern)
+      → IsWrittenIn q (item_pattern g items (pattern a)) → Asked q
   in_tree_line s_not_allowed w h m q i = absurd w
   in_tree_line s_empty w h m q i = absurd w
   in_tree_line s_text w h m q i = absurd w

@@ -1,17 +1,15 @@
 -- What the lines of a grammar mention has a line, and each line stands once.
-use Rattle.std.proofs.Common.{◌≡◌, ◌∙◌, refl, sym, ap, subst, inl, inr, ℕ, zero, suc, ◌+◌, ◌<◌, Bool, true, false, List, [], ◌∷◌, ◌++◌, flat_map, arith}
+use Rattle.std.proofs.Common.{◌≡◌, sym, subst, inl, inr, zero, suc, true, List, [], ◌∷◌, ◌++◌, flat_map, arith}
 use Rattle.std.specs.Prelude.{Contains}
 use Rattle.std.specs.List.{AllByRecursion}
 use Rattle.std.proofs.lemmas.Bool.{or_cases}
 use Rattle.rng_model.specs.Lists.{Among, here, there}
 use Rattle.rng_model.specs.Table.{Grammar}
-use Rattle.rng_model.specs.Tree.{Simple}
-use Rattle.rng_print.specs.Numbering.{has, first_times, IsReached, at_start, in_line, IsNumbering}
+use Rattle.rng_print.specs.Numbering.{has, IsReached, at_start, in_line}
 use Rattle.rng_print.specs.PrintedText.{Item, same_item, item_of, mentions, IsItemsOf}
 use Rattle.rng_print.proofs.Booleans.{false_true}
 use Rattle.rng_print.proofs.Equal.{item_exact, item_itself}
-use Rattle.rng_print.proofs.Numberings.{AreNew, numbering_new, has_contained, has_left, has_right, and_has_right, or_first, or_second, all_contained, all_each}
-use Rattle.rng_print.proofs.Numberings.{contains_first}
+use Rattle.rng_print.proofs.Numberings.{AreNew, numbering_new, and_has_right, or_first, or_second}
 
 -- ---- what is among a list
 

@@ -21,9 +21,6 @@ listed_names : (cs : List names.NameClass) → list_of (names.classes_of cs) ≡
 listed_names [] = refl
 listed_names (c ∷ cs) = ap (λ (xs : List names.NameClass). c ∷ xs) (listed_names cs)
 
-listed_behind : (cs : names.NameClasses) (x : names.NameClass) (xs : List names.NameClass) → list_of (names.classes_of (list_of cs ++ x ∷ xs)) ≡ list_of cs ++ x ∷ xs
-listed_behind cs x xs = listed_names (list_of cs ++ x ∷ xs)
-
 -- two members and more are those of their choice
 members_some : (c x : names.NameClass) (xs : List names.NameClass) → members_in (some_of (members_in c ++ x ∷ xs)) ≡ members_in c ++ x ∷ xs
 members_some names.any_name x xs = ap (λ (ys : List names.NameClass). names.any_name ∷ x ∷ ys) (listed_names xs)

@@ -1,5 +1,5 @@
 -- A step of simplification asks nothing of the names of leaves, so one from a tree is one from the tree with other names.
-use Rattle.std.proofs.Common.{◌≡◌, refl, subst}
+use Rattle.std.proofs.Common.{◌≡◌, refl}
 use Rattle.rng_model.specs.Tree.{Tree, not_allowed, empty, text, leaf, attribute, list, data_of, data_except, value, mixed, optional}
 use Rattle.rng_model.specs.Tree.{zero_or_more, one_or_more, joined, Trees}
 use Rattle.rng_model.specs.Leaves.{renamed, all_renamed}

@@ -2,13 +2,13 @@
 use Rattle.std.proofs.Common.{◌≡◌, refl, ap, ap₂, ℕ, ◌+◌, ◌≤◌, arith}
 use Rattle.std.specs.Prelude.{max}
 use Rattle.rng_model.specs.Names.{NameClass}
-use Rattle.rng_model.specs.Tree.{Tree, Trees, Connector, choice, group, interleave, not_allowed, empty, text, leaf, attribute, list, data_of, data_except, value}
-use Rattle.rng_model.specs.Tree.{mixed, optional, zero_or_more, one_or_more, joined, no_trees, tree_and, Datatype}
+use Rattle.rng_model.specs.Tree.{Tree, Trees, Connector, choice, group, interleave, not_allowed, empty, text, leaf, attribute, list, data_of, data_except}
+use Rattle.rng_model.specs.Tree.{value, mixed, optional, zero_or_more, one_or_more, joined, no_trees, tree_and, Datatype}
 use Rattle.rng_model.specs.Tree.{Simple, s_not_allowed, s_empty, s_text, s_leaf, s_attribute, s_list, s_data, s_data_except, s_value, s_one_or_more, s_joined}
 use Rattle.rng_model.specs.Depth.{depth, class_depth}
 use Rattle.rng_graph.specs.InTwos.{nested, in_twos, more_in_twos}
-use Rattle.rng_simple.specs.SimpleOf.{Sort, nothing, blank, proper, sort_of, attribute_by, list_by, except_by, one_or_more_by, choice_by, both_by, join, some_of}
-use Rattle.rng_simple.specs.SimpleOf.{simple_of, join_all}
+use Rattle.rng_simple.specs.SimpleOf.{Sort, nothing, blank, proper, sort_of, attribute_by, list_by, except_by, one_or_more_by, choice_by, both_by, join}
+use Rattle.rng_simple.specs.SimpleOf.{some_of, simple_of, join_all}
 use Rattle.rng_simple.specs.Renamed.{simple_renamed}
 
 module _ {L : Type 0} where
@@ -82,7 +82,8 @@ module _ {L : Type 0} where
     simple_depth (mixed a) = join_depth interleave (simple_of a) s_text (depth (in_twos a)) 1 (simple_depth a) (omega arith)
     simple_depth (optional a) = join_depth choice (simple_of a) s_empty (depth (in_twos a)) 1 (simple_depth a) (omega arith)
     simple_depth (zero_or_more a) =
-        join_depth choice (some_of (simple_of a)) s_empty (depth (in_twos a) + 1) 1 (some_depth (sort_of (simple_of a)) (simple_of a) (depth (in_twos a)) (simple_depth a))
+        join_depth choice (some_of (simple_of a)) s_empty (depth (in_twos a) + 1) 1
+        (some_depth (sort_of (simple_of a)) (simple_of a) (depth (in_twos a)) (simple_depth a))
         (omega arith)
     simple_depth (one_or_more a) = some_depth (sort_of (simple_of a)) (simple_of a) (depth (in_twos a)) (simple_depth a)
     simple_depth (joined k a b ts) =

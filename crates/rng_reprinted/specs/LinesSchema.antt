@@ -10,7 +10,7 @@ use Rattle.rng_model.specs.Schema.{Schema, Component}
 use Rattle.rng_model.specs.SchemaForm.{IsSimpleGrammarOf}
 use Rattle.rng_model.specs.SchemaClauses.{BreaksNoClause}
 use Rattle.rng_model.specs.declared.method.Method.TheVariants as methods
-use Rattle.rng_print.specs.PrintedText.{Item, element, pattern, element_at, item_name, IsItemsOf, IsPrinted}
+use Rattle.rng_print.specs.PrintedText.{Item, element, pattern, element_at, item_name, IsItemsOf}
 use Rattle.rng_print.specs.SchemaText.{IsPrintedForm}
 
 -- ---- name classes: a choice that is the first member of a choice is written without parentheses, so its members are members

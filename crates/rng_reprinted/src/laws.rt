@@ -25,7 +25,8 @@ pub fn reprinting_laws()
     ensures kept { (s r : Schema) (g : Grammar) (items : List Item) → IsReprinted s r g items → BreaksNoClause r }
     ensures form { (s r : Schema) (g : Grammar) (items : List Item) → IsReprinted s r g items → IsSimpleGrammarOf r g }
     ensures only { (s r : Schema) (g : Grammar) (items : List Item) → IsReprinted s r g items → IsOnlySimpleGrammarOf r g }
-    ensures numbers { (s r : Schema) (g : Grammar) (items : List Item) → IsReprinted s r g items → (other : Grammar) → IsSimpleGrammarOf r other → AreSameUpToNumbering g other }
+    ensures numbers { (s r : Schema) (g : Grammar) (items : List Item) → IsReprinted s r g items → (other : Grammar)
+        → IsSimpleGrammarOf r other → AreSameUpToNumbering g other }
     ensures printed { (s r : Schema) (text : List ℕ) → IsReprintedAs s r text → BreaksNoClause r × IsPrintedForm r text }
     ensures same { (s r : Schema) (text other : List ℕ) → IsReprintedAs s r text → IsPrintedForm r other → other ≡ text }
 {}
@@ -37,9 +38,11 @@ pub fn reprinting_laws()
 /// clause, the schema that is loaded breaks none either, and the same is printed for it; a fault is want of memory. This
 /// holds of the text handed in alone, where it is no longer than a file may be.
 pub fn printed_file_laws()
-    ensures taken { (files : List NamedFile) (main : Name) (g : Grammar) (items : List Item) → HasTree files main main (lines_tree g items) → IsFilesVerdict files main (are_taken (lines_alone main g items)) }
+    ensures taken { (files : List NamedFile) (main : Name) (g : Grammar) (items : List Item) → HasTree files main main (lines_tree g items)
+        → IsFilesVerdict files main (are_taken (lines_alone main g items)) }
     ensures lines { (main : Name) (g : Grammar) (items : List Item) (r : Schema) → AreSchema (lines_alone main g items) main r → IsSchemaOfLines g items r }
     ensures there { (main : Name) (g : Grammar) (items : List Item) → AreSchema (lines_alone main g items) main (schema_of_lines g items) }
     ensures alone { (s : Schema) (text : List ℕ) → IsPrintedFile s text → (main : Name) → IsHandedInAgain s text (text_alone main text) main }
-    ensures again { (s : Schema) (text : List ℕ) (files : List NamedFile) (main : Name) → IsHandedInAgain s text files main → (result : Result loaded.Schema SchemaFault) → IsLoaded files main result → IsAgain text result }
+    ensures again { (s : Schema) (text : List ℕ) (files : List NamedFile) (main : Name) → IsHandedInAgain s text files main
+        → (result : Result loaded.Schema SchemaFault) → IsLoaded files main result → IsAgain text result }
 {}
