@@ -14,10 +14,10 @@ use Rattle.rng_run.specs.Run as run
 use Rattle.rng_run.specs.Run.{IsTold, IsAnswerBy, IsAnswerTo, IsAnswer}
 use Rattle.rng_run.specs.declared.running.Command.TheVariants.{Valid, Check, Simple}
 
-not_check : {A : Type 0} → Simple ≡ Check → A
+pub not_check : {A : Type 0} → Simple ≡ Check → A
 not_check e = cc
 
-not_valid : {A : Type 0} → Simple ≡ Valid → A
+pub not_valid : {A : Type 0} → Simple ≡ Valid → A
 not_valid e = cc
 
 module _ (s : Schema) (text : List ℕ) (files : List NamedFile) (main : Name) (h : IsHandedInAgain s text files main) (input_old input_new : Option (List ℕ))
