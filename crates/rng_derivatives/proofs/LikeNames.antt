@@ -141,17 +141,24 @@ module _ (g : Reading) where
 
 -- ---- names of one key
 
-module _ (tbl : Table) (keys : Keys) (serve : KeysServe tbl keys) (q r : Name) (same : key_of keys q ≡ key_of keys r) where
-  held_alike : (c : NameClass) → keyed.Serves keys c → holds c q ≡ true → holds c r ≡ true
-  held_alike c s e =
-      let there : In c (name_at keys (key_of keys q)) = (s q).0 ((holds-Decides c q).0 e) in
-      (holds-Decides c r).1 ((s r).1 (subst (λ k. In c (name_at keys k)) same there))
+less : (tbl : Table) (q r : Name) → ((x : declared.NameClass × PatternId) (k : ℕ) → slice_get tbl.elements k ≡ Some x
+    → holds (class_of x.0) q ≡ true → holds (class_of x.0) r ≡ true) → IsNoLess (reading_of tbl) q r
+less tbl q r held k e = by (slice_get tbl.elements k) refl
+  where
+    by : (o : Option (declared.NameClass × PatternId)) → slice_get tbl.elements k ≡ o → has_name (reading_of tbl) k r ≡ true
+    by None missing = absurd (true≢false (sym e ∙ no_class_there tbl k q missing))
+    by (Some x) found = class_there tbl k x r found ∙ held x k found (sym (class_there tbl k x q found) ∙ e)
+
+-- the first name stands for the key of the second
+module _ (tbl : Table) (keys : Keys) (serve : KeysServe tbl keys) (q r : Name) (same : name_at keys (key_of keys r) ≡ q) where
+  held_by_each : (c : NameClass) → keyed.Serves keys c → holds c q ≡ true → holds c r ≡ true
+  held_by_each c s e = (holds-Decides c r).1 ((s r).1 (subst (In c) (sym same) ((holds-Decides c q).0 e)))
+
+  held_for_each : (c : NameClass) → keyed.Serves keys c → holds c r ≡ true → holds c q ≡ true
+  held_for_each c s e = (holds-Decides c q).1 (subst (In c) same ((s r).0 ((holds-Decides c r).0 e)))
 
   pub no_less : IsNoLess (reading_of tbl) q r
-  no_less k e = by (slice_get tbl.elements k) refl
-    where
-      by : (o : Option (declared.NameClass × PatternId)) → slice_get tbl.elements k ≡ o → has_name (reading_of tbl) k r ≡ true
-      by None missing = absurd (true≢false (sym e ∙ no_class_there tbl k q missing))
-      by (Some x) found =
-          class_there tbl k x r found
-          ∙ held_alike (class_of x.0) (serve (class_of x.0) (keyed.of_element k x found refl)) (sym (class_there tbl k x q found) ∙ e)
+  no_less = less tbl q r (λ x k found. held_by_each (class_of x.0) (serve (class_of x.0) (keyed.of_element k x found refl)))
+
+  pub no_more : IsNoLess (reading_of tbl) r q
+  no_more = less tbl r q (λ x k found. held_for_each (class_of x.0) (serve (class_of x.0) (keyed.of_element k x found refl)))

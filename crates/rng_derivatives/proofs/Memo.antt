@@ -9,7 +9,7 @@ use Rattle.std.specs.Map.{lookup}
 use Rattle.rng_model.specs.Names.{Name}
 use Rattle.rng_model.specs.Table.{Table}
 use Rattle.rng_model.specs.Tree.{Simple}
-use Rattle.rng_keys.specs.Keys.{Keys, KeysServe, key_of}
+use Rattle.rng_keys.specs.Keys.{Keys, KeysServe, key_of, name_at}
 use Rattle.rng_matching.specs.LevelStates as level
 use Rattle.rng_matching.specs.Reading.{Reading}
 use Rattle.rng_patterns.specs.Node.{Node}
@@ -17,13 +17,15 @@ use Rattle.rng_patterns.specs.PatternTable as nodes
 use Rattle.rng_patterns.specs.Trees.{trees}
 use Rattle.rng_patterns.specs.declared.pattern.PatternNumber.{PatternNumber}
 use Rattle.rng_ways.specs.Kinds.{reading_of}
+use Rattle.rng_ways.specs.KnownWays.{AreAllKnown}
+use Rattle.rng_ways.specs.declared.known.Known.{Known}
 use Rattle.rng_matcher.specs.Numbers.{AddsStarts, IsInside, Longer, tree_of, way_of}
 use Rattle.rng_matcher.specs.declared.derivatives.Way.{Way}
 use Rattle.rng_matcher.proofs.Numbers.{inside_stays, longer_same, tree_stays}
 use Rattle.rng_derivatives.specs.StartMemo.{AreAnswer, HasKept}
 use Rattle.rng_derivatives.specs.declared.start_memo.StartKey.{StartKey}
 use Rattle.rng_derivatives.specs.contracts.start_memo.StartKeyPartialEq.TheImpl as same
-use Rattle.rng_derivatives.proofs.LikeNames.{no_less, starts_alike}
+use Rattle.rng_derivatives.proofs.LikeNames.{no_less, no_more, starts_alike}
 use Rattle.rng_derivatives.specs.Serving.{IsServedBy}
 use Rattle.rng_derivatives.proofs.Served.{served_longer, trees_longer}
 
@@ -80,24 +82,26 @@ module _ (t : Table) (old new : List Node) (keys : Keys) (longer : nodes.Longer 
     answers = λ q e. starts_stay (trees t old) (trees t new) (trees_longer t old new longer) (reading_of t) q k.pattern ws a.asked (a.answers q e);
   }
 
-  module _ {Y Z : Type 0} (numbers : List PatternNumber) (memo : HashMap StartKey (Vec Way Y) Z) (served : IsServedBy t keys (Some old) numbers memo) where
-    pub serves_longer : IsServedBy t keys (Some new) numbers memo
-    serves_longer = (served_longer t old new numbers longer served.0, served.1, λ k ws h. answer_stays k ws (served.2 k ws h))
+  module _ {Y Z : Type 0} (numbers : List PatternNumber) (memo : HashMap StartKey (Vec Way Y) Z) (known : Known)
+      (served : IsServedBy t keys (Some old) numbers memo known) (more : Known) (all : AreAllKnown t keys new more) where
+    pub serves_longer : IsServedBy t keys (Some new) numbers memo more
+    serves_longer = (served_longer t old new numbers longer served.0, served.1, (λ k ws h. answer_stays k ws (served.2 k ws h)), all)
 
     -- and one answer more
-    pub serves_more : (more : HashMap StartKey (Vec Way Y) Z) (start : StartKey) (ways : List Way) → AreAnswer t new keys start ways
-        → ((k : StartKey) (ws : List Way) → HasKept more k ws → HasKept memo k ws ⊎ ((k ≡ start) × (ws ≡ ways))) → IsServedBy t keys (Some new) numbers more
-    serves_more more start ways answer within = (
+    pub serves_more : (kept : HashMap StartKey (Vec Way Y) Z) (start : StartKey) (ways : List Way) → AreAnswer t new keys start ways
+        → ((k : StartKey) (ws : List Way) → HasKept kept k ws → HasKept memo k ws ⊎ ((k ≡ start) × (ws ≡ ways))) → IsServedBy t keys (Some new) numbers kept more
+    serves_more kept start ways answer within = (
       served_longer t old new numbers longer served.0,
       served.1,
-      λ k ws h. ⊎_elim (λ a. answer_stays k ws (served.2 k ws a))
-          (λ b. subst (λ k. AreAnswer t new keys k ws) (sym b.0) (subst (AreAnswer t new keys start) (sym b.1) answer)) (within k ws h),
+      (λ k ws h. ⊎_elim (λ a. answer_stays k ws (served.2 k ws a))
+          (λ b. subst (λ k. AreAnswer t new keys k ws) (sym b.0) (subst (AreAnswer t new keys start) (sym b.1) answer)) (within k ws h)),
+      all,
     )
 
--- the answer for one name is one for each name of its key
-module _ (t : Table) (keys : Keys) (serve : KeysServe t keys) (old new : List Node) (q : Name) (k : StartKey) (ws : List Way)
-    (asked : IsInside (trees t old) k.pattern) (named : k.name.0 ≡ key_of keys q)
-    (adds : AddsStarts (reading_of t) q (trees t old) (trees t new) (tree_of (trees t old) k.pattern) ws) where
+-- the answer for the name that stands for a key is one for each name of the key
+module _ (t : Table) (keys : Keys) (serve : KeysServe t keys) (old new : List Node) (k : StartKey) (ws : List Way)
+    (asked : IsInside (trees t old) k.pattern)
+    (adds : AddsStarts (reading_of t) (name_at keys k.name.0) (trees t old) (trees t new) (tree_of (trees t old) k.pattern) ws) where
   pub is_answer : AreAnswer t new keys k ws
   is_answer = record {
     asked = inside_stays (trees t old) (trees t new) adds.longer k.pattern asked;
@@ -105,10 +109,11 @@ module _ (t : Table) (keys : Keys) (serve : KeysServe t keys) (old new : List No
       longer = longer_same (trees t new);
       inside = adds.inside;
       starts =
-          let same : key_of keys q ≡ key_of keys r = sym named ∙ sym e in
+          let q = name_at keys k.name.0 in
+          let same : name_at keys (key_of keys r) ≡ q = ap (name_at keys) e in
           subst (λ p. level.AreStarts (reading_of t) r p (map (way_of (trees t new)) ws))
           (sym (tree_stays (trees t old) (trees t new) adds.longer k.pattern asked))
-          (starts_alike (reading_of t) q r (no_less t keys serve q r same) (no_less t keys serve r q (sym same)) (tree_of (trees t old) k.pattern)
+          (starts_alike (reading_of t) q r (no_less t keys serve q r same) (no_more t keys serve q r same) (tree_of (trees t old) k.pattern)
           (map (way_of (trees t new)) ws) adds.starts);
     };
   }
@@ -120,3 +125,19 @@ pub found_added : (t : Table) (keys : Keys) (ns : List Node) (seen : Table × Li
 found_added t keys ns seen view q k ws copy answer named same =
     subst (λ (s : Table × List Node). AddsStarts (reading_of s.0) q (trees s.0 s.1) (trees t ns) (tree_of (trees s.0 s.1) k.pattern) copy) view
     (subst (AddsStarts (reading_of t) q (trees t ns) (trees t ns) (tree_of (trees t ns) k.pattern)) (sym same) (answer.answers q (sym named)))
+
+-- what starts for the name that stands for a key starts for each name of the key
+module _ (t : Table) (keys : Keys) (serve : KeysServe t keys) (old new : List Node) (seen : Table × List Node) (view : (t, old) ≡ seen) (q : Name) (k : ℕ)
+    (named : k ≡ key_of keys q) (p : PatternNumber) (ws : List Way) where
+  pub for_each_name : AddsStarts (reading_of seen.0) (name_at keys k) (trees seen.0 seen.1) (trees t new) (tree_of (trees seen.0 seen.1) p) ws
+      → AddsStarts (reading_of seen.0) q (trees seen.0 seen.1) (trees t new) (tree_of (trees seen.0 seen.1) p) ws
+  for_each_name =
+      let same : name_at keys (key_of keys q) ≡ name_at keys k = ap (name_at keys) (sym named) in
+      let P : Table × List Node → Type 0 = λ s. AddsStarts (reading_of s.0) (name_at keys k) (trees s.0 s.1) (trees t new) (tree_of (trees s.0 s.1) p) ws
+      → AddsStarts (reading_of s.0) q (trees s.0 s.1) (trees t new) (tree_of (trees s.0 s.1) p) ws in
+      subst P view (λ adds. record {
+        longer = adds.longer;
+        inside = adds.inside;
+        starts = starts_alike (reading_of t) (name_at keys k) q (no_less t keys serve (name_at keys k) q same) (no_more t keys serve (name_at keys k) q same)
+            (tree_of (trees t old) p) (map (way_of (trees t new)) ws) adds.starts;
+      })

@@ -28,6 +28,7 @@ use Rattle.rng_ways.specs.After.{IsLeftOfTag}
 use Rattle.rng_ways.specs.Kinds.{Obeys, reading_of}
 use Rattle.rng_ways.specs.Starting as starting
 use Rattle.rng_ways.specs.Ways.{ways_by}
+use Rattle.rng_ways.specs.declared.known.Known.{Known}
 use Rattle.rng_ways.specs.declared.way.Place.{Place}
 use Rattle.rng_ways.specs.declared.way.Place.TheVariants as places
 use Rattle.rng_ways.specs.declared.way.Way as numbered
@@ -123,8 +124,9 @@ none_there t table seen n none view inside =
     absurd (omega (arith, at, same))
 
 pub there_served : {Y Z : Type 0} (t : Table) (keys : Keys) (table : Option (List Node)) (ns : List Node) (numbers : List PatternNumber)
-    (memo : HashMap StartKey (Vec Way Y) Z) → table ≡ Some ns → IsServedBy t keys table numbers memo → IsServedBy t keys (Some ns) numbers memo
-there_served t keys table ns numbers memo there served = subst (λ (o : Option (List Node)). IsServedBy t keys o numbers memo) there served
+    (memo : HashMap StartKey (Vec Way Y) Z) (known : Known) → table ≡ Some ns → IsServedBy t keys table numbers memo known
+    → IsServedBy t keys (Some ns) numbers memo known
+there_served t keys table ns numbers memo known there served = subst (λ (o : Option (List Node)). IsServedBy t keys o numbers memo known) there served
 
 -- ---- what is added
 

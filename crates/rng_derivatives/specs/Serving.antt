@@ -6,7 +6,9 @@ use Rattle.rng_matcher.specs.declared.derivatives.Way.{Way}
 use Rattle.rng_model.specs.Table.{Table}
 use Rattle.rng_patterns.specs.Node.{Node}
 use Rattle.rng_patterns.specs.declared.pattern.PatternNumber.{PatternNumber}
+use Rattle.rng_ways.specs.KnownWays.{AreAllKnown}
 use Rattle.rng_ways.specs.Starting.{IsReady, HasRestrictedBodies}
+use Rattle.rng_ways.specs.declared.known.Known.{Known}
 use Rattle.rng_derivatives.specs.StartMemo.{AreAnswers}
 use Rattle.rng_derivatives.specs.declared.start_memo.StartKey.{StartKey}
 
@@ -15,10 +17,10 @@ pub record IsServed (t : Table) (ns : List Node) (numbers : List PatternNumber) 
   pub ready : IsReady t ns numbers
   pub bodies : HasRestrictedBodies t ns numbers
 
--- so it is, and what is kept of starts is so in the table, where there is one
-abbrev pub IsServedBy : {Y Z : Type 0} → Table → Keys → Option (List Node) → List PatternNumber → HashMap StartKey (Vec Way Y) Z → Type 0
-IsServedBy t keys None numbers memo = ⊤
-IsServedBy t keys (Some ns) numbers memo = IsServed t ns numbers × KeysServe t keys × AreAnswers t ns keys memo
+-- so it is, and what is kept of starts and known of ways is so in the table, where there is one
+abbrev pub IsServedBy : {Y Z : Type 0} → Table → Keys → Option (List Node) → List PatternNumber → HashMap StartKey (Vec Way Y) Z → Known → Type 0
+IsServedBy t keys None numbers memo known = ⊤
+IsServedBy t keys (Some ns) numbers memo known = IsServed t ns numbers × KeysServe t keys × AreAnswers t ns keys memo × AreAllKnown t keys ns known
 
 -- the patterns of a table; none where there is no table
 abbrev pub nodes_in : Option (List Node) → List Node

@@ -13,7 +13,7 @@ use rng_keys::NameKeys;
 use rng_matcher::{Derivatives, Way};
 use rng_model::{Attr, Name, OutOfMemory, SimpleGrammar};
 use rng_patterns::{PatternNumber, PatternTable};
-use rng_ways::{after_tag, after_text, start};
+use rng_ways::{Known, after_tag, after_text, start};
 use std::alloc::Global;
 use std::collections::HashMap;
 use std::marker::Model;
@@ -22,7 +22,7 @@ use std::marker::Model;
 ///
 /// RELAX NG Specification, sections 6.2 and 7. After want of memory there is no pattern any more. The ways of a start are
 /// kept: the next start of the pattern, by a name that the grammar does not tell apart, costs some look-ups by hashing and a
-/// copy of its ways.
+/// copy of its ways. So are the ways of parts of patterns, so that each is worked out once for each key of names, and for strings.
 #[derive(Drop)]
 pub struct GrammarDerivatives<'a> {
     grammar: &'a SimpleGrammar,
@@ -31,6 +31,8 @@ pub struct GrammarDerivatives<'a> {
     keys: NameKeys,
     /// The ways of starts that were asked for before.
     memo: StartMemo,
+    /// The ways that are known of parts of patterns.
+    known: Known,
     /// `None` after want of memory.
     table: Option<PatternTable>,
 }
@@ -50,7 +52,7 @@ impl<'a> Model for GrammarDerivatives<'a> {
 
     ghost view = { λ d. (d.grammar.now, nodes_in d.table) };
 
-    ghost invariant = { λ d. IsServedBy d.grammar.now d.keys d.table d.numbers.items d.memo };
+    ghost invariant = { λ d. IsServedBy d.grammar.now d.keys d.table d.numbers.items d.memo d.known };
 }
 
 impl<'a> GrammarDerivatives<'a> {
@@ -70,12 +72,14 @@ impl<'a> GrammarDerivatives<'a> {
         let (table, numbers) = PatternTable::of(alloc, grammar)?;
         let start = numbers[grammar.start().0];
         let keys = NameKeys::of(alloc, grammar)?;
+        let known = Known::new(alloc, &keys)?;
         Ok((
             GrammarDerivatives {
                 grammar,
                 numbers,
                 keys,
                 memo: HashMap::new(alloc),
+                known,
                 table: Some(table),
             },
             start,
@@ -125,7 +129,16 @@ impl Derivatives for GrammarDerivatives<'_> {
             return Err(OutOfMemory);
         };
         let numbers = self.numbers.as_slice();
-        let number = after_text(alloc, self.grammar, &mut table, numbers, pattern, text)?;
+        let number = after_text(
+            alloc,
+            self.grammar,
+            &self.keys,
+            &mut table,
+            &mut self.known,
+            numbers,
+            pattern,
+            text,
+        )?;
         self.table = Some(table);
         Ok(number)
     }
@@ -140,7 +153,16 @@ impl Derivatives for GrammarDerivatives<'_> {
             return Err(OutOfMemory);
         };
         let numbers = self.numbers.as_slice();
-        let number = after_tag(alloc, self.grammar, &mut table, numbers, body, attrs)?;
+        let number = after_tag(
+            alloc,
+            self.grammar,
+            &self.keys,
+            &mut table,
+            &mut self.known,
+            numbers,
+            body,
+            attrs,
+        )?;
         self.table = Some(table);
         Ok(number)
     }
@@ -164,7 +186,16 @@ impl Derivatives for GrammarDerivatives<'_> {
             return Ok(ways);
         }
         let numbers = self.numbers.as_slice();
-        let ways = start(alloc, self.grammar, &mut table, numbers, pattern, name)?;
+        let ways = start(
+            alloc,
+            self.grammar,
+            &self.keys,
+            &mut table,
+            &mut self.known,
+            numbers,
+            pattern,
+            asked.name,
+        )?;
         let starts = joined_ways(alloc, &mut table, ways.as_slice())?;
         keep(alloc, &mut self.memo, asked, starts.as_slice())?;
         self.table = Some(table);

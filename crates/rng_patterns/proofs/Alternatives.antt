@@ -1,6 +1,6 @@
 -- What a pattern has of its alternatives, and they of it.
 use Rattle.std.proofs.Common.{◌≡◌, ℕ, List, [], ◌∷◌, All, Contains, map, refl, sym, subst, ap₂, Option, Some, None, inl, inr, ⊎_elim, true≢false, arith}
-use Rattle.std.proofs.lemmas.List.Elements.{All-tail}
+use Rattle.std.proofs.lemmas.List.Elements.{All-map, All-tail}
 use Rattle.rng_model.specs.Tree.{Simple, choice, group, interleave, s_not_allowed, s_empty, s_text, s_leaf, s_attribute, s_list, s_data, s_data_except}
 use Rattle.rng_model.specs.Tree.{s_value, s_one_or_more, s_joined}
 use Rattle.rng_model.specs.Restrictions.{ContentType, greater}
@@ -72,7 +72,7 @@ none_is_not_allowed p reduced none = ⊎_elim (λ e. e) (λ allowed. let a = som
 
 -- ---- choices that are made
 
-member_allowed : (p : Simple ℕ) → MayBeMember p → HasAllowedMembers p
+pub member_allowed : (p : Simple ℕ) → MayBeMember p → HasAllowedMembers p
 member_allowed s_not_allowed may = absurd (true≢false may.not_not_allowed)
 member_allowed s_empty may = tt
 member_allowed s_text may = tt
@@ -93,15 +93,14 @@ each_of P ms all m h = subst P h.2 (all h.0 m h.1)
 abbrev numbers : List PatternNumber → List ℕ
 numbers ms = map (λ (m : PatternNumber). m.0) ms
 
-members_allowed : (f : ℕ → Simple ℕ) (m : PatternNumber) (ms : List PatternNumber) → All (λ n. MayBeMember (f n.0)) (m ∷ ms)
-    → HasAllowedMembers (choice_from f m.0 (numbers ms))
-members_allowed f m [] may = member_allowed (f m.0) (may 0 m (omega arith))
+pub members_allowed : (f : ℕ → Simple ℕ) (m : ℕ) (ms : List ℕ) → All (λ n. MayBeMember (f n)) (m ∷ ms) → HasAllowedMembers (choice_from f m ms)
+members_allowed f m [] may = member_allowed (f m) (may 0 m (omega arith))
 members_allowed f m (n ∷ ms) may =
-    (member_allowed (f m.0) (may 0 m (omega arith)), members_allowed f n ms (All-tail (λ n. MayBeMember (f n.0)) m (n ∷ ms) may))
+    (member_allowed (f m) (may 0 m (omega arith)), members_allowed f n ms (All-tail (λ n. MayBeMember (f n)) m (n ∷ ms) may))
 
 pub choice_reduced : (f : ℕ → Simple ℕ) (ms : List PatternNumber) → All (λ n. MayBeMember (f n.0)) ms → IsReducedChoice (choice_over f (numbers ms))
 choice_reduced f [] may = inl refl
-choice_reduced f (m ∷ ms) may = inr (members_allowed f m ms may)
+choice_reduced f (m ∷ ms) may = inr (members_allowed f m.0 (numbers ms) (All-map (λ n. MayBeMember (f n)) (λ n. n.0) (m ∷ ms) may))
 
 pub one_reduced : (p : Simple ℕ) → MayBeMember p → IsReducedChoice p
 one_reduced p may = inr (member_allowed p may)

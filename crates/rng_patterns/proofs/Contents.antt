@@ -88,3 +88,48 @@ pub both_members : (a b : Option ContentType) (c : ContentType) → type_of_choi
 both_members None b c e = absurd (cc)
 both_members (Some u) None c e = absurd (cc)
 both_members (Some u) (Some v) c e = (u, v, refl, refl, some_is _ c e)
+
+-- in which order they go together makes no difference
+pub both_swapped : (a b : Option ContentType) → type_of_both a b ≡ type_of_both b a
+both_swapped None None = refl
+both_swapped None (Some b) = refl
+both_swapped (Some a) None = refl
+both_swapped (Some empty_content) (Some empty_content) = refl
+both_swapped (Some empty_content) (Some complex_content) = refl
+both_swapped (Some empty_content) (Some simple_content) = refl
+both_swapped (Some complex_content) (Some empty_content) = refl
+both_swapped (Some complex_content) (Some complex_content) = refl
+both_swapped (Some complex_content) (Some simple_content) = refl
+both_swapped (Some simple_content) (Some empty_content) = refl
+both_swapped (Some simple_content) (Some complex_content) = refl
+both_swapped (Some simple_content) (Some simple_content) = refl
+
+pub both_regrouped : (a b c : ContentType)
+    → type_of_both (type_of_both (Some a) (Some b)) (Some c) ≡ type_of_both (Some a) (type_of_both (Some b) (Some c))
+both_regrouped empty_content empty_content empty_content = refl
+both_regrouped empty_content empty_content complex_content = refl
+both_regrouped empty_content empty_content simple_content = refl
+both_regrouped empty_content complex_content empty_content = refl
+both_regrouped empty_content complex_content complex_content = refl
+both_regrouped empty_content complex_content simple_content = refl
+both_regrouped empty_content simple_content empty_content = refl
+both_regrouped empty_content simple_content complex_content = refl
+both_regrouped empty_content simple_content simple_content = refl
+both_regrouped complex_content empty_content empty_content = refl
+both_regrouped complex_content empty_content complex_content = refl
+both_regrouped complex_content empty_content simple_content = refl
+both_regrouped complex_content complex_content empty_content = refl
+both_regrouped complex_content complex_content complex_content = refl
+both_regrouped complex_content complex_content simple_content = refl
+both_regrouped complex_content simple_content empty_content = refl
+both_regrouped complex_content simple_content complex_content = refl
+both_regrouped complex_content simple_content simple_content = refl
+both_regrouped simple_content empty_content empty_content = refl
+both_regrouped simple_content empty_content complex_content = refl
+both_regrouped simple_content empty_content simple_content = refl
+both_regrouped simple_content complex_content empty_content = refl
+both_regrouped simple_content complex_content complex_content = refl
+both_regrouped simple_content complex_content simple_content = refl
+both_regrouped simple_content simple_content empty_content = refl
+both_regrouped simple_content simple_content complex_content = refl
+both_regrouped simple_content simple_content simple_content = refl

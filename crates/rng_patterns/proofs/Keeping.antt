@@ -15,7 +15,7 @@ use Rattle.rng_matching.specs.Derivatives.{is_empty, is_not_allowed, joined_of, 
 use Rattle.rng_matching.specs.Restricted.{HasNoAttribute, HasNoneGrouped, RepeatsWell, HasTexts, MayBeListed, content_type, type_of_both, type_of_choice}
 use Rattle.rng_matching.specs.Restricted.{IsTyped}
 use Rattle.rng_matching.proofs.Hereditary.{none_is_ungrouped}
-use Rattle.rng_patterns.specs.Kept.{AreKept, AreRestrictedAlike, HasContentWithin, HasNoLists, IsChoiceOf, IsMadeOver, KeepsRestrictions}
+use Rattle.rng_patterns.specs.Kept.{AreKept, AreRestrictedAlike, HasContentWithin, HasNoLists, IsChoiceOf, IsInterleaveOf, IsMadeOver, KeepsRestrictions}
 use Rattle.rng_patterns.specs.Node.{Node}
 use Rattle.rng_patterns.specs.PatternTable.{Longer}
 use Rattle.rng_patterns.specs.Taking.{AreTaken, tree_by}
@@ -43,7 +43,7 @@ kept_same p = record {
   not_allowed = λ e. e;
 }
 
-joined_has : (Q : Simple ℕ → Type 0) (k : Connector) (p q : Simple ℕ) → Q s_not_allowed → Q p → Q q → Q (s_joined k p q) → Q (joined_of k p q)
+pub joined_has : (Q : Simple ℕ → Type 0) (k : Connector) (p q : Simple ℕ) → Q s_not_allowed → Q p → Q q → Q (s_joined k p q) → Q (joined_of k p q)
 joined_has Q k p q none h i both =
     either_one Q (is_not_allowed p) s_not_allowed _ none (either_one Q (is_not_allowed q) s_not_allowed _ none
     (either_one Q (is_empty p) q _ i (either_one Q (is_empty q) p _ h both)))
@@ -54,10 +54,10 @@ repeat_has Q p none empty more = either_one Q (is_not_allowed p) s_not_allowed _
 -- ---- content types
 
 -- within one type is within a greater one
-content_wider : (p : Simple ℕ) (a c : ContentType) → ((x : ContentType) → greater x a ≡ a → greater x c ≡ c) → HasContentWithin a p → HasContentWithin c p
+pub content_wider : (p : Simple ℕ) (a c : ContentType) → ((x : ContentType) → greater x a ≡ a → greater x c ≡ c) → HasContentWithin a p → HasContentWithin c p
 content_wider p a c wider h = ⊎_elim (λ t. inl (t.0, t.1, wider t.0 t.2)) (λ e. inr e) h
 
-joined_content : (k : Connector) (p q : Simple ℕ) (u v c : ContentType) → content_type (s_joined k p q) ≡ type_of_both (content_type p) (content_type q)
+pub joined_content : (k : Connector) (p q : Simple ℕ) (u v c : ContentType) → content_type (s_joined k p q) ≡ type_of_both (content_type p) (content_type q)
     → type_of_both (Some u) (Some v) ≡ Some c → HasContentWithin u p → HasContentWithin v q → HasContentWithin c (joined_of k p q)
 joined_content k p q u v c is e h i =
     let top = together_greater u v c e in
@@ -109,18 +109,16 @@ group_kept p q made other h i = record {
   not_allowed = λ e. absurd (cc);
 }
 
-interleave_kept : (p q made other : Simple ℕ) → KeepsRestrictions p made → KeepsRestrictions q other
-    → KeepsRestrictions (s_joined interleave p q) (joined_of interleave made other)
-interleave_kept p q made other h i = record {
-  bare = λ o. joined_has HasNoAttribute interleave made other tt (h.bare o.0) (i.bare o.1) (h.bare o.0, i.bare o.1);
-  ungrouped = λ o.
-      joined_has HasNoneGrouped interleave made other tt (none_is_ungrouped made (h.bare o.0)) (none_is_ungrouped other (i.bare o.1)) (h.bare o.0, i.bare o.1);
-  repeats = λ o. joined_has RepeatsWell interleave made other tt (h.repeats o.0) (i.repeats o.1) (h.repeats o.0, i.repeats o.1);
-  texts = λ o. joined_has (HasTexts MayBeListed) interleave made other tt (h.texts o.0) (i.texts o.1) (h.texts o.0, i.texts o.1);
-  unlisted = λ o. joined_has HasNoLists interleave made other tt (h.unlisted o.0) (i.unlisted o.1) (h.unlisted o.0, i.unlisted o.1);
+interleave_kept : (p q made other whole : Simple ℕ) → KeepsRestrictions p made → KeepsRestrictions q other → IsInterleaveOf made other whole
+    → KeepsRestrictions (s_joined interleave p q) whole
+interleave_kept p q made other whole h i is = record {
+  bare = λ o. is.bare (h.bare o.0) (i.bare o.1);
+  ungrouped = λ o. none_is_ungrouped whole (is.bare (h.bare o.0) (i.bare o.1));
+  repeats = λ o. is.repeats (h.repeats o.0) (i.repeats o.1);
+  texts = λ o. is.texts (h.texts o.0) (i.texts o.1);
+  unlisted = λ o. is.unlisted (h.unlisted o.0) (i.unlisted o.1);
   content = λ c e.
-      let b = both_have (content_type p) (content_type q) c e in
-      joined_content interleave made other b.0 b.1 c refl b.4 (h.content b.0 b.2) (i.content b.1 b.3);
+      let b = both_have (content_type p) (content_type q) c e in is.content b.0 b.1 c b.4 (h.content b.0 b.2) (i.content b.1 b.3);
   not_allowed = λ e. absurd (cc);
 }
 
@@ -215,7 +213,7 @@ row_kept t f (simple.DataExcept datatype except) made n below each is = subst (K
 row_kept t f (simple.Value library name text) made n below each is = subst (KeepsRestrictions _) (sym is) (kept_same _)
 row_kept t f (simple.OneOrMore body) made n below each is = subst (KeepsRestrictions _) (sym is) (repeat_kept _ _ (each body below))
 row_kept t f (simple.Group a b) made n below each is = subst (KeepsRestrictions _) (sym is) (group_kept _ _ _ _ (each a below.0) (each b below.1))
-row_kept t f (simple.Interleave a b) made n below each is = subst (KeepsRestrictions _) (sym is) (interleave_kept _ _ _ _ (each a below.0) (each b below.1))
+row_kept t f (simple.Interleave a b) made n below each is = interleave_kept _ _ _ _ _ (each a below.0) (each b below.1) is
 row_kept t f (simple.Choice a b) made n below each is = choice_kept _ _ _ _ _ (each a below.0) (each b below.1) is
 
 -- ---- all rows

@@ -1,17 +1,20 @@
 -- What is known of a pattern, from what is known of its parts.
 use Rattle.std.proofs.Common.{◌≡◌, ℕ, ◌+◌, ◌<◌, ◌≤◌, All, length, take, get_or, arith, subst, refl, ap, ap₂, sym, ◌∙◌, Bool, true, false, ◌||◌, List}
-use Rattle.std.proofs.Common.{[], ◌∷◌, map, Option, Some, None}
+use Rattle.std.proofs.Common.{[], ◌∷◌, ◌++◌, map, Option, Some, None, inl, inr}
 use Rattle.std.specs.List.{list_any}
-use Rattle.std.proofs.lemmas.List.{get_or-map, length-map, take_all}
+use Rattle.std.proofs.lemmas.List.{get_or-map, length-map, take_all, take_more}
 use Rattle.std.proofs.lemmas.List.Folds.{list_any_more}
 use Rattle.rng_model.specs.Tree as tree
 use Rattle.rng_model.specs.Table.{Table}
 use Rattle.rng_model.specs.declared.simple.Simple.{Simple}
 use Rattle.rng_model.specs.declared.simple.Simple.TheVariants as simple
 use Rattle.rng_matching.specs.Derivatives.{is_nullable}
+use Rattle.rng_patterns.specs.Facts.{HasElement, IsWithin, elements_of, joined_elements, members_of}
 use Rattle.rng_patterns.specs.PatternTable.{facts_of}
 use Rattle.rng_patterns.specs.Reduced.{has_attribute}
 use Rattle.rng_patterns.specs.Trees.{attribute_found, data_found, choice_over}
+use Rattle.rng_patterns.specs.declared.pattern.Elements.{Elements}
+use Rattle.rng_patterns.specs.declared.pattern.Elements.TheVariants as elements
 use Rattle.rng_patterns.specs.declared.pattern.Facts.{Facts}
 use Rattle.rng_patterns.specs.declared.pattern.PatternNumber.{PatternNumber}
 
@@ -36,14 +39,84 @@ pub member_more : (test : PatternNumber → Bool) (ms : List PatternNumber) (i :
     → known ≡ list_any test (take i ms) → fact ≡ test (get_or ms i d) → (known || fact) ≡ list_any test (take (i + 1) ms)
 member_more test ms i d known fact inside e f = ap₂ (λ a b. a || b) e f ∙ sym (list_any_more test ms i d inside)
 
+-- the elements of the members
+abbrev pub elements_among : (ℕ → tree.Simple ℕ) → List PatternNumber → Elements
+elements_among f [] = elements.None
+elements_among f (m ∷ ms) = joined_elements (elements_of (f m.0)) (elements_among f ms)
+
+joined_none : (e : Elements) → joined_elements e elements.None ≡ e
+joined_none elements.None = refl
+joined_none (elements.Within first last) = refl
+
+joined_associative : (a b c : Elements) → joined_elements (joined_elements a b) c ≡ joined_elements a (joined_elements b c)
+joined_associative elements.None b c = refl
+joined_associative (elements.Within first last) elements.None c = refl
+joined_associative (elements.Within first last) (elements.Within least greatest) elements.None = refl
+joined_associative (elements.Within first last) (elements.Within least greatest) (elements.Within low high) =
+    ap₂ elements.Within (omega arith) (omega arith)
+
+choice_elements : (f : ℕ → tree.Simple ℕ) (ms : List PatternNumber) → elements_among f ms ≡ elements_of (choice_over f (map (λ m. m.0) ms))
+choice_elements f [] = refl
+choice_elements f (m ∷ []) = joined_none (elements_of (f m.0))
+choice_elements f (m ∷ n ∷ ms) = ap (joined_elements (elements_of (f m.0))) (choice_elements f (n ∷ ms))
+
+elements_pushed : (f : ℕ → tree.Simple ℕ) (ms : List PatternNumber) (m : PatternNumber)
+    → elements_among f (ms ++ m ∷ []) ≡ joined_elements (elements_among f ms) (elements_of (f m.0))
+elements_pushed f [] m = joined_none (elements_of (f m.0))
+elements_pushed f (n ∷ ms) m =
+    ap (joined_elements (elements_of (f n.0))) (elements_pushed f ms m) ∙ sym (joined_associative (elements_of (f n.0)) _ _)
+
+pub elements_more : (f : ℕ → tree.Simple ℕ) (ms : List PatternNumber) (i : ℕ) (d : PatternNumber) (known fact : Elements) → i < length ms
+    → known ≡ elements_among f (take i ms) → fact ≡ elements_of (f (get_or ms i d).0)
+    → joined_elements known fact ≡ elements_among f (take (i + 1) ms)
+elements_more f ms i d known fact inside e g =
+    ap₂ joined_elements e g ∙ sym (ap (elements_among f) (take_more ms i d inside) ∙ elements_pushed f (take i ms) (get_or ms i d))
+
+-- a choice is no interleave
+choice_members : (f : ℕ → tree.Simple ℕ) (ms : List PatternNumber) → 2 ≤ length ms → members_of (choice_over f (map (λ m. m.0) ms)) ≡ 1
+choice_members f [] two = absurd (omega (arith, two))
+choice_members f (m ∷ []) two = absurd (omega (arith, two))
+choice_members f (m ∷ n ∷ ms) two = refl
+
 -- all members
-pub all_members : (f : ℕ → tree.Simple ℕ) (ms : List PatternNumber) (i : ℕ) (known : Facts) → length ms ≤ i
+pub all_members : (f : ℕ → tree.Simple ℕ) (ms : List PatternNumber) (i : ℕ) (known : Facts) → 2 ≤ length ms → length ms ≤ i
     → known.nullable ≡ list_any (λ m. is_nullable (f m.0)) (take i ms) → known.attributes ≡ list_any (λ m. has_attribute (f m.0)) (take i ms)
-    → known ≡ facts_of (choice_over f (map (λ m. m.0) ms))
-all_members f ms i known over n a =
+    → known.elements ≡ elements_among f (take i ms) → known.members ≡ 1 → known ≡ facts_of (choice_over f (map (λ m. m.0) ms))
+all_members f ms i known two over n a e o =
     let all = take_all i ms over in
-    ap₂ (λ x y. record { nullable = x; attributes = y }) (n ∙ ap (list_any (λ m. is_nullable (f m.0))) all ∙ choice_nullable f ms)
+    same_facts known _ (n ∙ ap (list_any (λ m. is_nullable (f m.0))) all ∙ choice_nullable f ms)
     (a ∙ ap (list_any (λ m. has_attribute (f m.0))) all ∙ choice_attributes f ms)
+    (e ∙ ap (elements_among f) all ∙ choice_elements f ms) (o ∙ sym (choice_members f ms two))
+  where
+    same_facts : (a b : Facts) → a.nullable ≡ b.nullable → a.attributes ≡ b.attributes → a.elements ≡ b.elements → a.members ≡ b.members → a ≡ b
+    same_facts a b n o e m =
+        ap₂ (λ x y. record { nullable = x; attributes = y; elements = a.elements; members = a.members }) n o
+        ∙ ap₂ (λ x y. record { nullable = b.nullable; attributes = b.attributes; elements = x; members = y }) e m
+
+-- an element that stands in the tree is within those that are known
+joined_first : (a b : Elements) (k : ℕ) → IsWithin a k → IsWithin (joined_elements a b) k
+joined_first elements.None b k h = absurd h
+joined_first (elements.Within first last) elements.None k h = h
+joined_first (elements.Within first last) (elements.Within least greatest) k h = let low = h.0 in let high = h.1 in (omega (arith, low), omega (arith, high))
+
+joined_second : (a b : Elements) (k : ℕ) → IsWithin b k → IsWithin (joined_elements a b) k
+joined_second elements.None b k h = h
+joined_second (elements.Within first last) elements.None k h = absurd h
+joined_second (elements.Within first last) (elements.Within least greatest) k h = let low = h.0 in let high = h.1 in (omega (arith, low), omega (arith, high))
+
+pub elements_within : (p : tree.Simple ℕ) (k : ℕ) → HasElement k p → IsWithin (elements_of p) k
+elements_within tree.s_not_allowed k h = absurd h
+elements_within tree.s_empty k h = absurd h
+elements_within tree.s_text k h = absurd h
+elements_within (tree.s_leaf e) k h = (omega (arith, h), omega (arith, h))
+elements_within (tree.s_attribute c p) k h = absurd h
+elements_within (tree.s_list p) k h = absurd h
+elements_within (tree.s_data d) k h = absurd h
+elements_within (tree.s_data_except d p) k h = absurd h
+elements_within (tree.s_value d v) k h = absurd h
+elements_within (tree.s_one_or_more p) k h = elements_within p k h
+elements_within (tree.s_joined c p q) k (inl h) = joined_first (elements_of p) (elements_of q) k (elements_within p k h)
+elements_within (tree.s_joined c p q) k (inr h) = joined_second (elements_of p) (elements_of q) k (elements_within q k h)
 
 -- what holds of the numbers of the members
 pub of_members : (P : ℕ → Type 0) (ms : List PatternNumber) → All P (map (λ (m : PatternNumber). m.0) ms) → All (λ m. P m.0) ms
@@ -51,7 +124,12 @@ of_members P ms all k d inside =
     subst P (get_or-map (λ (m : PatternNumber). m.0) ms k d d.0 inside) (all k d.0 (omega (arith, length-map ms (λ (m : PatternNumber). m.0))))
 
 -- what the grammar lists is an attribute of some class
-pub attribute_known : (t : Table) (o : Option Simple) → facts_of (attribute_found t o) ≡ record { nullable = false; attributes = true }
+pub attribute_known : (t : Table) (o : Option Simple) → facts_of (attribute_found t o) ≡ record {
+  nullable = false;
+  attributes = true;
+  elements = elements.None;
+  members = 1;
+}
 attribute_known t None = refl
 attribute_known t (Some simple.NotAllowed) = refl
 attribute_known t (Some simple.Empty) = refl
@@ -67,7 +145,12 @@ attribute_known t (Some (simple.Group a b)) = refl
 attribute_known t (Some (simple.Interleave a b)) = refl
 attribute_known t (Some (simple.Choice a b)) = refl
 
-pub data_known : (t : Table) (o : Option Simple) → facts_of (data_found t o) ≡ record { nullable = false; attributes = false }
+pub data_known : (t : Table) (o : Option Simple) → facts_of (data_found t o) ≡ record {
+  nullable = false;
+  attributes = false;
+  elements = elements.None;
+  members = 1;
+}
 data_known t None = refl
 data_known t (Some simple.NotAllowed) = refl
 data_known t (Some simple.Empty) = refl

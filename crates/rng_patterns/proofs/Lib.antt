@@ -6,6 +6,8 @@ mod PatternKinds
 pub mod Choices
 pub mod Alternatives
 mod Absorbing
+mod OnlyMember
 mod Contents
 mod Keeping
+mod Interleaves
 pub mod Taking

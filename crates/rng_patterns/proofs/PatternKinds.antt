@@ -1,5 +1,5 @@
 -- The kind of a pattern shows in its tree.
-use Rattle.std.proofs.Common.{◌≡◌, ℕ, refl, sym, ap, ◌∙◌, Bool, true, false, List, [], ◌∷◌, Option, Some, None, slice_get, arith}
+use Rattle.std.proofs.Common.{◌≡◌, ℕ, refl, sym, ap, ◌∙◌, Bool, true, false, List, [], ◌∷◌, Option, Some, None, slice_get, arith, subst}
 use Rattle.rng_model.specs.Tree as tree
 use Rattle.rng_model.specs.Table.{Table}
 use Rattle.rng_model.specs.declared.simple.Simple.{Simple}
@@ -8,10 +8,11 @@ use Rattle.rng_patterns.specs.Node.{Node, node_of}
 use Rattle.rng_patterns.specs.Node as node
 use Rattle.rng_patterns.specs.PatternTable.{ArePartsBelow, IsPatternTable}
 use Rattle.rng_matching.specs.Derivatives.{is_empty, is_not_allowed}
-use Rattle.rng_patterns.specs.Reduced.{is_choice, MayBeMember}
+use Rattle.rng_patterns.specs.Reduced.{is_choice, AreReduced, HasAllowedMembers, MayBeMember}
 use Rattle.rng_patterns.specs.Trees.{attribute_found, data_found, tree_of, tree_over}
 use Rattle.rng_patterns.specs.declared.pattern.Pattern.{Pattern}
 use Rattle.rng_patterns.specs.declared.pattern.Pattern.TheVariants as pattern
+use Rattle.rng_patterns.proofs.Alternatives.{member_allowed, members_allowed}
 use Rattle.rng_patterns.proofs.Trees.{tree_of-over_parts}
 
 -- what the grammar lists is neither notAllowed nor empty, nor a choice
@@ -134,3 +135,18 @@ may_be_member t ns i p kept found h k = record {
   not_not_allowed = not_allowed_shows t ns i (node_of p) kept found ∙ sym (not_not_allowed p h);
   not_choice = choice_shows t ns i (node_of p) kept found ∙ sym (not_choice p k);
 }
+
+-- what is no notAllowed allows something
+allowed_over : (t : Table) (f : ℕ → tree.Simple ℕ) (n : Node) (i : ℕ) → ArePartsBelow i n → AreReduced f n → is_not_allowed_node n ≡ false
+    → HasAllowedMembers (tree_over t f n)
+allowed_over t f (node.choice []) i h reduced e = absurd (omega (arith, h.0))
+allowed_over t f (node.choice (m ∷ ms)) i h reduced e = members_allowed f m ms reduced
+allowed_over t f n i h reduced e =
+    let kind = kind_over t f n i h in member_allowed (tree_over t f n) (record { not_not_allowed = kind.0 ∙ e; not_choice = kind.2 })
+
+pub allowed_there : (t : Table) (ns : List Node) (i : ℕ) (p : Pattern) → IsPatternTable ns → slice_get ns i ≡ Some (node_of p) → (p ≡ pattern.NotAllowed → ⊥)
+    → HasAllowedMembers (tree_of t ns i)
+allowed_there t ns i p kept found h =
+    let below = kept.falls i (node_of p) found in
+    subst HasAllowedMembers (sym (tree_of-over_parts t ns i (node_of p) below found))
+    (allowed_over t (tree_of t ns) (node_of p) i below (kept.reduced t i (node_of p) found) (sym (not_not_allowed p h)))

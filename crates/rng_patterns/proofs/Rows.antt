@@ -7,13 +7,14 @@ use Rattle.std.proofs.lemmas.Option.{slice_get_within, get_or_from_slice_get, sl
 use Rattle.std.proofs.lemmas.Bool.{cases_lt}
 use Rattle.std.proofs.Math.Seq.{get_or-append_seam}
 use Rattle.rng_model.specs.Table.{Table}
-use Rattle.rng_model.specs.Tree.{s_not_allowed}
+use Rattle.rng_model.specs.Tree.{Simple, s_not_allowed}
 use Rattle.rng_patterns.specs.Node.{Node, node_of}
 use Rattle.rng_patterns.specs.Trees.{tree_over, tree_of, trees}
-use Rattle.rng_patterns.specs.PatternTable.{Adds, AreExact, ArePartsBelow, IsNew, IsPatternTable, facts_of, nodes_of}
+use Rattle.rng_patterns.specs.PatternTable.{Adds, AreExact, ArePartsBelow, IsKnown, IsNew, IsPatternTable, Longer, facts_of, nodes_of}
 use Rattle.rng_patterns.specs.Reduced.{AreReduced}
 use Rattle.rng_patterns.specs.declared.pattern.Pattern.{Pattern}
 use Rattle.rng_patterns.specs.declared.pattern.Facts.{Facts}
+use Rattle.rng_patterns.specs.declared.pattern.PatternNumber.{PatternNumber}
 use Rattle.std.specs.Map.{keys_of}
 use Rattle.std.specs.List.{position_or_len}
 use Rattle.std.specs.Option.{option_map}
@@ -22,7 +23,7 @@ use Rattle.std.proofs.lemmas.Grind.{common_steps}
 use Rattle.std.proofs.lemmas.List.Sums.{fails_before_first}
 use Rattle.rng_patterns.specs.contracts.pattern.PatternPartialEq.TheImpl as same
 use Rattle.rng_patterns.proofs.EqualPatterns.{same_node, equal_pattern}
-use Rattle.rng_patterns.proofs.Trees.{length-trees, reduced_reads, trees_pushed, tree_of-over_parts, tree_of_pushed, tree_stays}
+use Rattle.rng_patterns.proofs.Trees.{Longer-length, length-trees, reduced_reads, trees_pushed, tree_of-over_parts, tree_of_pushed, tree_stays}
 use Rattle.indexmap.specs.IndexMap.{insert_entry}
 
 -- ---- the first table
@@ -185,3 +186,10 @@ new_adds ns ms n i more at =
 pub nodes_more : (rows : List (Pattern × Facts)) (p : Pattern) (f : Facts) {more : List (Pattern × Facts)} {ns : List Node} → more ≡ rows ++ (p, f) ∷ []
     → nodes_of rows ≡ ns → nodes_of more ≡ ns ++ node_of p ∷ []
 nodes_more rows p f e is = ap nodes_of e ∙ map-append (λ r. node_of r.0) rows ((p, f) ∷ []) ∙ ap (λ ns. ns ++ node_of p ∷ []) is
+
+-- a number that is known stays so
+pub known_stays : (old new : List Node) (o : Option PatternNumber) (tree : Simple ℕ) → Longer old new → IsKnown old o tree → IsKnown new o tree
+known_stays old new None tree longer known = tt
+known_stays old new (Some n) tree longer known =
+    let long = Longer-length old new longer in
+    let inside = known.inside in record { inside = omega (arith, long, inside); is = λ t. tree_stays t old new n.0 longer inside ∙ known.is t }

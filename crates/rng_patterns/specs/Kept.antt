@@ -7,16 +7,35 @@ use Rattle.rng_model.specs.declared.simple.PatternId.{PatternId}
 use Rattle.rng_model.specs.declared.simple.Simple.{Simple}
 use Rattle.rng_model.specs.declared.simple.Simple.TheVariants as simple
 use Rattle.rng_matching.specs.Derivatives.{joined_of, repeat_of}
-use Rattle.rng_matching.specs.Restricted.{HasNoAttribute, HasNoneGrouped, RepeatsWell, HasTexts, MayBeListed, IsRestricted, IsTyped, content_type}
+use Rattle.rng_matching.specs.Restricted.{HasNoAttribute, HasNoneGrouped, RepeatsWell, HasTexts, MayBeListed, IsRestricted, IsTyped, content_type, type_of_both}
+use Rattle.rng_matching.specs.Reading.{Reading}
+use Rattle.rng_matching.specs.Taking.{Same}
 use Rattle.rng_patterns.specs.Node.{Node}
 use Rattle.rng_patterns.specs.Reduced.{HasAlternative, IsReducedChoice}
 use Rattle.rng_patterns.specs.Taking.{taken_over, tree_by}
+use Rattle.rng_patterns.specs.Trees.{tree_of}
 use Rattle.rng_patterns.specs.declared.pattern.PatternNumber.{PatternNumber}
 
 -- a choice of the two, flat and without notAllowed
 pub record IsChoiceOf (p q whole : tree.Simple ℕ) : Type 0 where
   pub within : (s : tree.Simple ℕ) → HasAlternative whole s → HasAlternative p s ⊎ HasAlternative q s
   pub reduced : IsReducedChoice whole
+
+-- the pattern has a content type that is not greater (section 7.2), or is notAllowed
+abbrev pub HasContentWithin : ContentType → tree.Simple ℕ → Type 0
+HasContentWithin most p = ((c : ContentType) × (content_type p ≡ Some c) × (greater c most ≡ most)) ⊎ (p ≡ tree.s_not_allowed)
+
+-- no list stands in the pattern, as in the body of a list (section 7.1.3)
+abbrev pub HasNoLists : tree.Simple ℕ → Type 0
+HasNoLists p = HasTexts (λ q. ⊥) p
+
+-- an interleave of the members of both in some nesting: the whole obeys the restrictions that its members obey
+pub record IsInterleaveOf (p q whole : tree.Simple ℕ) : Type 0 where
+  pub bare : HasNoAttribute p → HasNoAttribute q → HasNoAttribute whole
+  pub repeats : RepeatsWell p → RepeatsWell q → RepeatsWell whole
+  pub texts : HasTexts MayBeListed p → HasTexts MayBeListed q → HasTexts MayBeListed whole
+  pub unlisted : HasNoLists p → HasNoLists q → HasNoLists whole
+  pub content : (u v c : ContentType) → type_of_both (Some u) (Some v) ≡ Some c → HasContentWithin u p → HasContentWithin v q → HasContentWithin c whole
 
 -- a pattern that was made over these members of a pattern of a grammar
 abbrev pub IsMadeOver : Table → (PatternId → tree.Simple ℕ) → Simple → tree.Simple ℕ → Type 0
@@ -31,16 +50,8 @@ IsMadeOver t of (simple.DataExcept datatype except) p = p ≡ taken_over t of (s
 IsMadeOver t of (simple.Value library name text) p = p ≡ taken_over t of (simple.Value library name text)
 IsMadeOver t of (simple.OneOrMore body) p = p ≡ repeat_of (of body)
 IsMadeOver t of (simple.Group a b) p = p ≡ joined_of tree.group (of a) (of b)
-IsMadeOver t of (simple.Interleave a b) p = p ≡ joined_of tree.interleave (of a) (of b)
+IsMadeOver t of (simple.Interleave a b) p = IsInterleaveOf (of a) (of b) p
 IsMadeOver t of (simple.Choice a b) p = IsChoiceOf (of a) (of b) p
-
--- the pattern has a content type that is not greater (section 7.2), or is notAllowed
-abbrev pub HasContentWithin : ContentType → tree.Simple ℕ → Type 0
-HasContentWithin most p = ((c : ContentType) × (content_type p ≡ Some c) × (greater c most ≡ most)) ⊎ (p ≡ tree.s_not_allowed)
-
--- no list stands in the pattern, as in the body of a list (section 7.1.3)
-abbrev pub HasNoLists : tree.Simple ℕ → Type 0
-HasNoLists p = HasTexts (λ q. ⊥) p
 
 -- the second pattern obeys the restrictions that the first obeys
 pub record KeepsRestrictions (p made : tree.Simple ℕ) : Type 0 where
@@ -61,3 +72,9 @@ pub record AreRestrictedAlike (t : Table) (ns : List Node) (numbers : List Patte
   pub restricted : (id : PatternId) → id.0 < length numbers → IsRestricted (tree_at t.patterns id) → IsRestricted (tree_by t ns numbers id)
   pub unlisted : (id : PatternId) → id.0 < length numbers → HasNoLists (tree_at t.patterns id) → HasNoLists (tree_by t ns numbers id)
   pub typed : (id : PatternId) → id.0 < length numbers → IsTyped (tree_at t.patterns id) → IsTyped (tree_by t ns numbers id)
+
+-- the pattern of this number is an interleave of the members of the other two
+pub record Interleaves (old new : List Node) (first second number : ℕ) : Type 0 where
+  pub inside : number < length new
+  pub same : (t : Table) (g : Reading) → Same g (tree_of t new number) (tree.s_joined tree.interleave (tree_of t old first) (tree_of t old second))
+  pub made : (t : Table) → IsInterleaveOf (tree_of t old first) (tree_of t old second) (tree_of t new number)

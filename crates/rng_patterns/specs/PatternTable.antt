@@ -1,15 +1,17 @@
 -- What holds of a table of patterns.
-use Rattle.std.specs.Prelude.{◌≡◌, ℕ, ◌<◌, ◌≤◌, ⊤, List, ◌++◌, length, map, slice_get, Some, All}
+use Rattle.std.specs.Prelude.{◌≡◌, ◌&&◌, ◌||◌, ℕ, ◌<◌, ◌≤◌, ⊤, List, ◌++◌, length, map, slice_get, Option, Some, All, IfSome}
 use Rattle.std.specs.List.Sorted.{IsStrictlyIncreasing}
 use Rattle.rng_model.specs.Table.{Table}
 use Rattle.rng_model.specs.Tree.{Simple}
 use Rattle.rng_patterns.specs.Node.{Node, node_of}
 use Rattle.rng_patterns.specs.Node as node
 use Rattle.rng_matching.specs.Derivatives.{is_nullable}
+use Rattle.rng_patterns.specs.Facts.{elements_of, joined_elements, members_of}
 use Rattle.rng_patterns.specs.Reduced.{AreReduced, has_attribute}
 use Rattle.rng_patterns.specs.Trees.{trees, tree_of}
 use Rattle.rng_patterns.specs.declared.pattern.Facts.{Facts}
 use Rattle.rng_patterns.specs.declared.pattern.Pattern.{Pattern}
+use Rattle.rng_patterns.specs.declared.pattern.PatternNumber.{PatternNumber}
 
 -- the patterns in the order of their numbers
 abbrev pub nodes_of : List (Pattern × Facts) → List Node
@@ -42,7 +44,16 @@ IsNew ns n = (i : ℕ) → ¬ (slice_get ns i ≡ Some n)
 
 -- what is known of a tree
 abbrev pub facts_of : Simple ℕ → Facts
-facts_of s = record { nullable = is_nullable s; attributes = has_attribute s }
+facts_of s = record { nullable = is_nullable s; attributes = has_attribute s; elements = elements_of s; members = members_of s }
+
+-- what is known of a group or an interleave, from what is known of its sides
+abbrev pub both_facts : Facts → Facts → ℕ → Facts
+both_facts a b members = record {
+  nullable = a.nullable && b.nullable;
+  attributes = a.attributes || b.attributes;
+  elements = joined_elements a.elements b.elements;
+  members = members;
+}
 
 -- what is kept of each pattern is so of its tree
 abbrev pub AreExact : List (Pattern × Facts) → Type 0
@@ -56,3 +67,7 @@ Longer old new = (more : List Node) × (new ≡ old ++ more)
 pub record Adds (old new : List Node) (number : ℕ) (built : Table → Simple ℕ) : Type 0 where
   pub inside : number < length new
   pub is : (t : Table) → tree_of t new number ≡ built t
+
+-- the number of this tree, where it is known
+abbrev pub IsKnown : List Node → Option PatternNumber → Simple ℕ → Type 0
+IsKnown ns number tree = IfSome number (λ n. Adds ns ns n.0 (λ t. tree))

@@ -9,7 +9,7 @@ ghost use Rattle.rng_model.specs.Tree.{Simple, s_not_allowed};
 ghost use Rattle.rng_matching.specs.Restricted.{IsRestricted, IsTyped};
 ghost use Rattle.rng_matching.specs.Reading.{Reading};
 ghost use Rattle.rng_matching.specs.Taking.{Takes};
-ghost use Rattle.rng_patterns.specs.Choices.{IsAbsorbedBy, IsAlternativeOf, SomeTakes};
+ghost use Rattle.rng_patterns.specs.Choices.{IsAbsorbedBy, IsAllowed, IsAlternativeOf, IsOnlyMember, SomeTakes};
 ghost use Rattle.rng_patterns.specs.PatternTable.{Longer};
 ghost use Rattle.rng_patterns.specs.Reduced.{HasAlternative, IsReducedChoice, MayBeMember};
 ghost use Rattle.rng_patterns.specs.Trees.{tree_of};
@@ -26,7 +26,8 @@ impl PatternTable {
     /// is there, make no difference. `q` beside `p, q` is left out where `p` may be left out.
     ///
     /// RELAX NG Specification, sections 6.2.1 and 4.20. It obeys the restrictions of section 7 where all members do. The
-    /// error is want of memory. Costs a sort of all alternatives.
+    /// error is want of memory. Costs a sort of all alternatives, and one pass over the members where no two of them differ
+    /// that are not notAllowed.
     pub fn choice(
         &mut self,
         alloc: Global,
@@ -47,10 +48,44 @@ impl PatternTable {
         ensures typed { IfOk result (λ n. (t : Table) → All (λ m. IsTyped (tree_of t self.old m.0)) members.now
             → IsTyped (tree_of t self.new n.0)) }
     {
+        if let Some(only) = self.only_member(members) {
+            return Ok(only);
+        }
         let mut alternatives = self.alternatives(alloc, members)?;
         self.remove_absorbed(alloc, &mut alternatives)?;
         put_in_order(&mut alternatives);
         self.choice_of(alternatives)
+    }
+
+    /// The member beside which each other one is this one again or notAllowed, if there is one. Takes no memory.
+    fn only_member(&self, members: &[PatternNumber]) -> Option<PatternNumber>
+        requires { All (λ m. m.0 < length self.now) members.now }
+        ensures { IfSome result (IsOnlyMember self.now members.now) }
+    {
+        let mut only = *members.first()?;
+        let mut allowed = self.is_allowed(only);
+        for member in members {
+            if *member == only || !self.is_allowed(*member) {
+                continue;
+            }
+            if allowed {
+                return None;
+            }
+            only = *member;
+            allowed = true;
+        }
+        Some(only)
+    }
+
+    /// Whether the pattern is another than notAllowed. Takes no memory.
+    fn is_allowed(&self, number: PatternNumber) -> bool
+        requires { number.0 < length self.now }
+        ensures { (t : Table) → IsAllowed result (tree_of t self.now number.0) }
+    {
+        match self.pattern(number) {
+            Pattern::NotAllowed => false,
+            _ => true,
+        }
     }
 
     /// The alternatives of the members, in their order.
@@ -105,6 +140,9 @@ impl PatternTable {
             → SomeTakes g (tree_of t self.now) alternatives.old.items xs ns → SomeTakes g (tree_of t self.now) alternatives.new.items xs ns) }
     {
         let absorbed = self.absorbed(alloc, alternatives.as_slice())?;
+        if absorbed.is_empty() {
+            return Ok(());
+        }
         alternatives.retain(|alternative| !absorbed.contains(&alternative.0));
         Ok(())
     }
@@ -155,7 +193,7 @@ impl PatternTable {
         }
         match alternatives.first() {
             Some(only) => Ok(*only),
-            None => self.number_of(Pattern::NotAllowed),
+            None => self.not_allowed(),
         }
     }
 }

@@ -1,9 +1,10 @@
 // The patterns of a grammar, taken over into a table.
-ghost use Rattle.std.specs.Prelude.{◌≡◌, ◌<◌, All, IfOk, Some, length, slice_get};
+ghost use Rattle.std.specs.Prelude.{◌≡◌, ◌⊎◌, ◌<◌, All, IfOk, Some, length, slice_get};
 ghost use Rattle.rng_model.specs.Table.{AreChildrenBelow, Table};
 ghost use Rattle.rng_matching.specs.Reading.{Reading};
 ghost use Rattle.rng_matching.specs.Taking.{Same};
-ghost use Rattle.rng_patterns.specs.Kept.{AreRestrictedAlike, IsMadeOver};
+ghost use Rattle.rng_patterns.specs.Facts.{members_of};
+ghost use Rattle.rng_patterns.specs.Kept.{AreRestrictedAlike, Interleaves, IsMadeOver};
 ghost use Rattle.rng_patterns.specs.PatternTable.{Longer};
 ghost use Rattle.rng_patterns.specs.Taking.{AreTaken, taken_over, tree_by};
 ghost use Rattle.rng_patterns.specs.Trees.{tree_of};
@@ -53,8 +54,8 @@ impl PatternTable {
             → IsMadeOver t (tree_by t self.old numbers.now) row.now (tree_of t self.new n.0)) }
     {
         match row {
-            Simple::NotAllowed => self.number_of(Pattern::NotAllowed),
-            Simple::Empty => self.number_of(Pattern::Empty),
+            Simple::NotAllowed => self.not_allowed(),
+            Simple::Empty => self.empty(),
             Simple::Text => self.number_of(Pattern::Text),
             Simple::Element(element) => self.number_of(Pattern::Element(*element)),
             Simple::Attribute(_, _) => self.number_of(Pattern::Attribute(position)),
@@ -64,11 +65,63 @@ impl PatternTable {
             Simple::OneOrMore(body) => self.one_or_more(numbers[body.0]),
             Simple::Group(first, second) => self.group(numbers[first.0], numbers[second.0]),
             Simple::Interleave(first, second) => {
-                self.interleave(numbers[first.0], numbers[second.0])
+                self.balanced(numbers[first.0], numbers[second.0])
             }
             Simple::Choice(first, second) => {
                 self.choice(alloc, &[numbers[first.0], numbers[second.0]])
             }
         }
+    }
+
+    /// The two in any order. The members of interleaves among them are nested so that a side has about half of them where they
+    /// came one by one: then what is made of an interleave of n members when one of them has gone on is as deep as the
+    /// logarithm of n.
+    ///
+    /// RELAX NG Specification, section 6.2.6. The error is want of memory. Costs one look-up for each level of the new nesting.
+    fn balanced(
+        &mut self,
+        first: PatternNumber,
+        second: PatternNumber,
+    ) -> Result<PatternNumber, OutOfMemory>
+        requires first { first.0 < length self.old }
+        requires second { second.0 < length self.old }
+        ensures longer { Longer self.old self.new }
+        ensures both { IfOk result (λ n. Interleaves self.old self.new first.0 second.0 n.0) }
+    {
+        let (big, small) = self.by_members(first, second);
+        let Pattern::Interleave(a, b) = self.pattern(big) else {
+            return self.interleave(big, small);
+        };
+        let (more, less) = self.by_members(*a, *b);
+        if self.members(less).saturating_add(self.members(small)) > self.members(more) {
+            return self.interleave(big, small);
+        }
+        let joined = self.balanced(less, small)?;
+        self.interleave(more, joined)
+    }
+
+    /// The two, first the one with more members. Takes no memory.
+    fn by_members(
+        &self,
+        first: PatternNumber,
+        second: PatternNumber,
+    ) -> (PatternNumber, PatternNumber)
+        requires first { first.0 < length self.now }
+        requires second { second.0 < length self.now }
+        ensures { (result ≡ (first, second)) ⊎ (result ≡ (second, first)) }
+    {
+        if self.members(first) < self.members(second) {
+            (second, first)
+        } else {
+            (first, second)
+        }
+    }
+
+    /// How many patterns the pattern joins that are no interleaves. Takes no memory.
+    fn members(&self, number: PatternNumber) -> usize
+        requires { number.0 < length self.now }
+        ensures { (t : Table) → result ≡ members_of (tree_of t self.now number.0) }
+    {
+        self.facts(number).members
     }
 }

@@ -11,5 +11,5 @@ mod making;
 mod pattern;
 mod pattern_table;
 
-pub use pattern::{Facts, Pattern, PatternNumber};
+pub use pattern::{Elements, Facts, Pattern, PatternNumber};
 pub use pattern_table::PatternTable;

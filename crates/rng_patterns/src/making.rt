@@ -1,7 +1,7 @@
 // Patterns made of others.
 ghost use Rattle.std.specs.Prelude.{◌≡◌, ◌<◌, IfOk, IfSome, IfNone, length};
 ghost use Rattle.rng_model.specs.Table.{Table};
-ghost use Rattle.rng_model.specs.Tree.{Connector, group, interleave, s_joined, s_one_or_more, s_not_allowed, s_empty, s_text, s_leaf};
+ghost use Rattle.rng_model.specs.Tree.{Connector, group, interleave, s_joined, s_one_or_more};
 ghost use Rattle.rng_matching.specs.Derivatives as tree;
 ghost use Rattle.rng_matching.specs.Derivatives.{joined_of, repeat_of};
 ghost use Rattle.rng_matching.specs.Reading.{Reading};
@@ -29,22 +29,6 @@ impl PatternTable {
         ensures { (t : Table) → result ≡ tree.is_empty (tree_of t self.now number.0) }
     {
         matches!(self.pattern(number), Pattern::Empty)
-    }
-
-    /// The pattern that matches nothing. The error is want of memory.
-    pub fn not_allowed(&mut self) -> Result<PatternNumber, OutOfMemory>
-        ensures longer { Longer self.old self.new }
-        ensures tree { IfOk result (λ n. Adds self.old self.new n.0 (λ t. s_not_allowed)) }
-    {
-        self.number_of(Pattern::NotAllowed)
-    }
-
-    /// The pattern that matches no attributes with no items. The error is want of memory.
-    pub fn empty(&mut self) -> Result<PatternNumber, OutOfMemory>
-        ensures longer { Longer self.old self.new }
-        ensures tree { IfOk result (λ n. Adds self.old self.new n.0 (λ t. s_empty)) }
-    {
-        self.number_of(Pattern::Empty)
     }
 
     /// What a group or an interleave of the two is by the rules about notAllowed and empty; `None` where they say nothing.

@@ -1,4 +1,7 @@
 // Patterns by number.
+ghost use Rattle.std.specs.Prelude.{◌≡◌, ◌≤◌, ℕ, IsTrue};
+ghost use Rattle.rng_patterns.specs.Facts.{IsWithin, joined_elements};
+
 use rng_model::{ElementId, PatternId};
 
 /// A position in a table of patterns, from 0.
@@ -33,4 +36,43 @@ pub struct Facts {
     pub nullable: bool,
     /// An attribute stands in it, outside its elements, lists and excepts.
     pub attributes: bool,
+    /// The elements that stand in it, outside its attributes, lists and excepts.
+    pub elements: Elements,
+    /// How many patterns an interleave joins that are no interleaves themselves, or the greatest number that there is where
+    /// they are more; 1 for another pattern.
+    pub members: usize,
+}
+
+/// Between which numbers those of some elements are.
+#[derive(Clone, Copy, PartialEq, Eq)]
+pub enum Elements {
+    /// There is no element.
+    None,
+    /// The least number, and the greatest.
+    Within(usize, usize),
+}
+
+impl Elements {
+    /// Whether an element may be there that has a number from `first` to `last`. Takes no memory.
+    pub fn may_have(self, first: usize, last: usize) -> bool
+        ensures { (k : ℕ) → first ≤ k → k ≤ last → IsWithin self k → IsTrue result }
+    {
+        match self {
+            Elements::None => false,
+            Elements::Within(least, greatest) => least <= last && first <= greatest,
+        }
+    }
+
+    /// These and others.
+    pub(crate) fn joined(self, others: Elements) -> Elements
+        ensures { result ≡ joined_elements self others }
+    {
+        match (self, others) {
+            (Elements::None, _) => others,
+            (_, Elements::None) => self,
+            (Elements::Within(first, last), Elements::Within(least, greatest)) => {
+                Elements::Within(first.min(least), last.max(greatest))
+            }
+        }
+    }
 }

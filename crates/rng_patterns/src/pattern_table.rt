@@ -1,15 +1,17 @@
 // A table of patterns, each once.
-ghost use Rattle.std.specs.Prelude.{◌≡◌, ◌↔◌, [], IsTrue, ◌<◌, All, IfOk, IfSome, IfNone, Some, length, map, slice_get};
+ghost use Rattle.std.specs.Prelude.{◌≡◌, ◌↔◌, [], ℕ, IsTrue, ◌<◌, ◌≤◌, All, IfOk, IfSome, IfNone, Some, length, map, slice_get};
 ghost use Rattle.std.specs.List.{list_any, list_all};
 ghost use Rattle.rng_model.specs.Table.{Table};
+ghost use Rattle.rng_model.specs.Tree.{s_not_allowed, s_empty};
 ghost use Rattle.rng_matching.specs.Reading.{Reading};
 ghost use Rattle.rng_matching.specs.Taking.{Takes};
 ghost use Rattle.rng_patterns.specs.Node.{node_of};
-ghost use Rattle.rng_patterns.specs.PatternTable.{Adds, ArePartsBelow, IsNew, IsPatternTable, Longer, facts_of, nodes_of};
+ghost use Rattle.rng_patterns.specs.Facts.{HasElement, IsWithin};
+ghost use Rattle.rng_patterns.specs.PatternTable.{Adds, ArePartsBelow, IsNew, IsPatternTable, Longer, both_facts, facts_of, nodes_of};
 ghost use Rattle.rng_patterns.specs.Reduced.{AreReduced};
 ghost use Rattle.rng_patterns.specs.Trees.{choice_over, tree_of, tree_over};
 
-use crate::pattern::{Facts, Pattern, PatternNumber};
+use crate::pattern::{Elements, Facts, Pattern, PatternNumber};
 use indexmap::IndexMap;
 use rng_model::OutOfMemory;
 use std::alloc::Global;
@@ -19,6 +21,8 @@ use std::marker::Model;
 #[derive(Drop)]
 pub struct PatternTable {
     rows: IndexMap<Pattern, Facts>,
+    not_allowed: Option<PatternNumber>,
+    empty: Option<PatternNumber>,
 }
 
 impl Model for PatternTable {
@@ -27,11 +31,13 @@ impl Model for PatternTable {
 
     ghost Value = { List Node };
 
-    ghost use Rattle.rng_patterns.specs.PatternTable.{nodes_of, AreExact, IsPatternTable};
+    ghost use Rattle.rng_model.specs.Tree.{s_not_allowed, s_empty};
+    ghost use Rattle.rng_patterns.specs.PatternTable.{nodes_of, AreExact, IsKnown, IsPatternTable};
 
     ghost view = { λ t. nodes_of t.rows.entries };
 
-    ghost invariant = { λ t. IsPatternTable (nodes_of t.rows.entries) × AreExact t.rows.entries };
+    ghost invariant = { λ t. IsPatternTable (nodes_of t.rows.entries) × AreExact t.rows.entries
+        × IsKnown (nodes_of t.rows.entries) t.not_allowed s_not_allowed × IsKnown (nodes_of t.rows.entries) t.empty s_empty };
 }
 
 impl PatternTable {
@@ -41,6 +47,8 @@ impl PatternTable {
     {
         PatternTable {
             rows: IndexMap::new(alloc),
+            not_allowed: None,
+            empty: None,
         }
     }
 
@@ -57,9 +65,37 @@ impl PatternTable {
     pub fn facts(&self, number: PatternNumber) -> Facts
         requires { number.0 < length self.now }
         ensures exact { (t : Table) → result ≡ facts_of (tree_of t self.now number.0) }
+        ensures elements { (t : Table) (e : ℕ) → HasElement e (tree_of t self.now number.0) → IsWithin result.elements e }
         ensures nullable { (t : Table) (g : Reading) → IsTrue result.nullable ↔ Takes g (tree_of t self.now number.0) [] [] }
     {
         *row_at(&self.rows, number.0).1
+    }
+
+    /// The pattern that matches nothing. The error is want of memory. Costs one look-up, and none when it is asked for again.
+    pub fn not_allowed(&mut self) -> Result<PatternNumber, OutOfMemory>
+        ensures longer { Longer self.old self.new }
+        ensures tree { IfOk result (λ n. Adds self.old self.new n.0 (λ t. s_not_allowed)) }
+    {
+        if let Some(number) = self.not_allowed {
+            return Ok(number);
+        }
+        let number = self.number_of(Pattern::NotAllowed)?;
+        self.not_allowed = Some(number);
+        Ok(number)
+    }
+
+    /// The pattern that matches no attributes with no items. The error is want of memory. Costs one look-up, and none when it
+    /// is asked for again.
+    pub fn empty(&mut self) -> Result<PatternNumber, OutOfMemory>
+        ensures longer { Longer self.old self.new }
+        ensures tree { IfOk result (λ n. Adds self.old self.new n.0 (λ t. s_empty)) }
+    {
+        if let Some(number) = self.empty {
+            return Ok(number);
+        }
+        let number = self.number_of(Pattern::Empty)?;
+        self.empty = Some(number);
+        Ok(number)
     }
 
     /// What is known of a pattern whose parts are there.
@@ -70,42 +106,43 @@ impl PatternTable {
         match pattern {
             Pattern::Empty | Pattern::Text => Facts {
                 nullable: true,
-                attributes: false,
+                ..NOTHING_KNOWN
             },
             Pattern::Choice(members) => self.facts_of_choice(members.as_slice()),
-            Pattern::Group(first, second) | Pattern::Interleave(first, second) => {
+            Pattern::Group(first, second) => { both(self.facts(*first), self.facts(*second), 1) }
+            Pattern::Interleave(first, second) => {
                 let first = self.facts(*first);
                 let second = self.facts(*second);
-                Facts {
-                    nullable: first.nullable && second.nullable,
-                    attributes: first.attributes || second.attributes,
-                }
+                both(first, second, first.members.saturating_add(second.members))
             }
-            Pattern::OneOrMore(pattern) => self.facts(*pattern),
-            Pattern::NotAllowed | Pattern::Element(_) | Pattern::Data(_) => Facts {
-                nullable: false,
-                attributes: false,
+            Pattern::OneOrMore(pattern) => Facts {
+                members: 1,
+                ..self.facts(*pattern)
+            },
+            Pattern::NotAllowed | Pattern::Data(_) => NOTHING_KNOWN,
+            Pattern::Element(element) => Facts {
+                elements: Elements::Within(element.0, element.0),
+                ..NOTHING_KNOWN
             },
             Pattern::Attribute(_) => Facts {
-                nullable: false,
                 attributes: true,
+                ..NOTHING_KNOWN
             },
         }
     }
 
     /// What is known of a choice of these members.
     fn facts_of_choice(&self, members: &[PatternNumber]) -> Facts
-        requires { All (λ m. m.0 < length self.now) members.now }
+        requires inside { All (λ m. m.0 < length self.now) members.now }
+        requires two { 2 ≤ length members.now }
         ensures { (t : Table) → result ≡ facts_of (choice_over (tree_of t self.now) (map (λ m. m.0) members.now)) }
     {
-        let mut known = Facts {
-            nullable: false,
-            attributes: false,
-        };
+        let mut known = NOTHING_KNOWN;
         for member in members {
             let facts = self.facts(*member);
             known.nullable |= facts.nullable;
             known.attributes |= facts.attributes;
+            known.elements = known.elements.joined(facts.elements);
         }
         known
     }
@@ -124,6 +161,26 @@ impl PatternTable {
         let facts = self.facts_of(&pattern);
         self.rows.insert(pattern, facts)?;
         Ok(PatternNumber(number))
+    }
+}
+
+/// What is known of notAllowed.
+const NOTHING_KNOWN: Facts = Facts {
+    nullable: false,
+    attributes: false,
+    elements: Elements::None,
+    members: 1,
+};
+
+/// What is known of a group or an interleave of two patterns of which this is known, with so many members.
+fn both(first: Facts, second: Facts, members: usize) -> Facts
+    ensures { result ≡ both_facts first second members }
+{
+    Facts {
+        nullable: first.nullable && second.nullable,
+        attributes: first.attributes || second.attributes,
+        elements: first.elements.joined(second.elements),
+        members,
     }
 }
 

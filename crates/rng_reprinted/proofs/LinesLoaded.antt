@@ -14,7 +14,7 @@ use Rattle.rng_load.specs.declared.schema.Schema as loaded
 use Rattle.rng_print.specs.PrintedText.{Item}
 use Rattle.rng_reprinted.specs.HandedIn.{lines_alone, IsHandedInAgain, IsAgain, IsPrintedFile, text_alone}
 use Rattle.rng_reprinted.specs.LinesSchema.{IsSchemaOfLines}
-use Rattle.rng_reprinted.specs.LinesTree.{lines_tree}
+use Rattle.rnc_printed.specs.LinesTree.{lines_tree}
 use Rattle.rng_reprinted.proofs.LinesKept.{reprinted_text}
 use Rattle.rng_reprinted.proofs.LinesTaken.{lines_taken, lines_are_schema}
 

@@ -21,8 +21,8 @@ use Rattle.rng_load.specs.Places.{IsSchemaOf}
 use Rattle.rng_load.specs.SchemaFile.{Name, NamedFile, HasTree}
 use Rattle.rng_reprinted.specs.LinesSchema.{IsSchemaOfLines, schema_of_lines}
 use Rattle.rng_reprinted.specs.HandedIn.{lines_alone}
-use Rattle.rng_reprinted.specs.LinesTree as lines
-use Rattle.rng_reprinted.specs.LinesTree.{lines_tree}
+use Rattle.rnc_printed.specs.LinesTree as lines
+use Rattle.rnc_printed.specs.LinesTree.{lines_tree}
 use Rattle.rng_reprinted.proofs.ReadLines.{lines_read, lines_are_read}
 
 -- ---- the lines mention no file

@@ -7,7 +7,7 @@ use Rattle.rnc_grammar.specs.FileTree as tree
 use Rattle.rnc_grammar.specs.FileTree.{Namespace}
 use Rattle.rng_load.specs.Places.{uri_in, name_in, class_in, classes_in}
 use Rattle.rng_reprinted.specs.LinesSchema.{list_of, members_in, flattened, all_flattened}
-use Rattle.rng_reprinted.specs.LinesTree as lines
+use Rattle.rnc_printed.specs.LinesTree as lines
 
 classes_map : (cs : List tree.NameClass) → classes_in [] (tree.classes_of cs) ≡ map (class_in []) cs
 classes_map [] = refl

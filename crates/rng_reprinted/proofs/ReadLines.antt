@@ -15,8 +15,8 @@ use Rattle.rng_load.specs.Places.{Way, Nested, Gathered, Reads, Gathers, HasGram
 use Rattle.rng_load.proofs.OneSchema.{one_gathering}
 use Rattle.rng_reprinted.specs.LinesSchema.{reference_pattern, item_pattern, start_line, item_line, lines_components, components_at, schema_of_lines}
 use Rattle.rng_reprinted.specs.LinesSchema.{IsSchemaOfLines}
-use Rattle.rng_reprinted.specs.LinesTree as lines
-use Rattle.rng_reprinted.specs.LinesTree.{lines_tree}
+use Rattle.rnc_printed.specs.LinesTree as lines
+use Rattle.rnc_printed.specs.LinesTree.{lines_tree}
 use Rattle.rng_reprinted.proofs.ReadClasses.{class_read}
 
 none_is_some : {A B : Type 0} {x : A} → ◌≡◌ {A = Option A} None (Some x) → B

@@ -11,7 +11,7 @@ use Rattle.rng_load.specs.SchemaFile.{Name, NamedFile, HasTree, IsSchemaFile, si
 use Rattle.rng_load.specs.declared.schema.Schema as loaded
 use Rattle.rng_print.specs.PrintedText.{Item}
 use Rattle.rng_print.specs.SchemaText.{IsPrintedForm}
-use Rattle.rng_reprinted.specs.LinesTree.{lines_tree}
+use Rattle.rnc_printed.specs.LinesTree.{lines_tree}
 
 -- the main file alone, with the tree of the lines
 abbrev pub lines_alone : Name → Grammar → List Item → TakenFiles

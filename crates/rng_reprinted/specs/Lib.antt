@@ -1,3 +1,2 @@
 pub mod LinesSchema
-pub mod LinesTree
 pub mod HandedIn

@@ -14,7 +14,7 @@ ghost use Rattle.rng_print.specs.Renumbered.{AreSameUpToNumbering};
 ghost use Rattle.rng_print.specs.SchemaText.{IsPrintedForm};
 ghost use Rattle.rng_reprinted.specs.HandedIn.{IsAgain, IsHandedInAgain, IsPrintedFile, lines_alone, text_alone};
 ghost use Rattle.rng_reprinted.specs.LinesSchema.{IsReprinted, IsReprintedAs, IsSchemaOfLines, schema_of_lines};
-ghost use Rattle.rng_reprinted.specs.LinesTree.{lines_tree};
+ghost use Rattle.rnc_printed.specs.LinesTree.{lines_tree};
 
 /// The laws of the schema of the lines of a printed grammar. It does nothing: its contract is what it is for.
 ///

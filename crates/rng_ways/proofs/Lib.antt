@@ -7,6 +7,7 @@ pub mod Rows
 mod WaysOfLeaves
 mod Composing
 mod Weights
+pub mod KnownWays
 mod Bareness
 mod Closings
 pub mod Starts

@@ -1,5 +1,6 @@
 pub mod Kinds
 pub mod Ways
+pub mod KnownWays
 pub mod Closing
 pub mod Starting
 pub mod After

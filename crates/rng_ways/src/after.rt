@@ -13,18 +13,23 @@ ghost use Rattle.rng_patterns.specs.Trees.{attribute_found, data_found, tree_of}
 ghost use Rattle.rng_ways.specs.After.{AreRests, AreWaysFor, IsLeft, IsLeftOfTag, TellsTaken};
 ghost use Rattle.rng_ways.specs.Kinds.{reading_of};
 ghost use Rattle.rng_ways.specs.Starting.{IsReady};
-ghost use Rattle.rng_ways.specs.Ways.{AreInside};
+ghost use Rattle.rng_ways.specs.KnownWays.{AreAllKnown, AreKnownByKey, IsAttributeKind};
+ghost use Rattle.rng_ways.specs.Ways.{AreInside, AreWaysOf};
+ghost use Rattle.rng_ways.specs.declared.way.Kind.TheVariants as kinds;
 ghost use Rattle.rng_ways.specs.declared.way.First.TheVariants as firsts;
 
 use crate::closing::close;
+use crate::known::{Known, KnownWays, is_same_name};
 use crate::starting::number_at;
 use crate::texts::{allows, is_excepted, is_value};
-use crate::way::{First, Kind, Place, Way};
+use crate::way::{First, Kind, Place, Way, Ways};
 use crate::ways::ways;
-use rng_model::{Attr, OutOfMemory, PatternId, Simple, SimpleGrammar, split_blanks};
+use rng_keys::NameKeys;
+use rng_model::{Attr, Name, OutOfMemory, PatternId, Simple, SimpleGrammar, split_blanks};
 use rng_names::contains;
 use rng_patterns::{Pattern, PatternNumber, PatternTable};
 use std::alloc::Global;
+use std::collections::HashMap;
 
 /// Whether a text is nothing but spaces, tabs and line ends.
 fn is_blank(text: &str) -> bool
@@ -35,21 +40,71 @@ fn is_blank(text: &str) -> bool
         .all(|byte| matches!(*byte, b' ' | b'\t' | b'\n' | b'\r'))
 }
 
+/// The ways of a pattern to take an attribute of this name first.
+fn attribute_ways(
+    alloc: Global,
+    grammar: &SimpleGrammar,
+    keys: &NameKeys,
+    table: &mut PatternTable,
+    known: &mut Vec<KnownWays>,
+    name: &Name,
+    number: PatternNumber,
+) -> Result<Ways, OutOfMemory>
+    requires inside { number.0 < length table.old }
+    requires known { AreKnownByKey IsAttributeKind grammar.now keys.now table.old known.old.items }
+    ensures longer { OnOk result (Longer table.old table.new) }
+    ensures known { OnOk result (AreKnownByKey IsAttributeKind grammar.now keys.now table.new known.new.items) }
+    ensures ways { IfOk result (λ ws. AreWaysOf grammar.now table.new (kinds.Attribute name.entry) (tree_of grammar.now table.old number.0) ws.items) }
+{
+    let key = keys.key(name);
+    if !is_same_name(name, keys.name(key)) {
+        let mut none = HashMap::new(alloc);
+        return ways(
+            alloc,
+            grammar,
+            table,
+            &mut none,
+            Kind::Attribute(name),
+            number,
+        );
+    }
+    ways(
+        alloc,
+        grammar,
+        table,
+        &mut known[key.0],
+        Kind::Attribute(name),
+        number,
+    )
+}
+
 /// The ways of a pattern to take this first.
 fn ways_for(
     alloc: Global,
     grammar: &SimpleGrammar,
+    keys: &NameKeys,
     table: &mut PatternTable,
+    known: &mut Known,
     first: First,
     number: PatternNumber,
-) -> Result<Vec<Way>, OutOfMemory>
-    requires { number.0 < length table.old }
+) -> Result<Ways, OutOfMemory>
+    requires inside { number.0 < length table.old }
+    requires known { AreAllKnown grammar.now keys.now table.old known.old }
     ensures longer { OnOk result (Longer table.old table.new) }
+    ensures known { OnOk result (AreAllKnown grammar.now keys.now table.new known.new) }
     ensures ways { IfOk result (λ ws. AreWaysFor grammar.now table.new first.entry (tree_of grammar.now table.old number.0) ws.items) }
 {
     match first {
-        First::Text(_, _) => ways(alloc, grammar, table, Kind::Text, number),
-        First::Attribute(attr) => ways(alloc, grammar, table, Kind::Attribute(&attr.name), number),
+        First::Text(_, _) => ways(alloc, grammar, table, &mut known.texts, Kind::Text, number),
+        First::Attribute(attr) => attribute_ways(
+            alloc,
+            grammar,
+            keys,
+            table,
+            &mut known.attributes,
+            &attr.name,
+            number,
+        ),
     }
 }
 
@@ -60,14 +115,18 @@ fn ways_for(
 pub fn after_text(
     alloc: Global,
     grammar: &SimpleGrammar,
+    keys: &NameKeys,
     table: &mut PatternTable,
+    known: &mut Known,
     numbers: &[PatternNumber],
     number: PatternNumber,
     text: &str,
 ) -> Result<PatternNumber, OutOfMemory>
     requires inside { number.0 < length table.old }
     requires ready { IsReady grammar.now table.old numbers.now }
+    requires known { AreAllKnown grammar.now keys.now table.old known.old }
     ensures longer { OnOk result (Longer table.old table.new) }
+    ensures known { OnOk result (AreAllKnown grammar.now keys.now table.new known.new) }
     ensures inside { IfOk result (λ rest. rest.0 < length table.new) }
     ensures after { IfOk result (λ rest. IsRestricted (tree_of grammar.now table.old number.0)
         → IsAfterText (reading_of grammar.now) text.now (tree_of grammar.now table.old number.0) (tree_of grammar.now table.new rest.0)) }
@@ -76,7 +135,9 @@ pub fn after_text(
     after(
         alloc,
         grammar,
+        keys,
         table,
+        known,
         numbers,
         First::Text(Place::Content, text),
         number,
@@ -91,19 +152,32 @@ pub fn after_text(
 pub fn after_tag(
     alloc: Global,
     grammar: &SimpleGrammar,
+    keys: &NameKeys,
     table: &mut PatternTable,
+    known: &mut Known,
     numbers: &[PatternNumber],
     number: PatternNumber,
     attrs: &[Attr],
 ) -> Result<PatternNumber, OutOfMemory>
     requires inside { number.0 < length table.old }
     requires ready { IsReady grammar.now table.old numbers.now }
+    requires known { AreAllKnown grammar.now keys.now table.old known.old }
     ensures longer { OnOk result (Longer table.old table.new) }
+    ensures known { OnOk result (AreAllKnown grammar.now keys.now table.new known.new) }
     ensures after { IfOk result (IsLeftOfTag grammar.now table.old table.new (map attribute_of attrs.now) number) }
 {
     let mut rest = number;
     'attrs: for attr in attrs {
-        rest = after(alloc, grammar, table, numbers, First::Attribute(attr), rest)?;
+        rest = after(
+            alloc,
+            grammar,
+            keys,
+            table,
+            known,
+            numbers,
+            First::Attribute(attr),
+            rest,
+        )?;
     }
     close(alloc, table, rest)
 }
@@ -113,18 +187,31 @@ pub fn after_tag(
 fn after(
     alloc: Global,
     grammar: &SimpleGrammar,
+    keys: &NameKeys,
     table: &mut PatternTable,
+    known: &mut Known,
     numbers: &[PatternNumber],
     first: First,
     number: PatternNumber,
 ) -> Result<PatternNumber, OutOfMemory>
     requires inside { number.0 < length table.old }
     requires ready { IsReady grammar.now table.old numbers.now }
+    requires known { AreAllKnown grammar.now keys.now table.old known.old }
     ensures longer { OnOk result (Longer table.old table.new) }
+    ensures known { OnOk result (AreAllKnown grammar.now keys.now table.new known.new) }
     ensures left { IfOk result (IsLeft grammar.now table.old table.new first.entry number) }
 {
-    let ways = ways_for(alloc, grammar, table, first, number)?;
-    let rests = rests(alloc, grammar, table, numbers, first, ways.as_slice())?;
+    let ways = ways_for(alloc, grammar, keys, table, known, first, number)?;
+    let rests = rests(
+        alloc,
+        grammar,
+        keys,
+        table,
+        known,
+        numbers,
+        first,
+        ways.as_slice(),
+    )?;
     table.choice(alloc, rests.as_slice())
 }
 
@@ -133,19 +220,23 @@ fn after(
 fn rests(
     alloc: Global,
     grammar: &SimpleGrammar,
+    keys: &NameKeys,
     table: &mut PatternTable,
+    known: &mut Known,
     numbers: &[PatternNumber],
     first: First,
     ways: &[Way],
 ) -> Result<Vec<PatternNumber>, OutOfMemory>
     requires inside { AreInside table.old ways.now }
     requires ready { IsReady grammar.now table.old numbers.now }
+    requires known { AreAllKnown grammar.now keys.now table.old known.old }
     ensures longer { OnOk result (Longer table.old table.new) }
+    ensures known { OnOk result (AreAllKnown grammar.now keys.now table.new known.new) }
     ensures rests { IfOk result (λ rests. AreRests grammar.now table.old table.new first.entry ways.now rests.items) }
 {
     let mut rests = Vec::new(alloc);
     'ways: for way in ways {
-        if takes(alloc, grammar, table, numbers, first, way.leaf)? {
+        if takes(alloc, grammar, keys, table, known, numbers, first, way.leaf)? {
             rests.push(way.rest)?;
         }
     }
@@ -157,25 +248,31 @@ fn rests(
 fn takes(
     alloc: Global,
     grammar: &SimpleGrammar,
+    keys: &NameKeys,
     table: &mut PatternTable,
+    known: &mut Known,
     numbers: &[PatternNumber],
     first: First,
     leaf: PatternNumber,
 ) -> Result<bool, OutOfMemory>
     requires inside { leaf.0 < length table.old }
     requires ready { IsReady grammar.now table.old numbers.now }
+    requires known { AreAllKnown grammar.now keys.now table.old known.old }
     ensures longer { OnOk result (Longer table.old table.new) }
+    ensures known { OnOk result (AreAllKnown grammar.now keys.now table.new known.new) }
     ensures taken { IfOk result (TellsTaken (reading_of grammar.now) first.entry (tree_of grammar.now table.old leaf.0)) }
 {
     match (first, table.pattern(leaf)) {
         (First::Text(_, _), Pattern::Text) => Ok(true),
         (First::Text(place, text), Pattern::Data(position)) => {
             let position = *position;
-            data_takes(alloc, grammar, table, numbers, place, text, position)
+            data_takes(
+                alloc, grammar, keys, table, known, numbers, place, text, position,
+            )
         }
         (First::Attribute(attr), Pattern::Attribute(position)) => {
             let position = *position;
-            attribute_takes(alloc, grammar, table, numbers, attr, position)
+            attribute_takes(alloc, grammar, keys, table, known, numbers, attr, position)
         }
         _ => Ok(false),
     }
@@ -186,14 +283,18 @@ fn takes(
 fn data_takes(
     alloc: Global,
     grammar: &SimpleGrammar,
+    keys: &NameKeys,
     table: &mut PatternTable,
+    known: &mut Known,
     numbers: &[PatternNumber],
     place: Place,
     text: &str,
     position: PatternId,
 ) -> Result<bool, OutOfMemory>
-    requires { IsReady grammar.now table.old numbers.now }
+    requires ready { IsReady grammar.now table.old numbers.now }
+    requires known { AreAllKnown grammar.now keys.now table.old known.old }
     ensures longer { OnOk result (Longer table.old table.new) }
+    ensures known { OnOk result (AreAllKnown grammar.now keys.now table.new known.new) }
     ensures taken { IfOk result (TellsTaken (reading_of grammar.now) (firsts.Text place text.entry)
         (data_found grammar.now (slice_get grammar.now.patterns position.0))) }
 {
@@ -202,7 +303,7 @@ fn data_takes(
     };
     match row {
         Simple::List(body) => match place {
-            Place::Content => list_takes(alloc, grammar, table, numbers, text, *body),
+            Place::Content => list_takes(alloc, grammar, keys, table, known, numbers, text, *body),
             Place::List => Ok(false),
         },
         Simple::Data(datatype) => Ok(allows(datatype, text)),
@@ -225,14 +326,18 @@ fn data_takes(
 fn list_takes(
     alloc: Global,
     grammar: &SimpleGrammar,
+    keys: &NameKeys,
     table: &mut PatternTable,
+    known: &mut Known,
     numbers: &[PatternNumber],
     text: &str,
     body: PatternId,
 ) -> Result<bool, OutOfMemory>
     requires inside { body.0 < length numbers.now }
     requires ready { IsReady grammar.now table.old numbers.now }
+    requires known { AreAllKnown grammar.now keys.now table.old known.old }
     ensures longer { OnOk result (Longer table.old table.new) }
+    ensures known { OnOk result (AreAllKnown grammar.now keys.now table.new known.new) }
     ensures taken { IfOk result (λ b. MayBeListed (tree_at grammar.now.patterns body)
         → (b ≡ true) ↔ Takes (reading_of grammar.now) (tree_at grammar.now.patterns body) [] (map a_text (pieces text.now))) }
 {
@@ -242,7 +347,9 @@ fn list_takes(
         rest = after(
             alloc,
             grammar,
+            keys,
             table,
+            known,
             numbers,
             First::Text(Place::List, piece),
             rest,
@@ -256,13 +363,17 @@ fn list_takes(
 fn attribute_takes(
     alloc: Global,
     grammar: &SimpleGrammar,
+    keys: &NameKeys,
     table: &mut PatternTable,
+    known: &mut Known,
     numbers: &[PatternNumber],
     attr: &Attr,
     position: PatternId,
 ) -> Result<bool, OutOfMemory>
-    requires { IsReady grammar.now table.old numbers.now }
+    requires ready { IsReady grammar.now table.old numbers.now }
+    requires known { AreAllKnown grammar.now keys.now table.old known.old }
     ensures longer { OnOk result (Longer table.old table.new) }
+    ensures known { OnOk result (AreAllKnown grammar.now keys.now table.new known.new) }
     ensures taken { IfOk result (TellsTaken (reading_of grammar.now) (firsts.Attribute attr.entry)
         (attribute_found grammar.now (slice_get grammar.now.patterns position.0))) }
 {
@@ -275,7 +386,16 @@ fn attribute_takes(
     if !contains(class, &attr.name) {
         return Ok(false);
     }
-    value_takes(alloc, grammar, table, numbers, attr.value.as_str(), *body)
+    value_takes(
+        alloc,
+        grammar,
+        keys,
+        table,
+        known,
+        numbers,
+        attr.value.as_str(),
+        *body,
+    )
 }
 
 /// Whether a pattern weakly takes the value of an attribute.
@@ -285,14 +405,18 @@ fn attribute_takes(
 fn value_takes(
     alloc: Global,
     grammar: &SimpleGrammar,
+    keys: &NameKeys,
     table: &mut PatternTable,
+    known: &mut Known,
     numbers: &[PatternNumber],
     value: &str,
     body: PatternId,
 ) -> Result<bool, OutOfMemory>
     requires inside { body.0 < length numbers.now }
     requires ready { IsReady grammar.now table.old numbers.now }
+    requires known { AreAllKnown grammar.now keys.now table.old known.old }
     ensures longer { OnOk result (Longer table.old table.new) }
+    ensures known { OnOk result (AreAllKnown grammar.now keys.now table.new known.new) }
     ensures taken { IfOk result (λ b. IsRestricted (tree_at grammar.now.patterns body)
         → (b ≡ true) ↔ WeaklyTakes (reading_of grammar.now) (tree_at grammar.now.patterns body) [] (a_text value.now ∷ [])) }
 {
@@ -301,7 +425,9 @@ fn value_takes(
     let rest = after(
         alloc,
         grammar,
+        keys,
         table,
+        known,
         numbers,
         First::Text(Place::Content, value),
         body,

@@ -8,7 +8,7 @@ ghost use Rattle.rng_ways.specs.declared.way.Way.{Way};
 ghost use Rattle.rng_ways.specs.Kinds.{connector_of};
 ghost use Rattle.rng_ways.specs.Ways.{AreInside, IsInside, IsHoleInside, IsTakenOut, StandFor, filled, ways_by};
 
-use crate::way::{Hole, Joint, Way};
+use crate::way::{Hole, Joint, Way, Ways};
 use rng_model::OutOfMemory;
 use rng_patterns::{PatternNumber, PatternTable};
 use std::alloc::Global;
@@ -64,7 +64,7 @@ fn place_of(ways: &[Way], leaf: PatternNumber) -> Option<usize>
 }
 
 /// Takes the way with this leaf out of others, if there is one.
-fn take_leaf(ways: &mut Vec<Way>, leaf: PatternNumber) -> Option<Way>
+fn take_leaf(ways: &mut Ways, leaf: PatternNumber) -> Option<Way>
     ensures found { IfSome result (λ w. (w.leaf ≡ leaf) × IsTakenOut ways.old.items ways.new.items w) }
     ensures none { IfNone result (ways.new.items ≡ ways.old.items) }
 {
@@ -76,7 +76,7 @@ fn take_leaf(ways: &mut Vec<Way>, leaf: PatternNumber) -> Option<Way>
 pub fn add_way(
     alloc: Global,
     table: &mut PatternTable,
-    all: &mut Vec<Way>,
+    all: &mut Ways,
     way: Way,
 ) -> Result<(), OutOfMemory>
     requires inside { AreInside table.old all.old.items }
@@ -104,7 +104,7 @@ pub fn add_filled(
     table: &mut PatternTable,
     hole: Hole,
     ways: &[Way],
-    all: &mut Vec<Way>,
+    all: &mut Ways,
 ) -> Result<(), OutOfMemory>
     requires hole { IsHoleInside table.old hole }
     requires ways { AreInside table.old ways.now }

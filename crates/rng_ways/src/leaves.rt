@@ -8,10 +8,11 @@ ghost use Rattle.rng_patterns.specs.Trees.{attribute_found, tree_of};
 ghost use Rattle.rng_ways.specs.Kinds.{IsAlone, reading_of, rest_of_leaf, takes_kind};
 ghost use Rattle.rng_ways.specs.Ways.{AreWaysOf};
 
-use crate::way::{Kind, Way};
+use crate::way::{Kind, Way, Ways};
 use rng_model::{ElementId, OutOfMemory, PatternId, Simple, SimpleGrammar};
 use rng_names::contains;
 use rng_patterns::{Pattern, PatternNumber, PatternTable};
+use smallvec::SmallVec;
 use std::alloc::Global;
 
 /// Whether a text comes first.
@@ -88,13 +89,13 @@ pub fn ways_of_leaf(
     table: &mut PatternTable,
     kind: Kind,
     number: PatternNumber,
-) -> Result<Vec<Way>, OutOfMemory>
+) -> Result<Ways, OutOfMemory>
     requires inside { number.0 < length table.old }
     requires leaf { IsAlone (tree_of grammar.now table.old number.0) }
     ensures longer { Longer table.old table.new }
     ensures ways { IfOk result (λ ws. AreWaysOf grammar.now table.new kind.entry (tree_of grammar.now table.old number.0) ws.items) }
 {
-    let mut ways = Vec::new(alloc);
+    let mut ways = SmallVec::new(alloc);
     if !takes_kind(grammar, table, kind, number) {
         return Ok(ways);
     }

@@ -8,6 +8,7 @@
 mod after;
 mod closing;
 mod filling;
+mod known;
 mod leaves;
 mod starting;
 mod texts;
@@ -16,5 +17,6 @@ mod ways;
 
 pub use after::{after_tag, after_text};
 pub use closing::close;
+pub use known::{Known, KnownWays};
 pub use starting::start;
-pub use way::Way;
+pub use way::{Way, Ways};

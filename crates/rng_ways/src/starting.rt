@@ -1,38 +1,88 @@
 // Patterns after a start tag.
 ghost use Rattle.std.specs.Prelude.{◌≡◌, [], ◌<◌, IfOk, OnOk, length, slice_index_or};
+ghost use Rattle.rng_keys.specs.Keys.{name_at};
 ghost use Rattle.rng_model.specs.View.{name_of};
 ghost use Rattle.rng_patterns.specs.PatternTable.{Longer};
 ghost use Rattle.rng_patterns.specs.Trees.{tree_of};
-ghost use Rattle.rng_ways.specs.Ways.{AreInside};
+ghost use Rattle.rng_ways.specs.KnownWays.{AreAllKnown, AreKnownByKey, IsElementKind};
+ghost use Rattle.rng_ways.specs.declared.way.Kind.{Kind};
+ghost use Rattle.rng_ways.specs.Ways.{AreInside, AreWaysOf};
 ghost use Rattle.rng_ways.specs.Starting.{AreBodies, AreStarts, IsBodyOf, IsReady};
 
+use crate::known::{Known, KnownWays};
 use crate::leaves::element_takes;
-use crate::way::{Kind, Way};
+use crate::way::{Kind, Way, Ways};
 use crate::ways::ways;
+use rng_keys::{NameKey, NameKeys};
 use rng_model::{Name, OutOfMemory, PatternId, SimpleGrammar};
 use rng_patterns::{Pattern, PatternNumber, PatternTable};
+use smallvec::SmallVec;
 use std::alloc::Global;
 
-/// The bodies by which a pattern takes an element of this name, each with what is left behind the element.
+/// The bodies by which a pattern takes an element of the name that stands for a key, each with what is left behind the element.
 ///
-/// RELAX NG Specification, section 6.2.7. The numbers are those of the grammar's patterns. The error is want of memory.
+/// RELAX NG Specification, section 6.2.7. The numbers are those of the grammar's patterns, and the keys those of its names. The
+/// error is want of memory. What is worked out of the parts of the pattern is kept in what is known.
 pub fn start(
     alloc: Global,
     grammar: &SimpleGrammar,
+    keys: &NameKeys,
     table: &mut PatternTable,
+    known: &mut Known,
     numbers: &[PatternNumber],
     number: PatternNumber,
-    name: &Name,
-) -> Result<Vec<Way>, OutOfMemory>
+    key: NameKey,
+) -> Result<Ways, OutOfMemory>
     requires inside { number.0 < length table.old }
+    requires key { key.0 < length keys.now.names }
     requires ready { IsReady grammar.now table.old numbers.now }
+    requires known { AreAllKnown grammar.now keys.now table.old known.old }
     ensures longer { OnOk result (Longer table.old table.new) }
-    ensures starts { IfOk result (λ ws. AreStarts grammar.now table.new numbers.now (tree_of grammar.now table.old number.0) (name_of name.now) ws.items) }
+    ensures known { OnOk result (AreAllKnown grammar.now keys.now table.new known.new) }
+    ensures starts { IfOk result (λ ws. AreStarts grammar.now table.new numbers.now (tree_of grammar.now table.old number.0) (name_at keys.now key.0) ws.items) }
 {
-    let ways = ways(alloc, grammar, table, Kind::Element(name), number)?;
-    let mut starts = Vec::new(alloc);
+    let name = keys.name(key);
+    let ways = element_ways(
+        alloc,
+        grammar,
+        keys,
+        table,
+        &mut known.elements,
+        key,
+        number,
+    )?;
+    let mut starts = SmallVec::new(alloc);
     add_starts(grammar, table, numbers, name, ways.as_slice(), &mut starts)?;
     Ok(starts)
+}
+
+/// The ways of a pattern to take an element of the name that stands for a key.
+fn element_ways(
+    alloc: Global,
+    grammar: &SimpleGrammar,
+    keys: &NameKeys,
+    table: &mut PatternTable,
+    known: &mut Vec<KnownWays>,
+    key: NameKey,
+    number: PatternNumber,
+) -> Result<Ways, OutOfMemory>
+    requires inside { number.0 < length table.old }
+    requires key { key.0 < length keys.now.names }
+    requires known { AreKnownByKey IsElementKind grammar.now keys.now table.old known.old.items }
+    ensures longer { OnOk result (Longer table.old table.new) }
+    ensures known { OnOk result (AreKnownByKey IsElementKind grammar.now keys.now table.new known.new.items) }
+    ensures ways { IfOk result (λ ws. (kind : Kind) × IsElementKind (name_at keys.now key.0) kind
+        × AreWaysOf grammar.now table.new kind (tree_of grammar.now table.old number.0) ws.items) }
+{
+    let name = keys.name(key);
+    ways(
+        alloc,
+        grammar,
+        table,
+        &mut known[key.0],
+        Kind::Element(name),
+        number,
+    )
 }
 
 /// The body of a leaf that takes an element of this name.
@@ -74,7 +124,7 @@ fn add_starts(
     numbers: &[PatternNumber],
     name: &Name,
     ways: &[Way],
-    starts: &mut Vec<Way>,
+    starts: &mut Ways,
 ) -> Result<(), OutOfMemory>
     requires ready { IsReady grammar.now table.now numbers.now }
     requires ways { AreInside table.now ways.now }

@@ -1,6 +1,7 @@
 // Ways to begin.
 use rng_model::{Attr, Name};
 use rng_patterns::PatternNumber;
+use smallvec::SmallVec;
 
 /// A leaf of a pattern that may take what comes first, and the pattern of what may follow then.
 #[derive(Clone, Copy, PartialEq, Eq)]
@@ -8,6 +9,19 @@ pub struct Way {
     pub leaf: PatternNumber,
     pub rest: PatternNumber,
 }
+
+/// The way from the first pattern of a table to itself, which stands for none.
+impl Default for Way {
+    fn default() -> Self {
+        Way {
+            leaf: PatternNumber(0),
+            rest: PatternNumber(0),
+        }
+    }
+}
+
+/// The ways of a pattern: two at most for nearly all, which take no memory of their own.
+pub type Ways = SmallVec<Way, 2>;
 
 /// What comes first, as far as ways are told apart by it.
 #[derive(Clone, Copy)]

@@ -4,38 +4,84 @@ ghost use Rattle.rng_model.specs.Tree.{group, s_joined, s_one_or_more};
 ghost use Rattle.rng_patterns.specs.PatternTable.{Longer};
 ghost use Rattle.rng_patterns.specs.Trees.{choice_over, tree_of};
 ghost use Rattle.rng_ways.specs.Kinds.{HasNoOrder, IsOfItems, connector_of};
+ghost use Rattle.rng_ways.specs.KnownWays.{AreKnown};
 ghost use Rattle.rng_ways.specs.Ways.{AreWaysOf, IsHoleInside, filled};
 
 use crate::filling::add_filled;
+use crate::known::{KnownWays, copied_ways, keep, known_ways};
 use crate::leaves::{opened, ways_of_leaf};
-use crate::way::{Hole, Joint, Kind, Way};
+use crate::way::{Hole, Joint, Kind, Ways};
 use rng_model::{OutOfMemory, SimpleGrammar};
 use rng_patterns::{Pattern, PatternNumber, PatternTable};
+use smallvec::SmallVec;
 use std::alloc::Global;
 
 /// The ways of a pattern to take something of this kind first, each leaf once.
 ///
 /// A list nested to the left is opened to the right, so that its ways are those of its first member.
+///
+/// Those of choices, groups and repetitions are kept, so that they are worked out once for each pattern; an interleave of
+/// many members leads to too many others for that.
 #[cycle(ways)]
 pub fn ways(
     alloc: Global,
     grammar: &SimpleGrammar,
     table: &mut PatternTable,
+    known: &mut KnownWays,
     kind: Kind,
     number: PatternNumber,
-) -> Result<Vec<Way>, OutOfMemory>
-    requires { number.0 < length table.old }
+) -> Result<Ways, OutOfMemory>
+    requires inside { number.0 < length table.old }
+    requires known { AreKnown grammar.now table.old kind known.old }
     ensures longer { OnOk result (Longer table.old table.new) }
+    ensures known { OnOk result (AreKnown grammar.now table.new kind.entry known.new) }
+    ensures ways { IfOk result (λ ws. AreWaysOf grammar.now table.new kind.entry (tree_of grammar.now table.old number.0) ws.items) }
+{
+    if !is_kept(table, number) {
+        return new_ways(alloc, grammar, table, known, kind, number);
+    }
+    if let Some(ways) = known_ways(known, number) {
+        return copied_ways(alloc, ways);
+    }
+    let ways = new_ways(alloc, grammar, table, known, kind, number)?;
+    keep(alloc, known, number, ways.as_slice())?;
+    Ok(ways)
+}
+
+/// Whether the ways of a pattern are kept.
+fn is_kept(table: &PatternTable, number: PatternNumber) -> bool
+    requires { number.0 < length table.now }
+{
+    matches!(
+        table.pattern(number),
+        Pattern::Choice(_) | Pattern::Group(_, _) | Pattern::OneOrMore(_)
+    )
+}
+
+/// The ways of a pattern, worked out.
+#[cycle(ways)]
+fn new_ways(
+    alloc: Global,
+    grammar: &SimpleGrammar,
+    table: &mut PatternTable,
+    known: &mut KnownWays,
+    kind: Kind,
+    number: PatternNumber,
+) -> Result<Ways, OutOfMemory>
+    requires inside { number.0 < length table.old }
+    requires known { AreKnown grammar.now table.old kind known.old }
+    ensures longer { OnOk result (Longer table.old table.new) }
+    ensures known { OnOk result (AreKnown grammar.now table.new kind.entry known.new) }
     ensures ways { IfOk result (λ ws. AreWaysOf grammar.now table.new kind.entry (tree_of grammar.now table.old number.0) ws.items) }
 {
     match table.pattern(number) {
         Pattern::Choice(members) => {
             let members = copied(alloc, members.as_slice())?;
-            ways_of_choice(alloc, grammar, table, kind, members.as_slice())
+            ways_of_choice(alloc, grammar, table, known, kind, members.as_slice())
         }
         Pattern::Group(first, second) => {
             let (first, second) = (*first, *second);
-            ways_of_group(alloc, grammar, table, kind, first, second)
+            ways_of_group(alloc, grammar, table, known, kind, first, second)
         }
         Pattern::Interleave(first, second) => {
             let (first, second) = (*first, *second);
@@ -43,6 +89,7 @@ pub fn ways(
                 alloc,
                 grammar,
                 table,
+                known,
                 kind,
                 Joint::Interleave,
                 first,
@@ -51,7 +98,7 @@ pub fn ways(
         }
         Pattern::OneOrMore(body) => {
             let body = *body;
-            ways_of_copies(alloc, grammar, table, kind, number, body)
+            ways_of_copies(alloc, grammar, table, known, kind, number, body)
         }
         _ => ways_of_leaf(alloc, grammar, table, kind, number),
     }
@@ -72,18 +119,21 @@ fn ways_of_choice(
     alloc: Global,
     grammar: &SimpleGrammar,
     table: &mut PatternTable,
+    known: &mut KnownWays,
     kind: Kind,
     members: &[PatternNumber],
-) -> Result<Vec<Way>, OutOfMemory>
+) -> Result<Ways, OutOfMemory>
     requires inside { All (λ m. m.0 < length table.old) members.now }
     requires two { 2 ≤ length members.now }
+    requires known { AreKnown grammar.now table.old kind known.old }
     ensures longer { OnOk result (Longer table.old table.new) }
+    ensures known { OnOk result (AreKnown grammar.now table.new kind.entry known.new) }
     ensures ways { IfOk result (λ ws. AreWaysOf grammar.now table.new kind.entry (choice_over (tree_of grammar.now table.old)
         (map (λ m. m.0) members.now)) ws.items) }
 {
-    let mut all = Vec::new(alloc);
+    let mut all = SmallVec::new(alloc);
     'members: for member in members {
-        let ways = ways(alloc, grammar, table, kind, *member)?;
+        let ways = ways(alloc, grammar, table, known, kind, *member)?;
         add_filled(alloc, table, Hole::Whole, ways.as_slice(), &mut all)?;
     }
     Ok(all)
@@ -95,25 +145,37 @@ fn ways_of_group(
     alloc: Global,
     grammar: &SimpleGrammar,
     table: &mut PatternTable,
+    known: &mut KnownWays,
     kind: Kind,
     first: PatternNumber,
     second: PatternNumber,
-) -> Result<Vec<Way>, OutOfMemory>
+) -> Result<Ways, OutOfMemory>
     requires first { first.0 < length table.old }
     requires second { second.0 < length table.old }
+    requires known { AreKnown grammar.now table.old kind known.old }
     ensures longer { OnOk result (Longer table.old table.new) }
+    ensures known { OnOk result (AreKnown grammar.now table.new kind.entry known.new) }
     ensures ways { IfOk result (λ ws. AreWaysOf grammar.now table.new kind.entry
         (s_joined group (tree_of grammar.now table.old first.0) (tree_of grammar.now table.old second.0)) ws.items) }
 {
     if let Kind::Attribute(_) = kind {
-        return ways_of_both(alloc, grammar, table, kind, Joint::Group, first, second);
+        return ways_of_both(
+            alloc,
+            grammar,
+            table,
+            known,
+            kind,
+            Joint::Group,
+            first,
+            second,
+        );
     }
     let Some((outer, inner)) = opened(table, first) else {
-        return item_ways_of_group(alloc, grammar, table, kind, first, second);
+        return item_ways_of_group(alloc, grammar, table, known, kind, first, second);
     };
     let rest = table.group(inner, second)?;
     let whole = table.group(outer, rest)?;
-    ways(alloc, grammar, table, kind, whole)
+    ways(alloc, grammar, table, known, kind, whole)
 }
 
 /// The ways of a group to take an item first: those of its first side, and of the second where the first is nullable.
@@ -122,19 +184,22 @@ fn item_ways_of_group(
     alloc: Global,
     grammar: &SimpleGrammar,
     table: &mut PatternTable,
+    known: &mut KnownWays,
     kind: Kind,
     first: PatternNumber,
     second: PatternNumber,
-) -> Result<Vec<Way>, OutOfMemory>
+) -> Result<Ways, OutOfMemory>
     requires kind { IsOfItems kind }
     requires first { first.0 < length table.old }
     requires second { second.0 < length table.old }
+    requires known { AreKnown grammar.now table.old kind known.old }
     ensures longer { OnOk result (Longer table.old table.new) }
+    ensures known { OnOk result (AreKnown grammar.now table.new kind.entry known.new) }
     ensures ways { IfOk result (λ ws. AreWaysOf grammar.now table.new kind.entry
         (s_joined group (tree_of grammar.now table.old first.0) (tree_of grammar.now table.old second.0)) ws.items) }
 {
-    let firsts = ways(alloc, grammar, table, kind, first)?;
-    let mut all = Vec::new(alloc);
+    let firsts = ways(alloc, grammar, table, known, kind, first)?;
+    let mut all = SmallVec::new(alloc);
     add_filled(
         alloc,
         table,
@@ -145,7 +210,7 @@ fn item_ways_of_group(
     if !table.facts(first).nullable {
         return Ok(all);
     }
-    let seconds = ways(alloc, grammar, table, kind, second)?;
+    let seconds = ways(alloc, grammar, table, known, kind, second)?;
     add_filled(alloc, table, Hole::Whole, seconds.as_slice(), &mut all)?;
     Ok(all)
 }
@@ -156,21 +221,24 @@ fn ways_of_both(
     alloc: Global,
     grammar: &SimpleGrammar,
     table: &mut PatternTable,
+    known: &mut KnownWays,
     kind: Kind,
     joint: Joint,
     first: PatternNumber,
     second: PatternNumber,
-) -> Result<Vec<Way>, OutOfMemory>
+) -> Result<Ways, OutOfMemory>
     requires order { HasNoOrder kind joint }
     requires first { first.0 < length table.old }
     requires second { second.0 < length table.old }
+    requires known { AreKnown grammar.now table.old kind known.old }
     ensures longer { OnOk result (Longer table.old table.new) }
+    ensures known { OnOk result (AreKnown grammar.now table.new kind.entry known.new) }
     ensures ways { IfOk result (λ ws. AreWaysOf grammar.now table.new kind.entry
         (s_joined (connector_of joint) (tree_of grammar.now table.old first.0) (tree_of grammar.now table.old second.0)) ws.items) }
 {
-    let firsts = ways(alloc, grammar, table, kind, first)?;
-    let seconds = ways(alloc, grammar, table, kind, second)?;
-    let mut all = Vec::new(alloc);
+    let firsts = ways(alloc, grammar, table, known, kind, first)?;
+    let seconds = ways(alloc, grammar, table, known, kind, second)?;
+    let mut all = SmallVec::new(alloc);
     add_filled(
         alloc,
         table,
@@ -194,20 +262,23 @@ fn ways_of_copies(
     alloc: Global,
     grammar: &SimpleGrammar,
     table: &mut PatternTable,
+    known: &mut KnownWays,
     kind: Kind,
     number: PatternNumber,
     body: PatternNumber,
-) -> Result<Vec<Way>, OutOfMemory>
+) -> Result<Ways, OutOfMemory>
     requires number { number.0 < length table.old }
     requires body { body.0 < length table.old }
     requires copies { tree_of grammar.now table.old number.0 ≡ s_one_or_more (tree_of grammar.now table.old body.0) }
+    requires known { AreKnown grammar.now table.old kind known.old }
     ensures longer { OnOk result (Longer table.old table.new) }
+    ensures known { OnOk result (AreKnown grammar.now table.new kind.entry known.new) }
     ensures ways { IfOk result (λ ws. AreWaysOf grammar.now table.new kind.entry (tree_of grammar.now table.old number.0) ws.items) }
 {
-    let copies = ways(alloc, grammar, table, kind, body)?;
+    let copies = ways(alloc, grammar, table, known, kind, body)?;
     let empty = table.empty()?;
     let more = table.choice(alloc, &[number, empty])?;
-    let mut all = Vec::new(alloc);
+    let mut all = SmallVec::new(alloc);
     add_filled(
         alloc,
         table,

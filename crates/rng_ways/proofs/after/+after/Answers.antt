@@ -22,6 +22,7 @@ use Rattle.rng_ways.specs.declared.way.Place.TheVariants as places
 use Rattle.rng_ways.specs.declared.way.Way as numbered
 use Rattle.rng_ways.proofs.Behind.{leaf_leaves, leaf_leaves_none, left_behind}
 use Rattle.rng_ways.proofs.Closings.{both_ok}
+use Rattle.rng_ways.proofs.KnownWays.{all_longer}
 use Rattle.rng_ways.proofs.Nodes.{is_over, parts_there}
 use Rattle.rng_ways.proofs.Pieces.{either_blank, either_none, either_true, list_told, one_piece_more, value_told}
 use Rattle.rng_ways.proofs.Rows.{decides_holds}
@@ -36,8 +37,11 @@ after-rests-requires t c =
     let d = c.decreases in (
       omega (arith, d),
       (
-        subst (AreInside c.ways_for.new.table) (sym c.as_slice.ensures.value) c.in_ok-ways.ensures.ways.inside,
-        ready_longer c.args.grammar.now c.args.table.now c.ways_for.new.table c.args.numbers.now c.in_ok-ways.ensures.longer c.requires.ready,
+        subst (AreInside c.ways_for.new.table) (sym c.as_slice.ensures) c.in_ok-ways.ensures.ways.inside,
+        (
+          ready_longer c.args.grammar.now c.args.table.now c.ways_for.new.table c.args.numbers.now c.in_ok-ways.ensures.longer c.requires.ready,
+          c.in_ok-ways.ensures.known,
+        ),
       ),
     )
 
@@ -49,7 +53,7 @@ after-returns-clause-left t c =
     let n2 = c.rests.new.table in
     let slice : List PatternNumber = c.as_slice-2.result.now in
     let some = subst (λ (rs : List PatternNumber). AreRests t0 n1 n2 c.args.first c.in_ok-ways.ways.items rs) (sym c.as_slice-2.ensures.value)
-    (subst (λ (ws : List numbered.Way). AreRests t0 n1 n2 c.args.first ws c.in_ok-rests.rests.items) c.as_slice.ensures.value c.in_ok-rests.ensures.rests) in
+    (subst (λ (ws : List numbered.Way). AreRests t0 n1 n2 c.args.first ws c.in_ok-rests.rests.items) c.as_slice.ensures c.in_ok-rests.ensures.rests) in
     if_ok c.choice.result _ _ (λ n h. left_behind t0 old n1 n2 c.choice.new.self c.args.first c.args.number n c.in_ok-ways.ways.items slice
     c.in_ok-ways.ensures.ways some h.0 (h.1.0 t0) (h.1.1 t0 (reading_of t0)))
     (both_ok c.choice.result _ _ c.choice.ensures.inside (both_ok c.choice.result _ _ c.choice.ensures.alternatives c.choice.ensures.matches))
@@ -59,6 +63,7 @@ attribute_takes-returns-in_default-row t c =
     let t0 = c.args.grammar.now in
     let found = sym c.in-Some.ensures.value in record {
       longer = Longer-refl c.args.table.now;
+      known = c.requires.known;
       taken = tells_of_no_attribute (reading_of t0) c.args.attr _ (ap (attribute_found t0) found
           ∙ no_attribute_found t0 c.in-Some.row.now c.in_default-row.not-Attribute);
     }
@@ -78,8 +83,8 @@ attribute_takes-value_takes-requires t c =
     let found = sym c.in-Some.ensures.value in
     let within = slice_get_within c.args.grammar.now.patterns c.args.position.0 _ found in
     let below : c.in-Attribute.body.0 < c.args.position.0 = search rules in
-    let long = c.requires.long in
-    (omega (arith, d), (omega (arith, within, below, long), c.requires))
+    let long = c.requires.ready.long in
+    (omega (arith, d), (omega (arith, within, below, long), (c.requires.ready, c.requires.known)))
 
 pub attribute_takes-returns-clause-taken : goal.attribute_takes-returns-clause-taken
 attribute_takes-returns-clause-taken t c =
@@ -133,6 +138,7 @@ data_takes-returns-in_default-row t c =
     let t0 = c.args.grammar.now in
     let found = sym c.in-Some.ensures.value in record {
       longer = Longer-refl c.args.table.now;
+      known = c.requires.1.1.1;
       taken = tells_of_none (reading_of t0) c.args.place c.args.text _ (ap (data_found t0) found ∙ no_data_found t0 c.in-Some.row.now
           c.in_default-row.not-List c.in_default-row.not-Data c.in_default-row.not-DataExcept c.in_default-row.not-Value);
     }
@@ -144,7 +150,8 @@ list_takes-pieces-init t c =
     let At : PatternNumber → Type 0 = λ n. n.0 < length old in
     let is = ap (λ (n : PatternNumber). tree_of t0 old n.0) c.number_at-rest.ensures in record {
       longer = Longer-refl old;
-      inside = subst At (sym c.number_at-rest.ensures) (c.requires.1.1.1.taken.inside c.args.body.0 c.requires.1.1.0);
+      known = c.requires.1.1.1.1;
+      inside = subst At (sym c.number_at-rest.ensures) (c.requires.1.1.1.0.taken.inside c.args.body.0 c.requires.1.1.0);
       kept = λ o. subst (Obeys places.List) (sym is) o;
       takes = λ o. rw is (λ h. h, λ h. h);
     }
@@ -154,7 +161,10 @@ list_takes-after-requires t c = (
   search rules,
   (
     c.pieces.invariant.inside,
-    ready_longer c.args.grammar.now c.args.table.now c.pieces.table c.args.numbers.now c.pieces.invariant.longer c.requires.1.1.1,
+    (
+      ready_longer c.args.grammar.now c.args.table.now c.pieces.table c.args.numbers.now c.pieces.invariant.longer c.requires.1.1.1.0,
+      c.pieces.invariant.known,
+    ),
   ),
 )
 
@@ -163,6 +173,7 @@ list_takes-pieces-preserved t c =
     let t0 = c.args.grammar.now in
     let inv = c.pieces.invariant in record {
       longer = Longer-trans c.args.table.now c.pieces.table c.after.new.table inv.longer c.in_ok-rest.ensures.longer;
+      known = c.in_ok-rest.ensures.known;
       inside = c.in_ok-rest.ensures.left.inside;
       kept = λ o. c.in_ok-rest.ensures.left.kept (inv.kept o);
       takes = λ o. one_piece_more t0 c.pieces.table c.after.new.table c.pieces.rest c.in_ok-rest.rest
@@ -180,7 +191,7 @@ pub list_takes-returns-clause-taken : goal.list_takes-returns-clause-taken
 list_takes-returns-clause-taken t c =
     let t0 = c.args.grammar.now in
     list_told t0 c.args.table.now c.pieces.table c.args.numbers.now c.args.body c.pieces.rest c.as_slice-piece-items.result.now c.pieces.piece-index _ _
-    c.requires.1.1.1 c.requires.1.1.0 c.pieces-test.false (search rules) c.pieces.invariant.takes (c.facts.ensures.nullable t0 (reading_of t0))
+    c.requires.1.1.1.0 c.requires.1.1.0 c.pieces-test.false (search rules) c.pieces.invariant.takes (c.facts.ensures.nullable t0 (reading_of t0))
 
 pub rests-takes-requires : goal.rests-takes-requires
 rests-takes-requires t c =
@@ -191,7 +202,10 @@ rests-takes-requires t c =
       omega (arith, d),
       (
         omega (arith, there, long),
-        ready_longer c.args.grammar.now c.args.table.now c.ways.table c.args.numbers.now c.ways.invariant.longer c.requires.ready,
+        (
+          ready_longer c.args.grammar.now c.args.table.now c.ways.table c.args.numbers.now c.ways.invariant.longer c.requires.ready,
+          c.ways.invariant.known,
+        ),
       ),
     )
 
@@ -209,6 +223,7 @@ rests-ways-preserved t c =
     let inside = c.requires.inside i d c.ways-test.true in
     record {
       longer = Longer-trans old c.ways.table new inv.longer c.in_ok-takes.ensures.longer;
+      known = c.in_ok-takes.ensures.known;
       rests = subst (λ (vs : List numbered.Way). AreRests t0 old new c.args.first vs c.if-branch.rests.items) (sym cut) (elim c.if-branch.branch [
         | rests-then-branch+in_ok-push w ↦ leaf_leaves t0 old c.ways.table new c.args.first (take i ws) (get_or ws i d) c.ways.rests.items inv.longer
             c.in_ok-takes.ensures.longer inside inv.rests c.in_ok-takes.field-0 c.if-branch.rests.items
@@ -251,6 +266,7 @@ takes-returns-in_default t c =
     let l = tree_of t0 ns c.args.leaf.0 in
     let p = c.pattern.result.now in record {
       longer = Longer-refl ns;
+      known = c.requires.known;
       taken = subst (λ first. TellsTaken (reading_of t0) first l false) (sym c.in_default.is-0)
           (tells_of_no_string (reading_of t0) t0 (tree_of t0 ns) c.args.leaf.0 c.in_default.field-0-0 c.in_default.field-1-0 l p
           (is_over t0 ns c.args.leaf.0 p p c.pattern.ensures.table c.pattern.ensures.found refl)
@@ -264,6 +280,7 @@ takes-returns-in_default-2 t c =
     let l = tree_of t0 ns c.args.leaf.0 in
     let p = c.pattern.result.now in record {
       longer = Longer-refl ns;
+      known = c.requires.known;
       taken = subst (λ first. TellsTaken (reading_of t0) first l false) (sym c.in_default.is-0)
           (tells_of_no_leaf (reading_of t0) t0 (tree_of t0 ns) c.args.leaf.0 c.in_default.field-0-0 l p
           (is_over t0 ns c.args.leaf.0 p p c.pattern.ensures.table c.pattern.ensures.found refl)
@@ -274,7 +291,7 @@ pub value_takes-returns-then-facts-clause-taken : goal.value_takes-returns-then-
 value_takes-returns-then-facts-clause-taken t c =
     let t0 = c.args.grammar.now in
     value_told t0 c.args.table.now c.after.new.table c.args.numbers.now c.args.body c.number_at-body.result c.in_ok-rest.rest c.args.value
-    c.facts.result.nullable c.facts-empty.result.nullable (is_blank c.args.value.now) _ c.requires.1.1.1 c.requires.1.1.0 c.number_at-body.ensures
+    c.facts.result.nullable c.facts-empty.result.nullable (is_blank c.args.value.now) _ c.requires.1.1.1.0 c.requires.1.1.0 c.number_at-body.ensures
     c.in_ok-rest.ensures.left (c.facts.ensures.nullable t0 (reading_of t0)) (c.facts-empty.ensures.nullable t0 (reading_of t0)) refl
     (either_true _ _ c.if-facts.true)
 
@@ -282,7 +299,7 @@ pub value_takes-returns-then-empty-clause-taken : goal.value_takes-returns-then-
 value_takes-returns-then-empty-clause-taken t c =
     let t0 = c.args.grammar.now in
     value_told t0 c.args.table.now c.after.new.table c.args.numbers.now c.args.body c.number_at-body.result c.in_ok-rest.rest c.args.value
-    c.facts.result.nullable c.facts-empty.result.nullable c.is_blank.result _ c.requires.1.1.1 c.requires.1.1.0 c.number_at-body.ensures
+    c.facts.result.nullable c.facts-empty.result.nullable c.is_blank.result _ c.requires.1.1.1.0 c.requires.1.1.0 c.number_at-body.ensures
     c.in_ok-rest.ensures.left (c.facts.ensures.nullable t0 (reading_of t0)) (c.facts-empty.ensures.nullable t0 (reading_of t0)) c.is_blank.ensures
     (either_blank _ _ _ c.if-facts.false c.if-empty.true)
 
@@ -290,6 +307,17 @@ pub value_takes-returns-else-empty-clause-taken : goal.value_takes-returns-else-
 value_takes-returns-else-empty-clause-taken t c =
     let t0 = c.args.grammar.now in
     value_told t0 c.args.table.now c.after.new.table c.args.numbers.now c.args.body c.number_at-body.result c.in_ok-rest.rest c.args.value
-    c.facts.result.nullable c.facts-empty.result.nullable (is_blank c.args.value.now) _ c.requires.1.1.1 c.requires.1.1.0 c.number_at-body.ensures
+    c.facts.result.nullable c.facts-empty.result.nullable (is_blank c.args.value.now) _ c.requires.1.1.1.0 c.requires.1.1.0 c.number_at-body.ensures
     c.in_ok-rest.ensures.left (c.facts.ensures.nullable t0 (reading_of t0)) (c.facts-empty.ensures.nullable t0 (reading_of t0)) refl
     (either_none _ _ _ c.if-facts.false c.if-empty.false)
+
+pub list_takes-returns-clause-known : goal.list_takes-returns-clause-known
+list_takes-returns-clause-known t c = c.pieces.invariant.known
+
+pub rests-returns-clause-known : goal.rests-returns-clause-known
+rests-returns-clause-known t c = c.ways.invariant.known
+
+pub after-returns-clause-known : goal.after-returns-clause-known
+after-returns-clause-known t c =
+    if_ok c.choice.result _ _ (λ n h. all_longer c.args.grammar.now c.args.keys.now c.rests.new.table c.choice.new.self c.choice.ensures.longer
+    c.rests.new.known c.in_ok-rests.ensures.known) c.choice.ensures.inside

@@ -4,6 +4,7 @@ use Rattle.rng_patterns.specs.PatternTable.{Longer}
 use Rattle.rng_patterns.specs.Taking.{tree_by}
 use Rattle.rng_patterns.specs.Trees.{tree_of}
 use Rattle.rng_ways.specs.After.{AreRests}
+use Rattle.rng_ways.specs.KnownWays.{AreAllKnown}
 use Rattle.rng_ways.specs.Kinds.{Obeys, reading_of}
 use Rattle.rng_ways.specs.declared.way.First.TheVariants as firsts
 use Rattle.rng_ways.specs.declared.way.Place.TheVariants as places
@@ -35,6 +36,7 @@ decreases-value_takes l = 12
 abbrev pub invariant-rests-ways : goal.invariant-rests-ways
 invariant-rests-ways l = record {
   longer : Longer l.fn.table l.table;
+  known : AreAllKnown l.grammar l.keys l.table l.known;
   rests : AreRests l.grammar l.fn.table l.table l.first (take l.way-index l.ways) l.rests.items;
 }
 
@@ -43,6 +45,7 @@ invariant-list_takes-pieces l =
     let g = reading_of l.grammar in
     let whole = tree_by l.grammar l.fn.table l.numbers l.fn.body in record {
       longer : Longer l.fn.table l.table;
+      known : AreAllKnown l.grammar l.keys l.table l.known;
       inside : l.rest.0 < length l.table;
       kept : Obeys places.List whole → Obeys places.List (tree_of l.grammar l.table l.rest.0);
       takes : Obeys places.List whole → Takes g (tree_of l.grammar l.table l.rest.0) [] (texts_in (drop l.piece-index l.piece-items))

@@ -2,6 +2,10 @@ use Rattle.std.proofs.Common.{sym, subst, rules}
 use Rattle.rng_patterns.proofs.Choices.{if_ok}
 use Rattle.rng_patterns.specs.Trees.{tree_of}
 use Rattle.rng_ways.specs.After.{AreWaysFor}
+use Rattle.rng_ways.specs.KnownWays.{IsAttributeKind, IsElementKind}
+use Rattle.rng_ways.specs.declared.way.Kind.TheVariants as kinds
+use Rattle.rng_ways.proofs.Closings.{both_ok}
+use Rattle.rng_ways.proofs.KnownWays.{by_key_longer, known_longer}
 use Rattle.rng_ways.proofs.Behind.{ways_for_attribute, ways_for_text}
 use Rattle.rng_ways.proofs.after.ways_for.Goals as goal
 
@@ -16,5 +20,24 @@ pub returns-in-Attribute-clause-ways : goal.returns-in-Attribute-clause-ways
 returns-in-Attribute-clause-ways c =
     let t = c.args.grammar.now in
     let p = tree_of t c.args.table.now c.args.number.0 in
-    if_ok c.ways-in-Attribute.result _ _ (λ ws h. subst (λ first. AreWaysFor t c.ways-in-Attribute.new.table first p ws.items) (sym c.in-Attribute.is)
-    (ways_for_attribute t c.ways-in-Attribute.new.table c.in-Attribute.attr _ p ws.items (search rules) h)) c.ways-in-Attribute.ensures.ways
+    if_ok c.attribute_ways.result _ _ (λ ws h. subst (λ first. AreWaysFor t c.attribute_ways.new.table first p ws.items) (sym c.in-Attribute.is)
+    (ways_for_attribute t c.attribute_ways.new.table c.in-Attribute.attr _ p ws.items (search rules) h)) c.attribute_ways.ensures.ways
+
+pub returns-in-Text-clause-known : goal.returns-in-Text-clause-known
+returns-in-Text-clause-known c =
+    if_ok c.ways.result _ _ (λ ws h. record {
+      texts = h.1;
+      elements = by_key_longer IsElementKind c.args.grammar.now c.args.keys.now c.args.table.now c.ways.new.table h.0 c.args.known.now.elements.items
+          c.requires.known.elements;
+      attributes = by_key_longer IsAttributeKind c.args.grammar.now c.args.keys.now c.args.table.now c.ways.new.table h.0
+          c.args.known.now.attributes.items c.requires.known.attributes;
+    }) (both_ok c.ways.result _ _ c.ways.ensures.longer c.ways.ensures.known)
+
+pub returns-in-Attribute-clause-known : goal.returns-in-Attribute-clause-known
+returns-in-Attribute-clause-known c =
+    if_ok c.attribute_ways.result _ _ (λ ws h. record {
+      texts = known_longer c.args.grammar.now c.args.table.now c.attribute_ways.new.table kinds.Text h.0 c.args.known.now.texts c.requires.known.texts;
+      elements = by_key_longer IsElementKind c.args.grammar.now c.args.keys.now c.args.table.now c.attribute_ways.new.table h.0
+          c.args.known.now.elements.items c.requires.known.elements;
+      attributes = h.1;
+    }) (both_ok c.attribute_ways.result _ _ c.attribute_ways.ensures.longer c.attribute_ways.ensures.known)

@@ -26,7 +26,7 @@ returns-clause-ways c =
     let way = c.args.way in
     let all_inside = subst (AreInside old) out.2 c.requires.inside in
     let e : c.push-2.new.self.items ≡ (out.0 ++ out.1) ++ record { leaf = way.leaf; rest = c.in_ok-rest.rest } ∷ [] =
-    c.in_ok-push-2.ensures.items ∙ ap (λ ws. ws ++ record { leaf = way.leaf; rest = c.in_ok-rest.rest } ∷ []) out.3 in
+    c.in_ok-push-2.ensures.ok ∙ ap (λ ws. ws ++ record { leaf = way.leaf; rest = c.in_ok-rest.rest } ∷ []) out.3 in
     subst (λ all. StandFor new c.push-2.new.self.items (λ t. ways_by (tree_of t old) (all ++ way ∷ []))) (sym out.2)
     (subst (λ more. StandFor new more (λ t. ways_by (tree_of t old) ((out.0 ++ c.in-Some.other ∷ out.1) ++ way ∷ []))) (sym e)
     (joined_stands old new out.0 out.1 c.in-Some.other way c.in_ok-rest.rest c.in_ok-rest.ensures.longer all_inside c.requires.way taken.0

@@ -26,7 +26,7 @@ returns-clause-ways c =
     let new = c.rest_of_leaf.new.table in
     let p = tree_of t old c.args.number.0 in
     let way : numbered.Way = record { leaf = c.args.number; rest = c.in_ok-rest.rest } in
-    let e : c.push.new.self.items ≡ way ∷ [] = c.in_ok-push.ensures.items ∙ ap (λ ws. ws ++ way ∷ []) c.new-ways.ensures.items in
+    let e : c.push.new.self.items ≡ way ∷ [] = c.in_ok-push.ensures.ok ∙ ap (λ ws. ws ++ way ∷ []) c.new-ways.ensures.items in
     let is : ways_by (tree_of t new) (way ∷ []) ≡ leaf_way p ∷ [] =
     ap₂ (λ l r. record { leaf = l; rest = r } ∷ []) (tree_stays t old new c.args.number.0 c.in_ok-rest.ensures.longer c.requires.inside)
     (c.in_ok-rest.ensures.tree.is t) in

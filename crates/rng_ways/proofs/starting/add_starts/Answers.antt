@@ -10,4 +10,4 @@ ways-preserved-in_default c =
 pub ways-preserved : goal.ways-preserved
 ways-preserved c =
     one_body_more c.args.grammar.now c.args.table.now c.args.numbers.now (name_of c.args.name.now) c.args.ways.now c.ways.starts.items c.ways.way-index _
-    c.ways-test.true c.requires.ways c.ways.invariant c.in-Some.body c.push.new.self.items c.in-Some.ensures c.in_ok-push.ensures.items
+    c.ways-test.true c.requires.ways c.ways.invariant c.in-Some.body c.push.new.self.items c.in-Some.ensures c.in_ok-push.ensures.ok

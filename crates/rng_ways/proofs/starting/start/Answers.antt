@@ -1,26 +1,44 @@
 use Rattle.std.proofs.Common.{List, sym, subst}
-use Rattle.rng_model.specs.View.{name_of}
+use Rattle.rng_keys.specs.Keys.{name_at}
 use Rattle.rng_patterns.specs.Trees.{tree_of}
 use Rattle.rng_ways.specs.Starting.{AreBodies}
 use Rattle.rng_ways.specs.Ways.{AreInside}
+use Rattle.rng_ways.specs.KnownWays.{IsAttributeKind}
+use Rattle.rng_ways.specs.declared.way.Kind.TheVariants as kinds
 use Rattle.rng_ways.specs.declared.way.Place.TheVariants as places
 use Rattle.rng_ways.specs.declared.way.Way as numbered
+use Rattle.rng_ways.proofs.KnownWays.{by_key_longer, element_kept, element_law, known_longer}
 use Rattle.rng_ways.proofs.Starts.{ready_longer, starts_made}
 use Rattle.rng_ways.proofs.starting.start.Goals as goal
 
 pub add_starts-requires : goal.add_starts-requires
 add_starts-requires c = record {
-  ready = ready_longer c.args.grammar.now c.args.table.now c.ways.new.table c.args.numbers.now c.in_ok-ways.ensures.longer c.requires.ready;
-  ways = subst (AreInside c.ways.new.table) (sym c.as_slice.ensures.value) c.in_ok-ways.ensures.ways.inside;
+  ready = ready_longer c.args.grammar.now c.args.table.now c.element_ways.new.table c.args.numbers.now c.in_ok-ways.ensures.longer c.requires.ready;
+  ways = subst (AreInside c.element_ways.new.table) (sym c.as_slice.ensures) c.in_ok-ways.ensures.ways.2.inside;
   none = c.new-starts.ensures.items;
 }
 
 pub returns-clause-starts : goal.returns-clause-starts
 returns-clause-starts c =
     let t = c.args.grammar.now in
-    let new = c.ways.new.table in
+    let new = c.element_ways.new.table in
     let p = tree_of t c.args.table.now c.args.number.0 in
-    starts_made t new c.args.numbers.now p (name_of c.args.name.now) c.in_ok-ways.ways.items c.add_starts.new.starts.items c.in_ok-ways.ensures.ways.law
-    (λ o. c.in_ok-ways.ensures.ways.kept places.Content o)
-    (subst (λ (ws : List numbered.Way). AreBodies t new c.args.numbers.now (name_of c.args.name.now) ws c.add_starts.new.starts.items)
-    c.as_slice.ensures.value c.in_ok-add_starts.ensures.starts)
+    let q = name_at c.args.keys.now c.args.key.0 in
+    let told = c.in_ok-ways.ensures.ways in
+    starts_made t new c.args.numbers.now p q c.in_ok-ways.ways.items c.add_starts.new.starts.items (element_law t new q p c.in_ok-ways.ways.items told.0 told.1 told.2)
+    (λ o. element_kept t new q p c.in_ok-ways.ways.items told.0 told.1 told.2 places.Content o)
+    (subst (λ (ws : List numbered.Way). AreBodies t new c.args.numbers.now q ws c.add_starts.new.starts.items)
+    c.as_slice.ensures (subst (λ q. AreBodies t new c.args.numbers.now q c.as_slice.result.now c.add_starts.new.starts.items) c.name-name.ensures.name
+    c.in_ok-add_starts.ensures.starts))
+
+pub returns-clause-known : goal.returns-clause-known
+returns-clause-known c =
+    let t = c.args.grammar.now in
+    let old = c.args.table.now in
+    let new = c.element_ways.new.table in
+    record {
+      texts = known_longer t old new kinds.Text c.in_ok-ways.ensures.longer c.args.known.now.texts c.requires.known.texts;
+      elements = c.in_ok-ways.ensures.known;
+      attributes = by_key_longer IsAttributeKind t c.args.keys.now old new c.in_ok-ways.ensures.longer c.args.known.now.attributes.items
+          c.requires.known.attributes;
+    }

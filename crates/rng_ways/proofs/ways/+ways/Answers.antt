@@ -19,12 +19,13 @@ use Rattle.rng_ways.proofs.Adding.{either_member}
 use Rattle.rng_ways.proofs.Composing.{both_made, copies_made, first_made, group_made, member_made, opened_hands_on, opened_same, over_hands_on}
 use Rattle.rng_ways.proofs.Composing.{map_numbers, no_order_between, over_same, side_law, ways_of_same}
 use Rattle.rng_ways.proofs.Kept.{Obeys-hereditary, choice_has}
+use Rattle.rng_ways.proofs.KnownWays.{known_longer, known_more, those_known}
 use Rattle.rng_ways.proofs.Nodes.{is_over, other_single, parts_there, single_alone}
 use Rattle.rng_ways.proofs.Weights.{member_less, opened_less, right_less}
 use Rattle.rng_ways.proofs.ways.+ways.Goals as goal
 
-pub ways-ways_of_choice-requires : goal.ways-ways_of_choice-requires
-ways-ways_of_choice-requires t c =
+pub new_ways-ways_of_choice-requires : goal.new_ways-ways_of_choice-requires
+new_ways-ways_of_choice-requires t c =
     let t0 = c.args.grammar.now in
     let ms = c.in-Choice.members.items in
     let n = length c.args.table.now in
@@ -35,7 +36,7 @@ ways-ways_of_choice-requires t c =
     let v = ap (λ ms. weight (choice_over (tree_of t0 c.args.table.now) (map (λ (m : PatternNumber). m.0) ms))) e in
     let below = parts_there c.args.table.now c.args.number.0 c.pattern.result.now _ c.pattern.ensures.table c.pattern.ensures.found c.in-Choice.is in
     let d = c.decreases in
-    let inside = c.requires in
+    let inside = c.requires.inside in
     let long = length-map ms (λ (m : PatternNumber). m.0) in
     let two = below.0 in
     let two_members : 2 ≤ length ms = omega (arith, long, two) in
@@ -44,57 +45,60 @@ ways-ways_of_choice-requires t c =
     let one = below.1 k dm.0 (omega (arith, long, h)) in
     let at = get_or-map (λ (m : PatternNumber). m.0) ms k dm in
     omega (arith, one, at, inside) in
-    (omega (arith, w, v, d), (subst Inside (sym e) member, subst (λ (ms : List PatternNumber). 2 ≤ length ms) (sym e) two_members))
+    (omega (arith, w, v, d), (subst Inside (sym e) member, (subst (λ (ms : List PatternNumber). 2 ≤ length ms) (sym e) two_members, c.requires.known)))
 
-pub ways-ways_of_group-requires : goal.ways-ways_of_group-requires
-ways-ways_of_group-requires t c =
+pub new_ways-ways_of_group-requires : goal.new_ways-ways_of_group-requires
+new_ways-ways_of_group-requires t c =
     let t0 = c.args.grammar.now in
     let w = ap weight (is_over t0 c.args.table.now c.args.number.0 c.pattern.result.now _ c.pattern.ensures.table c.pattern.ensures.found c.in-Group.is) in
     let below = parts_there c.args.table.now c.args.number.0 c.pattern.result.now _ c.pattern.ensures.table c.pattern.ensures.found c.in-Group.is in
     let first = below.0 in
     let second = below.1 in
     let d = c.decreases in
-    let inside = c.requires in
-    (omega (arith, w, d), (omega (arith, first, inside), omega (arith, second, inside)))
+    let inside = c.requires.inside in
+    (omega (arith, w, d), (omega (arith, first, inside), (omega (arith, second, inside), c.requires.known)))
 
-pub ways-ways_of_both-requires : goal.ways-ways_of_both-requires
-ways-ways_of_both-requires t c =
+pub new_ways-ways_of_both-requires : goal.new_ways-ways_of_both-requires
+new_ways-ways_of_both-requires t c =
     let t0 = c.args.grammar.now in
     let w = ap weight (is_over t0 c.args.table.now c.args.number.0 c.pattern.result.now _ c.pattern.ensures.table c.pattern.ensures.found c.in-Interleave.is) in
     let below = parts_there c.args.table.now c.args.number.0 c.pattern.result.now _ c.pattern.ensures.table c.pattern.ensures.found c.in-Interleave.is in
     let first = below.0 in
     let second = below.1 in
     let d = c.decreases in
-    let inside = c.requires in
-    (omega (arith, w, d), (no_order_between c.args.kind, (omega (arith, first, inside), omega (arith, second, inside))))
+    let inside = c.requires.inside in
+    (omega (arith, w, d), (no_order_between c.args.kind, (omega (arith, first, inside), (omega (arith, second, inside), c.requires.known))))
 
-pub ways-ways_of_copies-requires : goal.ways-ways_of_copies-requires
-ways-ways_of_copies-requires t c =
+pub new_ways-ways_of_copies-requires : goal.new_ways-ways_of_copies-requires
+new_ways-ways_of_copies-requires t c =
     let t0 = c.args.grammar.now in
     let below = parts_there c.args.table.now c.args.number.0 c.pattern.result.now _ c.pattern.ensures.table c.pattern.ensures.found c.in-OneOrMore.is in
     let d = c.decreases in
-    let inside = c.requires in (
+    let inside = c.requires.inside in (
       omega (arith, d),
       (
         inside,
         (
           omega (arith, below, inside),
-          is_over t0 c.args.table.now c.args.number.0 c.pattern.result.now _ c.pattern.ensures.table
-              c.pattern.ensures.found c.in-OneOrMore.is,
+          (
+            is_over t0 c.args.table.now c.args.number.0 c.pattern.result.now _ c.pattern.ensures.table
+                c.pattern.ensures.found c.in-OneOrMore.is,
+            c.requires.known,
+          ),
         ),
       ),
     )
 
-pub ways-ways_of_leaf-requires : goal.ways-ways_of_leaf-requires
-ways-ways_of_leaf-requires t c = record {
-  inside = c.requires;
+pub new_ways-ways_of_leaf-requires : goal.new_ways-ways_of_leaf-requires
+new_ways-ways_of_leaf-requires t c = record {
+  inside = c.requires.inside;
   leaf = single_alone c.args.grammar.now c.args.table.now c.args.number.0 c.pattern.result.now c.pattern.result.now c.pattern.ensures.table
       c.pattern.ensures.found refl
       (other_single c.pattern.result.now c.in_default.not-Choice c.in_default.not-Group c.in_default.not-Interleave c.in_default.not-OneOrMore);
 }
 
-pub ways-returns-in_ok-members-in-Choice-clause-ways : goal.ways-returns-in_ok-members-in-Choice-clause-ways
-ways-returns-in_ok-members-in-Choice-clause-ways t c =
+pub new_ways-returns-in_ok-members-in-Choice-clause-ways : goal.new_ways-returns-in_ok-members-in-Choice-clause-ways
+new_ways-returns-in_ok-members-in-Choice-clause-ways t c =
     let t0 = c.args.grammar.now in
     let e : c.as_slice-in-Choice.result.now ≡ c.in-Choice.members.items =
     c.as_slice-in-Choice.ensures.value ∙ c.in_ok-members-in-Choice.ensures ∙ c.as_slice.ensures.value in
@@ -102,14 +106,14 @@ ways-returns-in_ok-members-in-Choice-clause-ways t c =
     ∙ sym (is_over t0 c.args.table.now c.args.number.0 c.pattern.result.now _ c.pattern.ensures.table c.pattern.ensures.found c.in-Choice.is) in
     if_ok c.ways_of_choice.result _ _ (λ ws h. subst (λ p. AreWaysOf t0 c.ways_of_choice.new.table c.args.kind p ws.items) is h) c.ways_of_choice.ensures.ways
 
-pub ways-returns-in-Group-clause-ways : goal.ways-returns-in-Group-clause-ways
-ways-returns-in-Group-clause-ways t c =
+pub new_ways-returns-in-Group-clause-ways : goal.new_ways-returns-in-Group-clause-ways
+new_ways-returns-in-Group-clause-ways t c =
     let t0 = c.args.grammar.now in
     let is = sym (is_over t0 c.args.table.now c.args.number.0 c.pattern.result.now _ c.pattern.ensures.table c.pattern.ensures.found c.in-Group.is) in
     if_ok c.ways_of_group.result _ _ (λ ws h. subst (λ p. AreWaysOf t0 c.ways_of_group.new.table c.args.kind p ws.items) is h) c.ways_of_group.ensures.ways
 
-pub ways-returns-in-Interleave-clause-ways : goal.ways-returns-in-Interleave-clause-ways
-ways-returns-in-Interleave-clause-ways t c =
+pub new_ways-returns-in-Interleave-clause-ways : goal.new_ways-returns-in-Interleave-clause-ways
+new_ways-returns-in-Interleave-clause-ways t c =
     let t0 = c.args.grammar.now in
     let is = sym (is_over t0 c.args.table.now c.args.number.0 c.pattern.result.now _ c.pattern.ensures.table c.pattern.ensures.found c.in-Interleave.is) in
     if_ok c.ways_of_both.result _ _ (λ ws h. subst (λ p. AreWaysOf t0 c.ways_of_both.new.table c.args.kind p ws.items) is h) c.ways_of_both.ensures.ways
@@ -122,7 +126,7 @@ ways_of_both-ways-requires-2 t c =
     let d = c.decreases in
     let inside = c.requires.second in
     let long = Longer-length c.args.table.now c.ways.new.table c.in_ok-firsts.ensures.longer in
-    (omega (arith, stays, less, d), omega (arith, inside, long))
+    (omega (arith, stays, less, d), (omega (arith, inside, long), c.in_ok-firsts.ensures.known))
 
 pub ways_of_both-returns-clause-ways : goal.ways_of_both-returns-clause-ways
 ways_of_both-returns-clause-ways t c =
@@ -142,7 +146,7 @@ ways_of_both-returns-clause-ways t c =
     both_made t0 n2 n3 c.add_filled-2.new.table c.args.kind c.args.joint c.args.first c.args.second p q c.as_slice.result.now c.as_slice-2.result.now
     c.new-all.result.items c.add_filled.new.all.items c.add_filled-2.new.all.items c.requires.order c.new-all.ensures.items
     (tree_stays t0 n0 n3 c.args.first.0 longer3 c.requires.first) (tree_stays t0 n0 n2 c.args.second.0 longer2 c.requires.second)
-    (subst (AreWaysOf t0 n2 c.args.kind p) (sym c.as_slice.ensures.value) a) (subst (AreWaysOf t0 n3 c.args.kind q) (sym c.as_slice-2.ensures.value) b)
+    (subst (AreWaysOf t0 n2 c.args.kind p) (sym c.as_slice.ensures) a) (subst (AreWaysOf t0 n3 c.args.kind q) (sym c.as_slice-2.ensures) b)
     c.in_ok-add_filled.ensures.ways c.in_ok-add_filled-2.ensures.ways
 
 pub item_ways_of_group-returns-then-not-facts-clause-ways : goal.item_ways_of_group-returns-then-not-facts-clause-ways
@@ -156,7 +160,7 @@ item_ways_of_group-returns-then-not-facts-clause-ways t c =
     let longer2 = Longer-trans n0 n1 n2 c.in_ok-firsts.ensures.longer c.in_ok-add_filled.ensures.longer in
     let first_is = ap is_nullable (tree_stays t0 n0 n2 c.args.first.0 longer2 c.requires.first) in
     let told = ap (λ (f : Facts). f.nullable) (c.facts.ensures.exact t0) in
-    let a = subst (AreWaysOf t0 n1 c.args.kind p) (sym c.as_slice.ensures.value) c.in_ok-firsts.ensures.ways in
+    let a = subst (AreWaysOf t0 n1 c.args.kind p) (sym c.as_slice.ensures) c.in_ok-firsts.ensures.ways in
     first_made t0 n1 n2 c.args.kind c.args.second p q c.as_slice.result.now c.new-all.result.items c.add_filled.new.all.items c.requires.kind
     (sym first_is ∙ sym told ∙ not-true _ c.if-not-facts.true) c.new-all.ensures.items
     (tree_stays t0 n0 n1 c.args.second.0 c.in_ok-firsts.ensures.longer c.requires.second) a c.in_ok-add_filled.ensures.ways
@@ -169,8 +173,13 @@ item_ways_of_group-ways-requires-2 t c =
     let less = right_less group (tree_of t0 c.args.table.now c.args.first.0) (tree_of t0 c.args.table.now c.args.second.0) in
     let d = c.decreases in
     let inside = c.requires.second in
-    let long = Longer-length c.args.table.now c.add_filled.new.table longer in
-    (omega (arith, stays, less, d), omega (arith, inside, long))
+    let long = Longer-length c.args.table.now c.add_filled.new.table longer in (
+      omega (arith, stays, less, d),
+      (
+        omega (arith, inside, long),
+        known_longer t0 c.ways.new.table c.add_filled.new.table c.args.kind c.in_ok-add_filled.ensures.longer c.ways.new.known c.in_ok-firsts.ensures.known,
+      ),
+    )
 
 pub item_ways_of_group-returns-clause-ways : goal.item_ways_of_group-returns-clause-ways
 item_ways_of_group-returns-clause-ways t c =
@@ -183,7 +192,7 @@ item_ways_of_group-returns-clause-ways t c =
     let longer2 = Longer-trans n0 n1 n2 c.in_ok-firsts.ensures.longer c.in_ok-add_filled.ensures.longer in
     let first_is = ap is_nullable (tree_stays t0 n0 n2 c.args.first.0 longer2 c.requires.first) in
     let told = ap (λ (f : Facts). f.nullable) (c.facts.ensures.exact t0) in
-    let a = subst (AreWaysOf t0 n1 c.args.kind p) (sym c.as_slice.ensures.value) c.in_ok-firsts.ensures.ways in
+    let a = subst (AreWaysOf t0 n1 c.args.kind p) (sym c.as_slice.ensures) c.in_ok-firsts.ensures.ways in
     let n3 = c.ways-2.new.table in
     let second_is = tree_stays t0 n0 n2 c.args.second.0 longer2 c.requires.second in
     let b = subst (λ q. AreWaysOf t0 n3 c.args.kind q c.in_ok-seconds.seconds.items) second_is c.in_ok-seconds.ensures.ways in
@@ -191,7 +200,7 @@ item_ways_of_group-returns-clause-ways t c =
     c.new-all.result.items c.add_filled.new.all.items c.add_filled-2.new.all.items c.requires.kind
     (sym first_is ∙ sym told ∙ not-false _ c.if-not-facts.false) c.new-all.ensures.items
     (tree_stays t0 n0 n1 c.args.second.0 c.in_ok-firsts.ensures.longer c.requires.second) a
-    (subst (AreWaysOf t0 n3 c.args.kind q) (sym c.as_slice-2.ensures.value) b) c.in_ok-seconds.ensures.longer
+    (subst (AreWaysOf t0 n3 c.args.kind q) (sym c.as_slice-2.ensures) b) c.in_ok-seconds.ensures.longer
     c.in_ok-add_filled.ensures.ways c.in_ok-add_filled-2.ensures.ways
 
 pub ways_of_choice-ways-requires : goal.ways_of_choice-ways-requires
@@ -210,7 +219,7 @@ ways_of_choice-ways-requires t c =
     let less = member_less (tree_of t0 n0) (map (λ (m : PatternNumber). m.0) ms) i 0 (omega (arith, long, within)) (omega (arith, long, two)) in
     let more = Longer-length n0 c.members.table c.members.invariant.longer in
     let d = c.decreases in
-    (omega (arith, stays, at, less, d), omega (arith, inside, more))
+    (omega (arith, stays, at, less, d), (omega (arith, inside, more), c.members.invariant.known))
 
 pub ways_of_choice-members-preserved : goal.ways_of_choice-members-preserved
 ways_of_choice-members-preserved t c =
@@ -231,10 +240,11 @@ ways_of_choice-members-preserved t c =
     sym (ap (map f) (ap (λ k. take k ms) next ∙ take-suc ms i none c.members-test.true) ∙ map-append f (take i ms) (get_or ms i none ∷ [])) in
     record {
       longer = Longer-trans n0 n1 n2 longer1 c.in_ok-add_filled.ensures.longer;
+      known = known_longer t0 n1 n2 c.args.kind c.in_ok-add_filled.ensures.longer c.ways.new.known c.in_ok-ways.ensures.known;
       ways = subst (λ ps. AreWaysOf t0 n2 c.args.kind (choice_all ps) c.add_filled.new.all.items) cut
           (member_made t0 n1 n2 c.args.kind (map f (take i ms)) (f (get_or ms i none)) c.as_slice.result.now c.members.all.items c.add_filled.new.all.items
           (side_law t0 before n1 c.args.kind (choice_all (map f (take i ms))) c.members.all.items c.in_ok-ways.ensures.longer c.members.invariant.ways)
-          (subst (AreWaysOf t0 n1 c.args.kind (f (get_or ms i none))) (sym c.as_slice.ensures.value)
+          (subst (AreWaysOf t0 n1 c.args.kind (f (get_or ms i none))) (sym c.as_slice.ensures)
           (subst (λ p. AreWaysOf t0 n1 c.args.kind p c.in_ok-ways.ways.items) is c.in_ok-ways.ensures.ways))
           c.in_ok-add_filled.ensures.ways);
     }
@@ -279,7 +289,7 @@ ways_of_copies-returns-clause-ways t c =
     (c.in_ok-more.ensures.alternatives t0)
     (λ m k. either_member (λ n. Obeys place (tree_of t0 n2 n.0)) c.args.number c.in_ok-empty.empty m (subst (Obeys place) (sym number_is) o)
     (subst (Obeys place) (sym empty_is) (Obeys-hereditary place).of_empty) k))
-    (subst (AreWaysOf t0 n3 c.args.kind p) (sym c.as_slice.ensures.value) a) c.in_ok-add_filled.ensures.ways)
+    (subst (AreWaysOf t0 n3 c.args.kind p) (sym c.as_slice.ensures) a) c.in_ok-add_filled.ensures.ways)
 
 pub ways_of_group-ways-requires : goal.ways_of_group-ways-requires
 ways_of_group-ways-requires t c =
@@ -297,8 +307,13 @@ ways_of_group-ways-requires t c =
     let w = ap weight is in
     let v = ap (λ p. weight (s_joined group p b)) first_is in
     let less = opened_less x y b in
-    let d = c.decreases in
-    (omega (arith, w, v, less, d), c.in_ok-whole.ensures.tree.inside)
+    let d = c.decreases in (
+      omega (arith, w, v, less, d),
+      (
+        c.in_ok-whole.ensures.tree.inside,
+        known_longer t0 n0 n2 c.args.kind (Longer-trans n0 n1 n2 c.in_ok-rest.ensures.longer c.in_ok-whole.ensures.longer) c.args.known.now c.requires.known,
+      ),
+    )
 
 pub ways_of_group-returns : goal.ways_of_group-returns
 ways_of_group-returns t c =
@@ -317,9 +332,57 @@ ways_of_group-returns t c =
     let longer2 = Longer-trans n0 n1 n2 c.in_ok-rest.ensures.longer c.in_ok-whole.ensures.longer in
     record {
       longer = if_ok c.ways.result _ _ (λ ws h. Longer-trans n0 n2 n3 longer2 h) c.ways.ensures.longer;
+      known = c.ways.ensures.known;
       ways = if_ok c.ways.result _ _
           (λ ws h. subst (λ p. AreWaysOf t0 n3 c.args.kind (s_joined group p b) ws.items) (sym first_is)
           (ways_of_same t0 n3 c.args.kind (group_of x (group_of y b)) (s_joined group (s_joined group x y) b) ws.items (opened_same (reading_of t0) x y b)
           (opened_hands_on x y b) (subst (λ p. AreWaysOf t0 n3 c.args.kind p ws.items) is h)))
           c.ways.ensures.ways;
     }
+
+pub ways_of_both-returns-clause-known : goal.ways_of_both-returns-clause-known
+ways_of_both-returns-clause-known t c =
+    let n2 = c.ways-2.new.table in
+    let n3 = c.add_filled.new.table in
+    let n4 = c.add_filled-2.new.table in
+    known_longer c.args.grammar.now n2 n4 c.args.kind
+    (Longer-trans n2 n3 n4 c.in_ok-add_filled.ensures.longer c.in_ok-add_filled-2.ensures.longer) c.ways-2.new.known c.in_ok-seconds.ensures.known
+
+pub item_ways_of_group-returns-then-not-facts-clause-known : goal.item_ways_of_group-returns-then-not-facts-clause-known
+item_ways_of_group-returns-then-not-facts-clause-known t c =
+    known_longer c.args.grammar.now c.ways.new.table c.add_filled.new.table c.args.kind c.in_ok-add_filled.ensures.longer c.ways.new.known
+    c.in_ok-firsts.ensures.known
+
+pub item_ways_of_group-returns-clause-known : goal.item_ways_of_group-returns-clause-known
+item_ways_of_group-returns-clause-known t c =
+    known_longer c.args.grammar.now c.ways-2.new.table c.add_filled-2.new.table c.args.kind c.in_ok-add_filled-2.ensures.longer c.ways-2.new.known
+    c.in_ok-seconds.ensures.known
+
+pub ways_of_copies-returns-clause-known : goal.ways_of_copies-returns-clause-known
+ways_of_copies-returns-clause-known t c =
+    let n1 = c.ways.new.table in
+    let n2 = c.empty.new.self in
+    let n3 = c.choice.new.self in
+    let n4 = c.add_filled.new.table in
+    let longer = Longer-trans n1 n2 n3 c.in_ok-empty.ensures.longer c.in_ok-more.ensures.longer in
+    known_longer c.args.grammar.now n1 n4 c.args.kind (Longer-trans n1 n3 n4 longer c.in_ok-add_filled.ensures.longer) c.ways.new.known
+    c.in_ok-copies.ensures.known
+
+pub ways-returns-clause-known : goal.ways-returns-clause-known
+ways-returns-clause-known t c =
+    let t0 = c.args.grammar.now in
+    let n0 = c.args.table.now in
+    let n1 = c.new_ways-2.new.table in
+    let ws = c.as_slice.result.now in
+    known_more t0 n1 c.args.kind c.new_ways-2.new.known c.keep.new.known c.args.number ws c.in_ok-ways.ensures.known
+    (those_known t0 n0 n1 c.args.kind c.in_ok-ways.ensures.longer c.args.number ws c.requires.inside
+    (subst (AreWaysOf t0 n1 c.args.kind (tree_of t0 n0 c.args.number.0)) (sym c.as_slice.ensures) c.in_ok-ways.ensures.ways))
+    c.in_ok-keep.ensures
+
+pub new_ways-returns-in_default : goal.new_ways-returns-in_default
+new_ways-returns-in_default t c = record {
+  longer = if_ok c.ways_of_leaf.result _ _ (λ ws h. c.ways_of_leaf.ensures.longer) c.ways_of_leaf.ensures.ways;
+  known = if_ok c.ways_of_leaf.result _ _ (λ ws h. known_longer c.args.grammar.now c.args.table.now c.ways_of_leaf.new.table c.args.kind
+      c.ways_of_leaf.ensures.longer c.args.known.now c.requires.known) c.ways_of_leaf.ensures.ways;
+  ways = c.ways_of_leaf.ensures.ways;
+}

@@ -10,7 +10,8 @@ invariant_of-result c = (
   served_first c.args.grammar.now c.in_ok-table.table c.in_ok-table.numbers.items c.requires c.start.ensures.valid c.in_ok-table.ensures.long
       c.in_ok-table.ensures.taken c.in_ok-table.ensures.restricted,
   c.in_ok-keys.ensures,
-  λ k ws h. absurd (none_kept c.new.result c.new.ensures.empty k ws h),
+  (λ k ws h. absurd (none_kept c.new-2.result c.new-2.ensures.empty k ws h)),
+  c.in_ok-known.ensures c.args.grammar.now c.in_ok-table.table,
 )
 
 pub returns-clause-inside : goal.returns-clause-inside

@@ -6,8 +6,8 @@ use Rattle.rng_derivatives.proofs.grammar_derivatives.GrammarDerivativesDerivati
 pub invariant_of-self-2 : goal.invariant_of-self-2
 invariant_of-self-2 c =
     let d = c.self.inside in
-    serves_longer d.grammar.now c.in-Some.table c.after_text.new.table d.keys c.in_ok-number.ensures.longer d.numbers.items d.memo
-    (there_served d.grammar.now d.keys d.table c.in-Some.table d.numbers.items d.memo (sym c.in-Some.ensures.value) c.self.invariant)
+    serves_longer d.grammar.now c.in-Some.table c.after_text.new.table d.keys c.in_ok-number.ensures.longer d.numbers.items d.memo d.known
+    (there_served d.grammar.now d.keys d.table c.in-Some.table d.numbers.items d.memo d.known (sym c.in-Some.ensures.value) c.self.invariant) c.after_text.new.known c.in_ok-number.ensures.known
 
 pub returns-clause-after : goal.returns-clause-after
 returns-clause-after c =

@@ -1,5 +1,6 @@
 use Rattle.std.proofs.Common.{sym}
 use Rattle.rng_ways.specs.Kinds.{reading_of}
+use Rattle.rng_ways.proofs.KnownWays.{all_longer}
 use Rattle.rng_derivatives.proofs.Memo.{serves_longer}
 use Rattle.rng_derivatives.proofs.Served.{choice_added, seen_there, there_served}
 use Rattle.rng_derivatives.proofs.grammar_derivatives.GrammarDerivativesDerivatives.choice.Goals as goal
@@ -7,8 +8,10 @@ use Rattle.rng_derivatives.proofs.grammar_derivatives.GrammarDerivativesDerivati
 pub invariant_of-self-2 : goal.invariant_of-self-2
 invariant_of-self-2 c =
     let d = c.self.inside in
-    serves_longer d.grammar.now c.in-Some.table c.choice.new.self d.keys c.choice.ensures.longer d.numbers.items d.memo
-    (there_served d.grammar.now d.keys d.table c.in-Some.table d.numbers.items d.memo (sym c.in-Some.ensures.value) c.self.invariant)
+    serves_longer d.grammar.now c.in-Some.table c.choice.new.self d.keys c.choice.ensures.longer d.numbers.items d.memo d.known
+    (there_served d.grammar.now d.keys d.table c.in-Some.table d.numbers.items d.memo d.known (sym c.in-Some.ensures.value) c.self.invariant) d.known
+    (all_longer d.grammar.now d.keys c.in-Some.table c.choice.new.self c.choice.ensures.longer d.known
+    (there_served d.grammar.now d.keys d.table c.in-Some.table d.numbers.items d.memo d.known (sym c.in-Some.ensures.value) c.self.invariant).3)
 
 pub returns-clause-choice : goal.returns-clause-choice
 returns-clause-choice c =

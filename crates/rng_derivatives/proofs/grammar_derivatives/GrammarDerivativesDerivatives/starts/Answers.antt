@@ -1,5 +1,6 @@
 use Rattle.std.proofs.Common.{List, refl, subst, sym}
 use Rattle.rng_model.specs.Table.{Table}
+use Rattle.rng_keys.specs.Keys.{name_at}
 use Rattle.rng_model.specs.View.{name_of}
 use Rattle.rng_patterns.specs.Node.{Node}
 use Rattle.rng_patterns.specs.Trees.{tree_of, trees}
@@ -13,7 +14,8 @@ use Rattle.rng_matcher.specs.Numbers.{AddsStarts, IsInside}
 use Rattle.rng_matcher.specs.Numbers as table
 use Rattle.rng_derivatives.specs.Starts.{OpensLike}
 use Rattle.rng_derivatives.specs.declared.start_memo.StartKey.{StartKey}
-use Rattle.rng_derivatives.proofs.Memo.{found_added, is_answer, serves_more}
+use Rattle.rng_ways.proofs.KnownWays.{all_longer}
+use Rattle.rng_derivatives.proofs.Memo.{for_each_name, found_added, is_answer, serves_more}
 use Rattle.rng_derivatives.proofs.Served.{below_there, seen_there, starts_added, there_served}
 use Rattle.rng_derivatives.proofs.grammar_derivatives.GrammarDerivativesDerivatives.starts.Goals as goal
 
@@ -24,7 +26,7 @@ returns-in-Some-kept-clause-starts c =
     let ns = c.in-Some.table in
     let there = sym c.in-Some.ensures.value in
     let asked : StartKey = record { pattern = c.args.pattern; name = c.key.result } in
-    let served = there_served t d.keys d.table ns d.numbers.items d.memo there c.self.invariant in
+    let served = there_served t d.keys d.table ns d.numbers.items d.memo d.known there c.self.invariant in
     found_added t d.keys ns c.args.self.now (seen_there t d.table ns c.args.self.now there c.self.view_is) (name_of c.args.name.now) asked
     c.in-Some-kept.ways.now c.in_ok-ways.ways.items (served.2 asked c.in-Some-kept.ways.now c.in-Some-kept.ensures) c.key.ensures.key c.in_ok-ways.ensures
 
@@ -41,24 +43,25 @@ invariant_of-self-2 c =
     let middle = c.start.new.table in
     let new = c.joined_ways.new.table in
     let numbers = d.numbers.items in
-    let q = name_of c.args.name.now in
+    let q = name_at d.keys c.key.result.0 in
     let there = sym c.in-Some.ensures.value in
     let longer = Longer-trans old middle new c.in_ok-ways-2.ensures.longer c.in_ok-starts.ensures.longer in
     let asked : StartKey = record { pattern = c.args.pattern; name = c.key.result } in
-    let served = there_served t d.keys d.table old numbers d.memo there c.self.invariant in
+    let served = there_served t d.keys d.table old numbers d.memo d.known there c.self.invariant in
     let inside = subst (λ (s : Table × List Node). IsInside (trees s.0 s.1) c.args.pattern)
     (sym (seen_there t d.table old c.args.self.now there c.self.view_is)) c.requires in
     let adds = starts_added t old middle new (t, old) refl numbers q c.args.pattern c.in_ok-ways-2.ways.items c.in_ok-starts.starts.items
     c.in_ok-ways-2.ensures.longer c.in_ok-starts.ensures.longer served.0
     (subst (λ (ns : List PatternNumber). AreStarts t middle ns (tree_of t old c.args.pattern.0) q c.in_ok-ways-2.ways.items)
     c.as_slice-numbers.ensures.value c.in_ok-ways-2.ensures.starts)
-    (subst (λ (ws : List numbered.Way). OpensLike t new (ways_by (tree_of t middle) ws) c.in_ok-starts.starts.items) c.as_slice.ensures.value
+    (subst (λ (ws : List numbered.Way). OpensLike t new (ways_by (tree_of t middle) ws) c.in_ok-starts.starts.items) c.as_slice.ensures
     (c.in_ok-starts.ensures.ways t))
     inside in
     let Adds = AddsStarts (reading_of t) q (trees t old) (trees t new) (table.tree_of (trees t old) c.args.pattern) in
-    let answer = is_answer t d.keys served.1 old new q asked c.as_slice-2.result.now inside c.key.ensures.key
-    (subst Adds (sym c.as_slice-2.ensures.value) adds) in
-    serves_more t old new d.keys longer numbers d.memo served c.keep.new.memo asked c.as_slice-2.result.now answer c.in_ok-keep.ensures
+    let answer = is_answer t d.keys served.1 old new asked c.as_slice-2.result.now inside (subst Adds (sym c.as_slice-2.ensures.value) adds) in
+    serves_more t old new d.keys longer numbers d.memo d.known served c.start.new.known
+    (all_longer t d.keys middle new c.in_ok-starts.ensures.longer c.start.new.known c.in_ok-ways-2.ensures.known) c.keep.new.memo asked
+    c.as_slice-2.result.now answer c.in_ok-keep.ensures
 
 pub returns-clause-starts : goal.returns-clause-starts
 returns-clause-starts c =
@@ -68,13 +71,16 @@ returns-clause-starts c =
     let middle = c.start.new.table in
     let new = c.joined_ways.new.table in
     let numbers = d.numbers.items in
-    let q = name_of c.args.name.now in
+    let q = name_at d.keys c.key.result.0 in
     let there = sym c.in-Some.ensures.value in
-    let served = there_served t d.keys d.table old numbers d.memo there c.self.invariant in
-    starts_added t old middle new c.args.self.now (seen_there t d.table old c.args.self.now there c.self.view_is) numbers q c.args.pattern
+    let seen = seen_there t d.table old c.args.self.now there c.self.view_is in
+    let served = there_served t d.keys d.table old numbers d.memo d.known there c.self.invariant in
+    for_each_name t d.keys served.1 old new c.args.self.now seen (name_of c.args.name.now) c.key.result.0 c.key.ensures.key c.args.pattern
+    c.in_ok-starts.starts.items
+    (starts_added t old middle new c.args.self.now seen numbers q c.args.pattern
     c.in_ok-ways-2.ways.items c.in_ok-starts.starts.items c.in_ok-ways-2.ensures.longer c.in_ok-starts.ensures.longer served.0
     (subst (λ (ns : List PatternNumber). AreStarts t middle ns (tree_of t old c.args.pattern.0) q c.in_ok-ways-2.ways.items)
     c.as_slice-numbers.ensures.value c.in_ok-ways-2.ensures.starts)
-    (subst (λ (ws : List numbered.Way). OpensLike t new (ways_by (tree_of t middle) ws) c.in_ok-starts.starts.items) c.as_slice.ensures.value
+    (subst (λ (ws : List numbered.Way). OpensLike t new (ways_by (tree_of t middle) ws) c.in_ok-starts.starts.items) c.as_slice.ensures
     (c.in_ok-starts.ensures.ways t))
-    c.requires
+    c.requires)

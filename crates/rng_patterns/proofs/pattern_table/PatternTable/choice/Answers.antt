@@ -1,4 +1,4 @@
-use Rattle.std.proofs.Common.{◌≡◌, ◌<◌, ◌↔◌, ℕ, All, List, Result, Ok, Err, IfOk, length}
+use Rattle.std.proofs.Common.{◌≡◌, ◌<◌, ◌↔◌, ℕ, All, List, length}
 use Rattle.rng_model.specs.Document.{Attribute, Item}
 use Rattle.rng_model.specs.Table.{Table}
 use Rattle.rng_model.specs.Tree.{Simple, s_not_allowed}
@@ -9,8 +9,28 @@ use Rattle.rng_patterns.specs.Choices.{IsAlternativeOf, SomeTakes}
 use Rattle.rng_patterns.specs.Reduced.{HasAlternative, MayBeMember}
 use Rattle.rng_patterns.specs.Trees.{tree_of}
 use Rattle.rng_patterns.proofs.Alternatives.{choice_restricted, choice_typed, no_alternatives}
-use Rattle.rng_patterns.proofs.Choices.{all_within, as_sets, if_ok, takes_some, takes_within}
+use Rattle.rng_patterns.proofs.Choices.{all_within, as_sets, both_ok, if_ok, takes_some, takes_within}
+use Rattle.rng_patterns.proofs.OnlyMember.{only_among, only_inside, only_none, only_restricted, only_takes, only_typed}
 use Rattle.rng_patterns.proofs.pattern_table.PatternTable.choice.Goals as goal
+
+-- one pattern stands for all members
+pub returns-in-Some-clause-alternatives : goal.returns-in-Some-clause-alternatives
+returns-in-Some-clause-alternatives c = only_among c.args.self.now c.args.members.now c.in-Some.only c.in-Some.ensures
+
+pub returns-in-Some-clause-matches : goal.returns-in-Some-clause-matches
+returns-in-Some-clause-matches c = only_takes c.args.self.now c.args.members.now c.in-Some.only c.in-Some.ensures
+
+pub returns-in-Some-clause-none : goal.returns-in-Some-clause-none
+returns-in-Some-clause-none c = only_none c.args.self.now c.args.members.now c.in-Some.only c.in-Some.ensures
+
+pub returns-in-Some-clause-restricted : goal.returns-in-Some-clause-restricted
+returns-in-Some-clause-restricted c = only_restricted c.args.self.now c.args.members.now c.in-Some.only c.in-Some.ensures
+
+pub returns-in-Some-clause-typed : goal.returns-in-Some-clause-typed
+returns-in-Some-clause-typed c = only_typed c.args.self.now c.args.members.now c.in-Some.only c.in-Some.ensures
+
+pub returns-in-Some-clause-inside : goal.returns-in-Some-clause-inside
+returns-in-Some-clause-inside c = only_inside c.args.self.now c.args.members.now c.in-Some.only c.in-Some.ensures c.requires
 
 -- what is put in order was an alternative before
 pub choice_of-requires-clause-inside : goal.choice_of-requires-clause-inside
@@ -57,10 +77,6 @@ returns-clause-matches c =
           made.1 (l.0, (c.put_in_order.ensures.same l.0).1 l.1, l.2),
     ))
     c.choice_of.ensures.same
-
-both_ok : {X E : Type 0} (r : Result X E) (P Q R : X → Type 0) → ((x : X) → P x → Q x → R x) → IfOk r P → IfOk r Q → IfOk r R
-both_ok (Ok x) P Q R f h k = f x h k
-both_ok (Err e) P Q R f h k = tt
 
 pub returns-clause-none : goal.returns-clause-none
 returns-clause-none c =

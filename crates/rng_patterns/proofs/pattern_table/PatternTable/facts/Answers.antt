@@ -1,8 +1,10 @@
-use Rattle.std.proofs.Common.{ap, ◌∙◌}
+use Rattle.std.proofs.Common.{ap, subst, sym, ◌∙◌}
+use Rattle.rng_patterns.specs.Facts.{IsWithin}
 use Rattle.rng_patterns.specs.PatternTable.{facts_of}
 use Rattle.rng_patterns.specs.Trees.{tree_of}
 use Rattle.rng_patterns.specs.declared.pattern.Facts.{Facts}
 use Rattle.rng_matching.proofs.Nullable.{nullable_exact}
+use Rattle.rng_patterns.proofs.KnownFacts.{elements_within}
 use Rattle.rng_patterns.proofs.Rows.{facts_there}
 use Rattle.rng_patterns.proofs.pattern_table.PatternTable.facts.Goals as goal
 
@@ -14,3 +16,7 @@ returns-clause-exact c = λ t.
 pub returns-clause-nullable : goal.returns-clause-nullable
 returns-clause-nullable c = λ t g.
     nullable_exact g (tree_of t c.args.self.now c.args.number.0) _ (ap (λ (f : Facts). f.nullable) (returns-clause-exact c t))
+
+pub returns-clause-elements : goal.returns-clause-elements
+returns-clause-elements c = λ t e h.
+    subst (λ (f : Facts). IsWithin f.elements e) (sym (returns-clause-exact c t)) (elements_within (tree_of t c.args.self.now c.args.number.0) e h)

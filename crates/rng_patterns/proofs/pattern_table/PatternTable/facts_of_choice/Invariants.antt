@@ -4,10 +4,13 @@ use Rattle.rng_model.specs.Table.{Table}
 use Rattle.rng_matching.specs.Derivatives.{is_nullable}
 use Rattle.rng_patterns.specs.Reduced.{has_attribute}
 use Rattle.rng_patterns.specs.Trees.{tree_of}
+use Rattle.rng_patterns.proofs.KnownFacts.{elements_among}
 use Rattle.rng_patterns.proofs.pattern_table.PatternTable.facts_of_choice.Given as goal
 
 abbrev pub invariant-loop-member : goal.invariant-loop-member
 invariant-loop-member l = (t : Table) → record {
   nullable : l.known.nullable ≡ list_any (λ m. is_nullable (tree_of t l.self m.0)) (take l.member-index l.members);
   attributes : l.known.attributes ≡ list_any (λ m. has_attribute (tree_of t l.self m.0)) (take l.member-index l.members);
+  elements : l.known.elements ≡ elements_among (tree_of t l.self) (take l.member-index l.members);
+  members : l.known.members ≡ 1;
 }

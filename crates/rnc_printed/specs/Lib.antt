@@ -1,0 +1,7 @@
+pub mod Printable
+pub mod LinesTree
+pub mod Marks
+pub mod PrintedMarks
+pub mod MarkLexemes
+pub mod LinesSyntax
+pub mod ReadBack

@@ -1,0 +1,2 @@
+pub mod WellSpelledSchemas
+pub mod WellSpelledFiles

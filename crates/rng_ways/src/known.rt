@@ -1,0 +1,91 @@
+// Ways that are known of patterns.
+ghost use Rattle.std.specs.Prelude.{◌≡◌, ◌⊎◌, IfOk, IfSome, List, OnOk, length, true};
+ghost use Rattle.rng_keys.specs.Keys.{Keys};
+ghost use Rattle.rng_model.specs.Table.{Table};
+ghost use Rattle.rng_model.specs.View.{name_of};
+ghost use Rattle.rng_patterns.specs.Node.{Node};
+ghost use Rattle.rng_patterns.specs.declared.pattern.PatternNumber.{PatternNumber};
+ghost use Rattle.rng_ways.specs.KnownWays.{AreAllKnown, AreNone, HasKnown};
+ghost use Rattle.rng_ways.specs.declared.way.Way.{Way};
+
+use crate::way::{Way, Ways};
+use rng_keys::NameKeys;
+use rng_model::{Name, OutOfMemory};
+use rng_patterns::PatternNumber;
+use smallvec::SmallVec;
+use std::alloc::Global;
+use std::collections::HashMap;
+
+/// The ways of patterns, as far as they are known, to take one kind of what comes first.
+pub type KnownWays = HashMap<PatternNumber, Ways>;
+
+/// The ways of patterns that are known, for each kind of what comes first.
+#[derive(Drop)]
+pub struct Known {
+    pub(crate) texts: KnownWays,
+    /// Those of elements of the name that stands for a key, by keys.
+    pub(crate) elements: Vec<KnownWays>,
+    /// Those of attributes of the name that stands for a key, by keys.
+    pub(crate) attributes: Vec<KnownWays>,
+}
+
+impl Known {
+    /// Nothing is known, for a grammar with these keys of names. The error is want of memory.
+    pub fn new(alloc: Global, keys: &NameKeys) -> Result<Self, OutOfMemory>
+        ensures { IfOk result (λ known. (t : Table) (ns : List Node) → AreAllKnown t keys.now ns known) }
+    {
+        let elements = none_known(alloc, keys)?;
+        let attributes = none_known(alloc, keys)?;
+        Ok(Known {
+            texts: HashMap::new(alloc),
+            elements,
+            attributes,
+        })
+    }
+}
+
+/// Nothing is known for each of these keys. The error is want of memory.
+fn none_known(alloc: Global, keys: &NameKeys) -> Result<Vec<KnownWays>, OutOfMemory>
+    ensures { IfOk result (λ all. AreNone keys.now all.items) }
+{
+    let mut all = Vec::new(alloc);
+    'keys: for _ in 0..keys.len() {
+        all.push(HashMap::new(alloc))?;
+    }
+    Ok(all)
+}
+
+/// A copy of ways. The error is want of memory.
+pub fn copied_ways(alloc: Global, ways: &[Way]) -> Result<Ways, OutOfMemory>
+    ensures { IfOk result (λ copy. copy.items ≡ ways.now) }
+{
+    Ok(SmallVec::from_slice(alloc, ways)?)
+}
+
+/// The ways that are known of a pattern.
+pub fn known_ways(known: &KnownWays, number: PatternNumber) -> Option<&[Way]>
+    ensures { IfSome result (λ ways. HasKnown known.now number ways.now) }
+{
+    Some(known.get(&number)?.as_slice())
+}
+
+/// Keeps the ways of a pattern. The error is want of memory.
+pub fn keep(
+    alloc: Global,
+    known: &mut KnownWays,
+    number: PatternNumber,
+    ways: &[Way],
+) -> Result<(), OutOfMemory>
+    ensures { OnOk result ((n : PatternNumber) (ws : List Way) → HasKnown known.new n ws → HasKnown known.old n ws ⊎ ((n ≡ number) × (ws ≡ ways.now))) }
+{
+    let copy = copied_ways(alloc, ways)?;
+    known.insert(number, copy)?;
+    Ok(())
+}
+
+/// Whether two names are the same.
+pub fn is_same_name(first: &Name, second: &Name) -> bool
+    ensures { result ≡ true → name_of first.now ≡ name_of second.now }
+{
+    first == second
+}
