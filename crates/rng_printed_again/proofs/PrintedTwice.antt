@@ -7,7 +7,7 @@ use Rattle.rng_model.specs.Schema.{Schema}
 use Rattle.rng_model.specs.SchemaClauses.{BreaksNoClause}
 use Rattle.rng_print.specs.SchemaText.{IsPrintedForm}
 use Rattle.rng_reprinted.specs.HandedIn.{IsPrintedFile, text_alone}
-use Rattle.rng_reprinted.specs.LinesTree.{lines_tree}
+use Rattle.rnc_printed.specs.LinesTree.{lines_tree}
 use Rattle.rng_run.specs.Answer.{Answer, refused, refused_file, printed}
 use Rattle.rng_run.specs.Run as run
 use Rattle.rng_run.specs.Run.{IsTold, IsAnswerBy, IsAnswerTo, IsAnswer}
