@@ -1,0 +1,2 @@
+pub mod PrintedAgain
+pub mod PrintedTwice

@@ -1,0 +1,2 @@
+pub mod LinesSchema
+pub mod HandedIn
