@@ -54,6 +54,11 @@ trees ps = fold with_tree [] ps
 abbrev pub tree_at : List Simple → PatternId → tree.Simple ℕ
 tree_at ps = tree_in (trees ps)
 
+-- equal patterns have one number
+abbrev pub AreToldApart : Table → Type 0
+AreToldApart t = (i j : ℕ) → i < length t.patterns → j < length t.patterns
+    → tree_at t.patterns (record { 0 = i }) ≡ tree_at t.patterns (record { 0 = j }) → i ≡ j
+
 -- what a table stands for: a start, and the class and the body of each element
 pub record Grammar : Type 0 where
   pub start : tree.Simple ℕ

@@ -1,18 +1,13 @@
 -- Items of a grammar, as the code keeps them.
 use Rattle.std.specs.Prelude.{◌≡◌, ℕ, ◌<◌, ◌==◌, Bool, false, List, ◌++◌, length, map, Option, Some, None, codes, decimal}
 use Rattle.std.specs.List.{AllByRecursion, filter_map, position_or_len}
-use Rattle.rng_model.specs.Table.{Table, IsTable, tree_at}
+use Rattle.rng_model.specs.Table.{AreToldApart, Table, IsTable, tree_at}
 use Rattle.rng_model.specs.declared.simple.ElementId.{ElementId}
 use Rattle.rng_model.specs.declared.simple.PatternId.{PatternId}
 use Rattle.rng_print.specs.PrintedText as text
 use Rattle.rng_print.specs.declared.items.Item.{Item}
 use Rattle.rng_print.specs.declared.items.Item.TheVariants as variants
 use Rattle.rng_print.specs.declared.items.Items.{Items}
-
--- equal patterns have one number
-abbrev pub AreToldApart : Table → Type 0
-AreToldApart t = (i j : ℕ) → i < length t.patterns → j < length t.patterns
-    → tree_at t.patterns (record { 0 = i }) ≡ tree_at t.patterns (record { 0 = j }) → i ≡ j
 
 -- what the item stands for
 abbrev pub item_at : Table → Item → text.Item

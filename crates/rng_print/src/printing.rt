@@ -1,9 +1,8 @@
 // The printed text of a simple grammar, made and written.
 ghost use Rattle.std.specs.Prelude.{◌≡◌, ◌-◌, ◌^◌, ◌<◌, IfOk, OnOk, IsErrOf};
 ghost use Rattle.rng_model.specs.Device.{device_inner, device_failures, device_taken};
-ghost use Rattle.rng_model.specs.Table.{grammar_of};
+ghost use Rattle.rng_model.specs.Table.{AreToldApart, grammar_of};
 ghost use Rattle.rng_print.specs.PrintedText.{IsPrinted};
-ghost use Rattle.rng_print.specs.Items.{AreToldApart};
 ghost use Rattle.rng_print.specs.Printing.{AppendsPrinted, AppendsPrintedBeginning};
 
 use crate::items::Items;

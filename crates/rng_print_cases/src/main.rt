@@ -8,7 +8,7 @@
 #![tactic(auto)]
 
 ghost use Rattle.std.specs.Prelude.{IfOk};
-ghost use Rattle.rng_print.specs.Items.{AreToldApart};
+ghost use Rattle.rng_model.specs.Table.{AreToldApart};
 
 mod files;
 mod writers;

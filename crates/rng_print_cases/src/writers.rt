@@ -1,5 +1,5 @@
 // What a grammar is printed to.
-ghost use Rattle.rng_print.specs.Items.{AreToldApart};
+ghost use Rattle.rng_model.specs.Table.{AreToldApart};
 
 use rng_model::{Device, SimpleGrammar};
 use rng_print::{PrintFault, print};

@@ -5,9 +5,8 @@ ghost use Rattle.rng_model.specs.Schema.{IsWellPlaced};
 ghost use Rattle.rng_model.specs.SchemaClauses.{BreaksNoClause};
 ghost use Rattle.rng_model.specs.SchemaForm.{IsOnlySimpleGrammarOf, IsSimpleGrammarOf};
 ghost use Rattle.rng_model.specs.SchemaMatching.{AreSameDocuments};
-ghost use Rattle.rng_model.specs.Table.{grammar_of};
+ghost use Rattle.rng_model.specs.Table.{AreToldApart, grammar_of};
 ghost use Rattle.rng_matching.specs.Laws.{BreaksNone};
-ghost use Rattle.rng_print.specs.Items.{AreToldApart};
 ghost use Rattle.rng_run.specs.Compiled.{IsCompiled, IsLeastFault};
 
 use crate::running::Command;

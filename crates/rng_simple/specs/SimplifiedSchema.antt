@@ -5,7 +5,7 @@ use Rattle.rng_model.specs.Names.{NameClass}
 use Rattle.rng_model.specs.Restrictions.{IsPart, StandsIn}
 use Rattle.rng_model.specs.Schema.{Schema}
 use Rattle.rng_model.specs.SchemaClauses.{BreaksSchemaClause}
-use Rattle.rng_model.specs.Table.{Table, grammar_of, tree_at, IsInSimpleSyntax}
+use Rattle.rng_model.specs.Table.{AreToldApart, Table, grammar_of, tree_at, IsInSimpleSyntax}
 use Rattle.rng_model.specs.Tree.{Simple}
 use Rattle.rng_model.specs.declared.fault.SchemaFault.{SchemaFault}
 use Rattle.rng_model.specs.declared.fault.SchemaFault.TheVariants as faults
@@ -21,11 +21,6 @@ IsSchemaFault s faults.Memory = Unit {0}
 -- the tables hold no more than the grammar: each pattern stands in the start, or in the body of an element
 abbrev pub AreAllUsed : Table → Type 0
 AreAllUsed t = (i : ℕ) → i < length t.patterns → (part : Simple ℕ) × IsPart (grammar_of t) part × StandsIn (tree_at t.patterns (record { 0 = i })) part
-
--- equal patterns have one number
-abbrev pub AreToldApart : Table → Type 0
-AreToldApart t = (i j : ℕ) → i < length t.patterns → j < length t.patterns
-    → tree_at t.patterns (record { 0 = i }) ≡ tree_at t.patterns (record { 0 = j }) → i ≡ j
 
 -- the tables are made of the graph, along this order of its definitions
 pub record IsMadeTable (classes : List NameClass) (g : Graph) (order : List ℕ) (t : Table) : Type 0 where

@@ -1,7 +1,7 @@
 // The simple form of a graph.
 ghost use Rattle.std.specs.Prelude.{◌≡◌, ◌<◌, ◌^◌, length, take, slice_get, All, IfOk, Some};
 ghost use Rattle.rng_model.specs.Names as names;
-ghost use Rattle.rng_model.specs.Table.{IsInSimpleSyntax, IsPaired, grammar_of};
+ghost use Rattle.rng_model.specs.Table.{AreToldApart, IsInSimpleSyntax, IsPaired, grammar_of};
 ghost use Rattle.rng_model.specs.View.{class_of};
 ghost use Rattle.rng_model.specs.Schema.{Schema};
 ghost use Rattle.rng_model.specs.SchemaForm.{IsOnlySimpleGrammarOf, IsSimpleGrammarOf};
@@ -10,7 +10,7 @@ ghost use Rattle.rng_graph.specs.Graph.{IsOrderBy, Mentions};
 ghost use Rattle.rng_graph.specs.GraphView.{classes_of, graph_of};
 ghost use Rattle.rng_graph.specs.InTwos.{nested as nested_tree};
 ghost use Rattle.rng_simple.specs.GrammarElements.{AreElementCopies};
-ghost use Rattle.rng_simple.specs.SimplifiedSchema.{AreAllUsed, AreToldApart, IsMadeTable};
+ghost use Rattle.rng_simple.specs.SimplifiedSchema.{AreAllUsed, IsMadeTable};
 
 use crate::copying::copied_rows;
 use crate::name_class::nested;

@@ -5,9 +5,9 @@ ghost use Rattle.rng_model.specs.Schema.{IsWellPlaced};
 ghost use Rattle.rng_model.specs.SchemaClauses.{BreaksSchemaClause};
 ghost use Rattle.rng_model.specs.SchemaForm.{IsOnlySimpleGrammarOf, IsSimpleGrammarOf};
 ghost use Rattle.rng_model.specs.SchemaMatching.{AreSameDocuments};
-ghost use Rattle.rng_model.specs.Table.{IsInSimpleSyntax, grammar_of};
+ghost use Rattle.rng_model.specs.Table.{AreToldApart, IsInSimpleSyntax, grammar_of};
 ghost use Rattle.rng_simple.specs.KnownDatatypes.{AreGrammarDatatypesKnown};
-ghost use Rattle.rng_simple.specs.SimplifiedSchema.{AreAllUsed, AreToldApart, IsSchemaFault};
+ghost use Rattle.rng_simple.specs.SimplifiedSchema.{AreAllUsed, IsSchemaFault};
 
 use crate::schema_form::simple_grammar;
 use rng_components::check_components;
