@@ -12,3 +12,6 @@ mod Scans
 mod Pieces
 mod Longest
 mod Cuts
+mod MarksCut
+mod MarksDecoded
+mod MarkScalars

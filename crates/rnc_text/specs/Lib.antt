@@ -3,6 +3,7 @@ pub mod Decoding
 pub mod Tokens
 pub mod Cut
 pub mod Answers
+pub mod Marks
 pub mod Held
 pub mod DecodingSteps
 pub mod CutSteps

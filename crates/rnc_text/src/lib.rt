@@ -2,7 +2,11 @@
 //!
 //! `read_text` answers the characters that the bytes stand for, escapes replaced, or the first offset at which they are
 //! not UTF-8 or no characters of XML. `tokens` answers the tokens of these characters, each the longest that begins at
-//! its offset, or the first offset at which nothing begins.
+//! its offset, or the first offset at which nothing begins. `marks_laws` does nothing: its contract says of texts that are
+//! made of words, names, segments, signs, spaces and line ends which tokens they have.
+//!
+//! Order of reading, in `specs/`: `Characters` and `Decoding` (what bytes stand for), `Tokens` and `Cut` (which tokens these
+//! are), `Answers` (what a call answers), `Marks` (texts that are made of tokens). The others are for the proofs.
 #![tactic(auto)]
 
 mod character;
@@ -11,6 +15,7 @@ mod cutting;
 mod decoding;
 mod fault;
 mod hexadecimal;
+mod laws;
 mod scanning;
 mod table;
 mod text;
@@ -20,5 +25,6 @@ pub use character::Character;
 pub use cutting::tokens;
 pub use decoding::read_text;
 pub use fault::TextFault;
+pub use laws::marks_laws;
 pub use text::Text;
 pub use token::{Keyword, Sign, Token, TokenKind};
