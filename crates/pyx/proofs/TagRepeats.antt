@@ -21,7 +21,7 @@ either : (a b : Bool) → (a || b) ≡ true → (a ≡ true) ⊎ (b ≡ true)
 either true b e = inl refl
 either false b e = inr e
 
-pub or_second : (a : Bool) → (a || true) ≡ true
+or_second : (a : Bool) → (a || true) ≡ true
 or_second true = refl
 or_second false = refl
 

@@ -1,5 +1,5 @@
 -- Names whose slots are not set are not there.
-use Rattle.std.proofs.Common.{◌≡◌, Bool, true, false, ◌&&◌, ◌||◌, ℕ, ◌≤◌, ◌-◌, List, [], ◌∷◌, map, refl, sym, ap, ◌∙◌, length, get_or, take, drop}
+use Rattle.std.proofs.Common.{◌≡◌, Bool, true, false, ◌||◌, ℕ, ◌≤◌, ◌-◌, List, [], ◌∷◌, map, refl, sym, ap, ◌∙◌, length, get_or, take, drop}
 use Rattle.std.specs.List.{between}
 use Rattle.std.proofs.lemmas.Slice.{first_rest}
 use Rattle.rng_model.specs.Document.{Attribute}

@@ -6,8 +6,8 @@ ghost use Rattle.pyx.specs.TagReader.{is_named_in, is_named_twice};
 
 use rng_model::{Attr, Name};
 
-/// How many attributes a tag may have whose names are all compared in pairs.
-const PAIRED_LIMIT: usize = 16;
+/// How many names are compared in pairs, at most, without a look at their slots.
+const PAIRED_LIMIT: usize = 8;
 
 /// How many slots there are.
 const SLOT_COUNT: usize = 4_096;
@@ -38,17 +38,6 @@ fn is_named_in(name: &Name, attrs: &[Attr]) -> bool
     }
 }
 
-/// Two of these attributes have one name.
-#[tactic(auto, unfolding(crate::specs::TagReader::is_named_twice))]
-fn is_paired(attrs: &[Attr]) -> bool
-    ensures { result ≡ is_named_twice (map attribute_of attrs.now) }
-{
-    match attrs {
-        [first, rest @ ..] => is_named_in(&first.name, rest) || is_paired(rest),
-        [] => false,
-    }
-}
-
 /// Tells whether the slot of a local name is set, and sets it.
 #[inline(always)]
 fn mark(slots: &mut [bool; SLOT_COUNT], local: &str) -> bool
@@ -62,7 +51,8 @@ fn mark(slots: &mut [bool; SLOT_COUNT], local: &str) -> bool
     met
 }
 
-/// Two of these attributes have one name. The slots of all are set then, and only names whose slot was set before are compared.
+/// Two of these attributes have one name. Where none have, the slots of all are set; a name is compared with those behind it only where one of
+/// them has set its slot.
 #[tactic(auto, unfolding(crate::specs::TagReader::is_named_twice))]
 fn is_repeated(attrs: &[Attr], slots: &mut [bool; SLOT_COUNT]) -> bool
     ensures twice { result ≡ is_named_twice (map attribute_of attrs.now) }
@@ -80,11 +70,15 @@ fn is_repeated(attrs: &[Attr], slots: &mut [bool; SLOT_COUNT]) -> bool
 }
 
 /// Two of these attributes have one name.
+#[tactic(auto, unfolding(crate::specs::TagReader::is_named_twice))]
 pub fn is_named_twice(attrs: &[Attr]) -> bool
     ensures { result ≡ is_named_twice (map attribute_of attrs.now) }
 {
-    if attrs.len() <= PAIRED_LIMIT {
-        return is_paired(attrs);
+    if attrs.len() > PAIRED_LIMIT {
+        return is_repeated(attrs, &mut [false; SLOT_COUNT]);
     }
-    is_repeated(attrs, &mut [false; SLOT_COUNT])
+    match attrs {
+        [first, rest @ ..] => is_named_in(&first.name, rest) || is_named_twice(rest),
+        [] => false,
+    }
 }

@@ -1,4 +1,4 @@
-use Rattle.std.proofs.Common.{◌≡◌, ◌-◌, ◌∙◌, length, take, drop, map, ap, subst, sym, true}
+use Rattle.std.proofs.Common.{◌-◌, ◌∙◌, length, take, drop, map, ap, sym}
 use Rattle.rng_model.specs.View.{attribute_of}
 use Rattle.pyx.specs.Slots.{is_met}
 use Rattle.pyx.specs.TagReader.{is_named_twice}
@@ -16,5 +16,7 @@ returns-else-mark-clause-twice t c =
 pub returns-else-mark-clause-met : goal.returns-else-mark-clause-met
 returns-else-mark-clause-met t c = λ e.
     let parts = first_and_rest c.args.attrs.now c.first-item.result c.in-len1-up.len_at_least c.first-item.is in
-    rw parts (ap (is_met c.mark.new.slots) (sym c.as_str.ensures.value) ∙ c.mark.ensures.set,
-    all_kept c.is_repeated.new.slots c.mark.new.slots _ c.mark.ensures.kept (c.is_repeated.ensures.met c.if-is_repeated.false))
+    rw parts (
+      ap (is_met c.mark.new.slots) (sym c.as_str.ensures.value) ∙ c.mark.ensures.set,
+      all_kept c.is_repeated.new.slots c.mark.new.slots _ c.mark.ensures.kept (c.is_repeated.ensures.met c.if-is_repeated.false),
+    )
