@@ -19,6 +19,7 @@ pub mod LineClauses
 pub mod TagDeclarations
 pub mod TagNamespaces
 pub mod TagRepeats
+pub mod TagSlots
 pub mod TagParts
 pub mod TagAnswers
 pub mod TagUnique

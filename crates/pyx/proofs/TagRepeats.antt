@@ -10,7 +10,7 @@ use Rattle.rng_model.specs.WellFormed.{HasNoName, nothing_named, another_name, D
 use Rattle.pyx.specs.TagReader.{same_written, is_written_in, is_written_twice, same_name, is_named_in, is_named_twice}
 use Rattle.pyx.proofs.WrittenNames.{same_bytes, bytes_same, written_same}
 
-true_false : true ≡ false → ⊥
+pub true_false : true ≡ false → ⊥
 true_false e = cc
 
 both : (a b : Bool) → (a && b) ≡ true → (a ≡ true) × (b ≡ true)
@@ -53,7 +53,7 @@ twice_written (a ∷ more) e = go (either (is_written_in a.name more) (is_writte
 
 -- ---- expanded names
 
-names_same : (a b : Name) → same_name a b ≡ true → a ≡ b
+pub names_same : (a b : Name) → same_name a b ≡ true → a ≡ b
 names_same a b e = let p = both (bytes_eq a.local b.local) (bytes_eq a.ns b.ns) e in
     join a.ns b.ns a.local b.local (bytes_same a.ns b.ns p.1) (bytes_same a.local b.local p.0) where
       join : (p q x y : List ℕ) → p ≡ q → x ≡ y → ◌≡◌ {A = Name} (record { ns = p; local = x }) (record { ns = q; local = y })

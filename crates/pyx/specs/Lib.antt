@@ -9,3 +9,4 @@ pub mod Documents
 pub mod Standing
 pub mod Held
 pub mod PlainBytes
+pub mod Slots

@@ -6,7 +6,7 @@ ghost use Rattle.pyx.specs.declared.fault.PyxFault.TheVariants as faults;
 use rng_model::OutOfMemory;
 
 /// Why a document is not read to its end.
-#[derive(Clone, Copy, Debug, PartialEq, Eq)]
+#[derive(Clone, Copy)]
 pub enum PyxFault {
     /// There was no memory for what the call had to keep, or for what the taker of events had to keep.
     Memory,

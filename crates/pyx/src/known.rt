@@ -5,6 +5,7 @@ ghost use Rattle.pyx.specs.LineReader.{written_of};
 ghost use Rattle.pyx.specs.TagReader.{Declared, element_name};
 ghost use Rattle.pyx.specs.ElementView.{AreKnown, IsKnown, name_at, names_of};
 
+use crate::slots::hash_of;
 use rng_model::{Name, OutOfMemory};
 use std::alloc::Global;
 
@@ -61,18 +62,6 @@ pub fn forget(round: &mut u64, known: &mut Vec<KnownName>)
     }
 }
 
-/// The place of a name, by its bytes.
-#[inline(always)]
-fn place_of(written: &str) -> usize
-    ensures { result < 256 }
-{
-    let mut sum: u32 = 0;
-    for byte in written.as_bytes() {
-        sum = (sum ^ (*byte as u32)).wrapping_mul(16_777_619);
-    }
-    ((sum >> 8) as usize) % COUNT
-}
-
 /// A place is there for each name.
 fn make_places(alloc: Global, known: &mut Vec<KnownName>) -> Result<(), OutOfMemory>
     ensures known { (scope : Declared) (round : ℕ) → AreKnown scope round known.old.items → AreKnown scope round known.new.items }
@@ -97,7 +86,7 @@ pub fn find(known: &[KnownName], round: u64, written: &str) -> Option<usize>
     ensures { IfSome result (λ at. (at < length known.now) × ((scope : Declared) → AreKnown scope round known.now
         → element_name scope (written_of written.now) ≡ Some (name_at (names_of known.now) at))) }
 {
-    let at = place_of(written);
+    let at = hash_of(written) % COUNT;
     match known.get(at) {
         Some(name) if name.round == round && name.written.as_str() == written => Some(at),
         _ => None,
@@ -120,7 +109,7 @@ pub fn learn(
 {
     make_places(alloc, known)?;
     let at = if written.len() <= SIZE_LIMIT && uri.len() <= SIZE_LIMIT {
-        place_of(written)
+        hash_of(written) % COUNT
     } else {
         0
     };

@@ -11,6 +11,7 @@ mod pieces;
 mod plain;
 mod reader;
 mod scope;
+mod slots;
 mod spares;
 mod state;
 mod written;

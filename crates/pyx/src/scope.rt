@@ -4,7 +4,7 @@ ghost use Rattle.std.specs.Option.{option_map};
 ghost use Rattle.rng_model.specs.Answers.{Gives};
 ghost use Rattle.rng_model.specs.View.{name_of, attribute_of};
 ghost use Rattle.pyx.specs.LineReader.{written_of};
-ghost use Rattle.pyx.specs.TagReader.{namespace_of, attribute_name, expanded, is_named_in, is_named_twice};
+ghost use Rattle.pyx.specs.TagReader.{namespace_of, attribute_name, expanded};
 ghost use Rattle.pyx.specs.ElementView.{clause_of, open_of, resolved, scope_of, stack_of, written_attribute};
 ghost use Rattle.pyx.specs.Held.{opened_held};
 
@@ -161,28 +161,4 @@ pub fn expand_attributes(
         mem::replace(others, Vec::new(alloc)),
         attrs,
     )
-}
-
-/// One of these attributes has this name.
-#[tactic(auto, unfolding(crate::specs::TagReader::is_named_in))]
-fn is_named_in(name: &Name, attrs: &[Attr]) -> bool
-    ensures { result ≡ is_named_in (name_of name.now) (map attribute_of attrs.now) }
-{
-    match attrs {
-        [first, rest @ ..] => {
-            (first.name.local == name.local && first.name.ns == name.ns) || is_named_in(name, rest)
-        }
-        [] => false,
-    }
-}
-
-/// Two of these attributes have one name.
-#[tactic(auto, unfolding(crate::specs::TagReader::is_named_twice))]
-pub fn is_named_twice(attrs: &[Attr]) -> bool
-    ensures { result ≡ is_named_twice (map attribute_of attrs.now) }
-{
-    match attrs {
-        [first, rest @ ..] => is_named_in(&first.name, rest) || is_named_twice(rest),
-        [] => false,
-    }
 }

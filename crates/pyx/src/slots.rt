@@ -1,0 +1,84 @@
+// Attributes of one name in a tag.
+ghost use Rattle.std.specs.Prelude.{◌≡◌, ℕ, List, map, false, true};
+ghost use Rattle.rng_model.specs.View.{name_of, attribute_of};
+ghost use Rattle.pyx.specs.Slots.{AreMet, hash_of, is_met};
+ghost use Rattle.pyx.specs.TagReader.{is_named_in, is_named_twice};
+
+use rng_model::{Attr, Name};
+
+/// How many names are compared in pairs, at most, without a look at their slots.
+const PAIRED_LIMIT: usize = 8;
+
+/// How many slots there are.
+const SLOT_COUNT: usize = 4_096;
+
+/// A number that is made of the bytes of a text.
+#[tactic(auto, unfolding(crate::specs::Slots::hash_of))]
+#[inline(always)]
+pub fn hash_of(text: &str) -> usize
+    ensures { result ≡ hash_of text.now }
+{
+    let mut sum: u32 = 0;
+    'bytes: for byte in text.as_bytes() {
+        sum = (sum ^ (*byte as u32)).wrapping_mul(16_777_619);
+    }
+    (sum >> 8) as usize
+}
+
+/// One of these attributes has this name.
+#[tactic(auto, unfolding(crate::specs::TagReader::is_named_in))]
+fn is_named_in(name: &Name, attrs: &[Attr]) -> bool
+    ensures { result ≡ is_named_in (name_of name.now) (map attribute_of attrs.now) }
+{
+    match attrs {
+        [first, rest @ ..] => {
+            (first.name.local == name.local && first.name.ns == name.ns) || is_named_in(name, rest)
+        }
+        [] => false,
+    }
+}
+
+/// Tells whether the slot of a local name is set, and sets it.
+#[inline(always)]
+fn mark(slots: &mut [bool; SLOT_COUNT], local: &str) -> bool
+    ensures met { result ≡ is_met slots.old local.now }
+    ensures set { is_met slots.new local.now ≡ true }
+    ensures kept { (other : List ℕ) → is_met slots.old other ≡ true → is_met slots.new other ≡ true }
+{
+    let at = hash_of(local) % SLOT_COUNT;
+    let met = slots[at];
+    slots[at] = true;
+    met
+}
+
+/// Two of these attributes have one name. Where none have, the slots of all are set; a name is compared with those behind it only where one of
+/// them has set its slot.
+#[tactic(auto, unfolding(crate::specs::TagReader::is_named_twice))]
+fn is_repeated(attrs: &[Attr], slots: &mut [bool; SLOT_COUNT]) -> bool
+    ensures twice { result ≡ is_named_twice (map attribute_of attrs.now) }
+    ensures met { result ≡ false → AreMet slots.new (map attribute_of attrs.now) }
+{
+    match attrs {
+        [first, rest @ ..] => {
+            if is_repeated(rest, slots) {
+                return true;
+            }
+            mark(slots, first.name.local.as_str()) && is_named_in(&first.name, rest)
+        }
+        [] => false,
+    }
+}
+
+/// Two of these attributes have one name.
+#[tactic(auto, unfolding(crate::specs::TagReader::is_named_twice))]
+pub fn is_named_twice(attrs: &[Attr]) -> bool
+    ensures { result ≡ is_named_twice (map attribute_of attrs.now) }
+{
+    if attrs.len() > PAIRED_LIMIT {
+        return is_repeated(attrs, &mut [false; SLOT_COUNT]);
+    }
+    match attrs {
+        [first, rest @ ..] => is_named_in(&first.name, rest) || is_named_twice(rest),
+        [] => false,
+    }
+}
