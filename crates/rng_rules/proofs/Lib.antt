@@ -10,6 +10,7 @@ pub mod Bodies
 pub mod NamesMeetQueues
 pub mod NamesMeetTables
 pub mod NamesMeetBetween
+pub mod NamesMeetHeads
 pub mod NamesMeetGroups
 pub mod NamesMeetSearch
 pub mod RowPaths

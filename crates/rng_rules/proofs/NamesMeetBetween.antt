@@ -117,7 +117,7 @@ module _ (of : NamesOf) (t : Table) (above : List (List ℕ)) (standing : List �
   is_join row l r true None h e f g = no_sides g
   is_join row l r true (Some p) h e f g = record { pattern = p; stands = (rows.is_standing row).1 (marked_at standing row 1 h e); is = f; sides = g }
 
-  join_sides : {row l r : ℕ} → IsJoin of t row l r → sides_of row ≡ Some (l, r)
+  pub join_sides : {row l r : ℕ} → IsJoin of t row l r → sides_of row ≡ Some (l, r)
   join_sides {row} {l} {r} j =
       ap (λ b. if b then sides_in of (slice_get t.patterns row) else None) (at_marked standing row 1 ((rows.is_standing row).0 j.stands))
       ∙ ap (sides_in of) j.is ∙ j.sides
