@@ -14,5 +14,6 @@ pub mod NamesMeetHeads
 pub mod NamesMeetGroups
 pub mod NamesMeetSearch
 pub mod RowPaths
+pub mod NamesMeetJoins
 pub mod NamesMeetBreaches
 pub mod NamesMeetAnswers

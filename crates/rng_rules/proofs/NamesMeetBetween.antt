@@ -104,7 +104,7 @@ or_second false e = e
 marked_at : (m : List ℕ) (k round : ℕ) → k < length m → (slice_index_or m k 0 == round) ≡ true → slice_get m k ≡ Some round
 marked_at m k round h e = slice_get-get_or m k 0 h ∙ ap Some (eqb-true (slice_index_or m k 0) round e)
 
-at_marked : (m : List ℕ) (k round : ℕ) → slice_get m k ≡ Some round → (slice_index_or m k 0 == round) ≡ true
+pub at_marked : (m : List ℕ) (k round : ℕ) → slice_get m k ≡ Some round → (slice_index_or m k 0 == round) ≡ true
 at_marked m k round e = eq-eqb (slice_index_or m k 0) round (get_or_from_slice_get m k round 0 e)
 
 module _ (of : NamesOf) (t : Table) (above : List (List ℕ)) (standing : List ℕ) (rows : AreRowsOf of t above standing) where
