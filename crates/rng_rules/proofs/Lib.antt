@@ -10,8 +10,10 @@ pub mod Bodies
 pub mod NamesMeetQueues
 pub mod NamesMeetTables
 pub mod NamesMeetBetween
+pub mod NamesMeetHeads
 pub mod NamesMeetGroups
 pub mod NamesMeetSearch
 pub mod RowPaths
+pub mod NamesMeetJoins
 pub mod NamesMeetBreaches
 pub mod NamesMeetAnswers

@@ -1,5 +1,5 @@
 -- Rows that meet are found in the groups of one name, or have a class that is no name.
-use Rattle.std.proofs.Common.{◌≡◌, refl, ap, sym, ◌∙◌, subst, ℕ, ◌<◌, List, [], length, slice_index_or, Some, None, Option, Contains, ◌↔◌, inl, inr, arith}
+use Rattle.std.proofs.Common.{◌≡◌, refl, ap, sym, ◌∙◌, subst, ℕ, ◌<◌, List, [], length, slice_index_or, Some, None, Option, Contains, inl, inr, arith}
 use Rattle.std.proofs.lemmas.Option.{slice_get_cases, slice_get_within}
 use Rattle.rng_model.specs.Names as names
 use Rattle.rng_model.specs.Names.{Overlap, IsPairOfTexts}
@@ -89,6 +89,6 @@ labelled_inside of t row c e = elim (slice_get_cases t.patterns row).1 [
 ]
 
 pub groups_inside : (of : NamesOf) (t : Table) (ls : List (ℕ × NameClass)) (qs : List names.Name) (groups : List (List ℕ)) → AreGroups ls qs groups
-    → ((row : ℕ) (c : NameClass) → Contains ls (row, c) ↔ IsLabelled of t row c) → AreBelow (length t.patterns) groups
-groups_inside of t ls qs groups are exact k row h =
-    let s = are.sound k row h in labelled_inside of t row (class.Name s.2.0) ((exact row (class.Name s.2.0)).0 s.2.1)
+    → ((row : ℕ) (c : NameClass) → Contains ls (row, c) → IsLabelled of t row c) → AreBelow (length t.patterns) groups
+groups_inside of t ls qs groups are sound k row h =
+    let s = are.sound k row h in labelled_inside of t row (class.Name s.2.0) (sound row (class.Name s.2.0) s.2.1)

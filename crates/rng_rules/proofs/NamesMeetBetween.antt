@@ -104,7 +104,7 @@ or_second false e = e
 marked_at : (m : List ℕ) (k round : ℕ) → k < length m → (slice_index_or m k 0 == round) ≡ true → slice_get m k ≡ Some round
 marked_at m k round h e = slice_get-get_or m k 0 h ∙ ap Some (eqb-true (slice_index_or m k 0) round e)
 
-at_marked : (m : List ℕ) (k round : ℕ) → slice_get m k ≡ Some round → (slice_index_or m k 0 == round) ≡ true
+pub at_marked : (m : List ℕ) (k round : ℕ) → slice_get m k ≡ Some round → (slice_index_or m k 0 == round) ≡ true
 at_marked m k round e = eq-eqb (slice_index_or m k 0) round (get_or_from_slice_get m k round 0 e)
 
 module _ (of : NamesOf) (t : Table) (above : List (List ℕ)) (standing : List ℕ) (rows : AreRowsOf of t above standing) where
@@ -117,7 +117,7 @@ module _ (of : NamesOf) (t : Table) (above : List (List ℕ)) (standing : List �
   is_join row l r true None h e f g = no_sides g
   is_join row l r true (Some p) h e f g = record { pattern = p; stands = (rows.is_standing row).1 (marked_at standing row 1 h e); is = f; sides = g }
 
-  join_sides : {row l r : ℕ} → IsJoin of t row l r → sides_of row ≡ Some (l, r)
+  pub join_sides : {row l r : ℕ} → IsJoin of t row l r → sides_of row ≡ Some (l, r)
   join_sides {row} {l} {r} j =
       ap (λ b. if b then sides_in of (slice_get t.patterns row) else None) (at_marked standing row 1 ((rows.is_standing row).0 j.stands))
       ∙ ap (sides_in of) j.is ∙ j.sides

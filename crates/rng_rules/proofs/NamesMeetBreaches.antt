@@ -1,6 +1,6 @@
 -- The clauses on names, told by rows that meet.
-use Rattle.std.proofs.Common.{◌≡◌, ◌↔◌, inl, inr, refl, ap, sym, ◌∙◌, subst, ℕ, ◌<◌, List, [], ◌∷◌, length, slice_get, Some, None, Option, option_map}
-use Rattle.std.proofs.Common.{Contains, arith}
+use Rattle.std.proofs.Common.{◌≡◌, inl, inr, refl, ap, sym, ◌∙◌, subst, ℕ, ◌<◌, List, [], ◌∷◌, length, slice_get, Some, None, Option, option_map}
+use Rattle.std.proofs.Common.{arith}
 use Rattle.std.proofs.lemmas.List.{length-map}
 use Rattle.std.proofs.lemmas.Option.{slice_get_cases, slice_get_within, slice_get-map}
 use Rattle.rng_model.specs.Names as names
@@ -14,9 +14,11 @@ use Rattle.rng_model.specs.declared.simple.Simple.{Simple}
 use Rattle.rng_model.specs.declared.simple.Simple.TheVariants as simple
 use Rattle.rng_rules.specs.declared.names_meet.NamesOf.{NamesOf}
 use Rattle.rng_rules.specs.declared.names_meet.NamesOf.TheVariants as names_of
-use Rattle.rng_rules.specs.NamesMeetReach.{at_start}
+use Rattle.rng_rules.specs.NamesMeetReach.{at_start, onward}
 use Rattle.rng_rules.specs.NamesMeetRows.{IsAbove, IsLabelled, class_at, class_in, sides_at}
+use Rattle.rng_rules.specs.NamesMeetLabels.{AreLabels}
 use Rattle.rng_rules.specs.NamesMeetSearch.{Breaks, Meeting}
+use Rattle.rng_rules.specs.NamesMeetSides.{IsJoin}
 use Rattle.rng_rules.proofs.NamesMeetBetween.{sides_passed, passed_below}
 use Rattle.rng_rules.proofs.NamesMeetQueues.{some_same}
 use Rattle.rng_rules.proofs.RowPaths.{STree, over, standing_row, in_part, part_row, climbed_occurs, occurring_row}
@@ -288,15 +290,15 @@ module _ (t : Table) (valid : IsTable t) where
   ]
 
   module _ (of : NamesOf) (above : List (List ℕ)) (is : IsAbove t.patterns above) (ls : List (ℕ × NameClass))
-      (exact : (row : ℕ) (c : NameClass) → Contains ls (row, c) ↔ IsLabelled of t row c) where
+      (are : AreLabels of t above ls) where
     pub meeting_breaks : Meeting of t above ls → (p : STree) × IsPart g p × Breaks of g p
     meeting_breaks m =
         let j = m.meet.join in
         let part = in_part t valid j.stands in
         let k = sides_joined of j.pattern j.sides in
         let stands = subst (λ q. StandsIn q part.part) (over t valid m.meet.row j.pattern j.is ∙ k.2) part.stands in
-        let f = labelled of m.first.0 m.first.1 ((exact m.first.0 m.first.1).0 m.first_there) in
-        let s = labelled of m.second.0 m.second.1 ((exact m.second.0 m.second.1).0 m.second_there) in (
+        let f = labelled of m.first.0 m.first.1 (are.sound m.first.0 m.first.1 m.first_there) in
+        let s = labelled of m.second.0 m.second.1 (are.sound m.second.0 m.second.1 m.second_there) in (
           part.part,
           part.is,
           breach_breaks of g part.part (elim m.meet.meet [
@@ -351,18 +353,25 @@ module _ (t : Table) (valid : IsTable t) where
         let second = occurring_row t valid above is n sides.1 right_inside right_inside (subst (OccursIn b.second) (sym sides.4) b.occurs_right) in
         let c = class_has of first.pattern (subst (λ q. HasClass of g q b.first_class) (sym first.is ∙ over t valid first.place first.pattern first.there) b.is_first) in
         let d = class_has of second.pattern (subst (λ q. HasClass of g q b.second_class) (sym second.is ∙ over t valid second.place second.pattern second.there) b.is_second) in
+        let here : IsJoin of t join.place sides.0 sides.1 = record { pattern = join.pattern; stands = join.holds; is = join.there; sides = sides.2 } in
+        let one = first.holds (first.place ∷ []) (0, omega arith, refl) in
+        let two = second.holds (second.place ∷ []) (0, omega arith, refl) in
+        let one_under = onward one ((is.exact sides.0 join.place).1 (join.pattern, join.there, passed.0)) in
+        let two_under = onward two ((is.exact sides.1 join.place).1 (join.pattern, join.there, passed.1)) in
         record {
           first = (first.place, c.0);
           second = (second.place, d.0);
-          first_there = (exact first.place c.0).1 (ap (class_in of t.elements) first.there ∙ c.1);
-          second_there = (exact second.place d.0).1 (ap (class_in of t.elements) second.there ∙ d.1);
+          first_there = are.complete first.place c.0 (ap (class_in of t.elements) first.there ∙ c.1)
+              (record { row = join.place; left = sides.0; right = sides.1; join = here; climbs = one_under });
+          second_there = are.complete second.place d.0 (ap (class_in of t.elements) second.there ∙ d.1)
+              (record { row = join.place; left = sides.0; right = sides.1; join = here; climbs = two_under });
           overlap = subst (λ x. Overlap x (class_of d.0)) (sym c.2) (subst (Overlap b.first_class) (sym d.2) b.overlap);
           meet = record {
             row = join.place;
             left = sides.0;
             right = sides.1;
-            join = record { pattern = join.pattern; stands = join.holds; is = join.there; sides = sides.2 };
-            meet = inl (first.holds (first.place ∷ []) (0, omega arith, refl), second.holds (second.place ∷ []) (0, omega arith, refl));
+            join = here;
+            meet = inl (one, two);
           };
         }
 

@@ -1,6 +1,6 @@
 -- Rows with name classes, one after another, and groups of those that have one name.
 use Rattle.std.proofs.Common.{◌≡◌, ◌⊎◌, ◌↔◌, inl, inr, refl, ap, ap₂, sym, ◌∙◌, subst, ℕ, zero, suc, ◌+◌, ◌<◌, ◌≤◌, ◌&&◌, ◌||◌, Bool, true, false, true≢false}
-use Rattle.std.proofs.Common.{List, [], ◌∷◌, ◌++◌, length, map, take, slice_get, slice_index_or, Some, None, Option, option_map, Contains, get_or, length-append, if◌then◌else◌, arith}
+use Rattle.std.proofs.Common.{List, [], ◌∷◌, ◌++◌, length, map, take, slice_get, slice_index_or, Some, None, Option, option_map, Contains, get_or, length-append, if◌then◌else◌, ◌==◌, arith}
 use Rattle.std.specs.List.{list_any}
 use Rattle.std.specs.Str.{bytes_eq}
 use Rattle.std.proofs.lemmas.Bool.{cases_eq, cases_lt}
@@ -19,8 +19,10 @@ use Rattle.rng_model.specs.declared.name.NameClass.TheVariants as class
 use Rattle.rng_rules.specs.declared.names_meet.NamesOf.{NamesOf}
 use Rattle.rng_rules.specs.declared.names_meet_groups.PlainName.{PlainName}
 use Rattle.rng_rules.specs.contracts.names_meet_groups.PlainNamePartialEq.TheImpl as same
-use Rattle.rng_rules.specs.NamesMeetLabels.{label_list, plain_name_of, HasName, AreApart, AreGroups}
-use Rattle.rng_rules.specs.NamesMeetRows.{IsLabelled, class_in}
+use Rattle.rng_rules.specs.NamesMeetLabels.{AreLabels, judged_class, label_list, plain_name_of, HasName, AreApart, AreGroups}
+use Rattle.rng_rules.specs.NamesMeetRows.{class_in}
+use Rattle.rng_rules.specs.NamesMeetSides.{IsUnder}
+use Rattle.rng_rules.proofs.NamesMeetBetween.{at_marked}
 use Rattle.rng_rules.proofs.NamesMeetQueues.{one_only, not_there, some_same}
 
 abbrev Label : Type 0
@@ -43,41 +45,44 @@ in_label_list i row (Some d) c h =
 label_there : (row : ℕ) (o : Option NameClass) (c : NameClass) → o ≡ Some c → Contains (label_list row o) (row, c)
 label_there row o c e = subst (λ p. Contains (label_list row p) (row, c)) (sym e) (0, omega arith, refl)
 
-pub labels_more : (of : NamesOf) (t : Table) (i : ℕ) (ls new : List Label) → new ≡ ls ++ label_list i (class_in of t.elements (slice_get t.patterns i))
-    → ((row : ℕ) (c : NameClass) → Contains ls (row, c) ↔ ((row < i) × IsLabelled of t row c))
-    → (row : ℕ) (c : NameClass) → Contains new (row, c) ↔ ((row < i + 1) × IsLabelled of t row c)
-labels_more of t i ls new more so_far row c =
-    let o = class_in of t.elements (slice_get t.patterns i) in (
-      λ h. elim (Contains-append_cases ls (label_list i o) (row, c) (subst (λ xs. Contains xs (row, c)) more h)) [
-        | inl l ↦ let s = (so_far row c).0 l in (omega (arith, s.0), s.1)
-        | inr r ↦
-            let s = in_label_list i row o c r in
-            (omega (arith, s.0), ap (λ k. class_in of t.elements (slice_get t.patterns k)) s.0 ∙ s.1)
-      ],
-      λ h. subst (λ xs. Contains xs (row, c)) (sym more) (elim (cases_eq row i) [
-        | inl e ↦
-            let is : o ≡ Some c = ap (λ k. class_in of t.elements (slice_get t.patterns k)) (sym e) ∙ h.1 in
-            Contains-append_right ls (label_list i o) (row, c) (subst (λ k. Contains (label_list i o) (k, c)) (sym e) (label_there i o c is))
-        | inr n ↦ Contains-append_left ls (label_list i o) (row, c) ((so_far row c).1 (omega (arith, h.0, n), h.1))
-      ]),
-    )
+pub labels_more : (class : ℕ → Option NameClass) (i : ℕ) (ls new : List Label) → new ≡ ls ++ label_list i (class i)
+    → ((row : ℕ) (c : NameClass) → Contains ls (row, c) ↔ ((row < i) × (class row ≡ Some c)))
+    → (row : ℕ) (c : NameClass) → Contains new (row, c) ↔ ((row < i + 1) × (class row ≡ Some c))
+labels_more class i ls new more so_far row c = (
+  λ h. elim (Contains-append_cases ls (label_list i (class i)) (row, c) (subst (λ xs. Contains xs (row, c)) more h)) [
+    | inl l ↦ let s = (so_far row c).0 l in (omega (arith, s.0), s.1)
+    | inr r ↦
+        let s = in_label_list i row (class i) c r in
+        (omega (arith, s.0), ap class s.0 ∙ s.1)
+  ],
+  λ h. subst (λ xs. Contains xs (row, c)) (sym more) (elim (cases_eq row i) [
+    | inl e ↦
+        let is : class i ≡ Some c = ap class (sym e) ∙ h.1 in
+        Contains-append_right ls (label_list i (class i)) (row, c) (subst (λ k. Contains (label_list i (class i)) (k, c)) (sym e) (label_there i (class i) c is))
+    | inr n ↦ Contains-append_left ls (label_list i (class i)) (row, c) ((so_far row c).1 (omega (arith, h.0, n), h.1))
+  ]),
+)
 
 no_label : {A : Type 0} {c : NameClass} → ◌≡◌ {A = Option NameClass} None (Some c) → A
 no_label e = absurd (let z = e in cc)
 
-pub labels_all : (of : NamesOf) (t : Table) (i : ℕ) (ls : List Label) → length t.patterns ≤ i
-    → ((row : ℕ) (c : NameClass) → Contains ls (row, c) ↔ ((row < i) × IsLabelled of t row c))
-    → (row : ℕ) (c : NameClass) → Contains ls (row, c) ↔ IsLabelled of t row c
-labels_all of t i ls past so_far row c = (
-  λ h. ((so_far row c).0 h).1,
-  λ h. (so_far row c).1 (
+judged_is : (b : Bool) (o : Option NameClass) {c : NameClass} → (if b then o else None) ≡ Some c → o ≡ Some c
+judged_is true o e = e
+judged_is false o e = no_label e
+
+pub labels_all : (of : NamesOf) (t : Table) (above : List (List ℕ)) (under : List ℕ) (i : ℕ) (ls : List Label) → length t.patterns ≤ i
+    → ((k : ℕ) → IsUnder of t above k → slice_get under k ≡ Some 1)
+    → ((row : ℕ) (c : NameClass) → Contains ls (row, c) ↔ ((row < i) × (judged_class of t under row ≡ Some c))) → AreLabels of t above ls
+labels_all of t above under i ls past marked so_far = record {
+  sound = λ row c h. judged_is (slice_index_or under row 0 == 1) (class_in of t.elements (slice_get t.patterns row)) ((so_far row c).0 h).1;
+  complete = λ row c h u. (so_far row c).1 (
     elim (slice_get_cases t.patterns row).1 [
       | inl f ↦ let l = slice_get_within t.patterns row f.0 f.2 in omega arith
       | inr f ↦ no_label (sym (ap (class_in of t.elements) f.1) ∙ h)
     ],
-    h,
-  ),
-)
+    ap (λ b. if b then class_in of t.elements (slice_get t.patterns row) else None) (at_marked under row 1 (marked row u)) ∙ h,
+  );
+}
 
 -- ---- one more of a list
 

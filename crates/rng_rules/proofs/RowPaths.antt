@@ -80,7 +80,7 @@ module _ (t : Table) (valid : IsTable t) where
   pub over : (i : ℕ) (r : Simple) → slice_get ps i ≡ Some r → at i ≡ tree_over (tree_at ps) r
   over i r e = tree_at-over_children ps (record { 0 = i }) r valid.falls e
 
-  children_of : (i : ℕ) (r : Simple) → slice_get ps i ≡ Some r → children_at ps i ≡ children r
+  pub children_of : (i : ℕ) (r : Simple) → slice_get ps i ≡ Some r → children_at ps i ≡ children r
   children_of i r e = get_or-map children ps i r [] (slice_get_within ps i r e) ∙ ap children (get_or_from_slice_get ps i r r e)
 
   -- ---- what stands in a part has a row that does

@@ -6,5 +6,6 @@ pub mod Restricted
 pub mod NamesMeetReach
 pub mod NamesMeetRows
 pub mod NamesMeetSides
+pub mod NamesMeetHeads
 pub mod NamesMeetLabels
 pub mod NamesMeetSearch

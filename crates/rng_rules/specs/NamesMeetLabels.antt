@@ -1,12 +1,17 @@
 -- Rows with name classes, and groups of those that have one name. Private contracts cite the states.
-use Rattle.std.specs.Prelude.{◌≡◌, ℕ, List, [], ◌∷◌, length, slice_get, slice_index_or, Option, Some, None, Contains}
+use Rattle.std.specs.Prelude.{◌≡◌, ℕ, List, [], ◌∷◌, length, slice_get, slice_index_or, Option, Some, None, Contains, ◌==◌}
+use Rattle.std.specs.Prelude.{if◌then◌else◌}
+use Rattle.rng_model.specs.Table.{Table}
 use Rattle.rng_model.specs.Names as names
 use Rattle.rng_model.specs.View.{name_of}
 use Rattle.rng_model.specs.declared.name.Name.{Name}
 use Rattle.rng_model.specs.declared.name.NameClass.{NameClass}
 use Rattle.rng_model.specs.declared.name.NameClass.TheVariants as class
+use Rattle.rng_rules.specs.declared.names_meet.NamesOf.{NamesOf}
 use Rattle.rng_rules.specs.declared.names_meet_labels.Label as declared
 use Rattle.rng_rules.specs.declared.names_meet_groups.PlainName.{PlainName}
+use Rattle.rng_rules.specs.NamesMeetRows.{IsLabelled, class_in}
+use Rattle.rng_rules.specs.NamesMeetSides.{IsUnder}
 
 abbrev pub label_of : declared.Label → ℕ × NameClass
 label_of l = (l.row, l.class.now)
@@ -18,6 +23,15 @@ label_list row (Some c) = (row, c) ∷ []
 
 abbrev pub plain_name_of : PlainName → names.Name
 plain_name_of n = record { ns = n.ns.now; local = n.local.now }
+
+-- the name class that a row has by itself, if it is marked
+abbrev pub judged_class : NamesOf → Table → List ℕ → ℕ → Option NameClass
+judged_class of t under row = if slice_index_or under row 0 == 1 then class_in of t.elements (slice_get t.patterns row) else None
+
+-- rows with their name classes, and all of those that stand in one between whose sides names must not meet
+pub record AreLabels (of : NamesOf) (t : Table) (above : List (List ℕ)) (labels : List (ℕ × NameClass)) : Type 0 where
+  pub sound : (row : ℕ) (c : NameClass) → Contains labels (row, c) → IsLabelled of t row c
+  pub complete : (row : ℕ) (c : NameClass) → IsLabelled of t row c → IsUnder of t above row → Contains labels (row, c)
 
 -- the row has this name for a class
 abbrev pub HasName : List (ℕ × NameClass) → ℕ → names.Name → Type 0

@@ -1,6 +1,6 @@
 -- Where names meet: a row that stands in a part, with a side reached from one list of rows and the other from another.
 -- Private contracts cite it.
-use Rattle.std.specs.Prelude.{◌≡◌, ◌<◌, ◌⊎◌, ◌↔◌, ◌&&◌, ◌||◌, ◌==◌, ℕ, List, [], length, slice_get, slice_index_or, Option, Some, None, Bool, false, All}
+use Rattle.std.specs.Prelude.{◌≡◌, ◌<◌, ◌⊎◌, ◌↔◌, ◌&&◌, ◌||◌, ◌==◌, ℕ, List, [], ◌∷◌, length, slice_get, slice_index_or, Option, Some, None, Bool, false, All}
 use Rattle.std.specs.Prelude.{if◌then◌else◌}
 use Rattle.rng_model.specs.Table.{Table, IsTable}
 use Rattle.rng_model.specs.declared.simple.Simple.{Simple}
@@ -29,6 +29,14 @@ pub record MeetBetween (of : NamesOf) (t : Table) (above : List (List ℕ)) (fir
   pub join : IsJoin of t row left right
   pub meet : (Climbs above first left × Climbs above second right) ⊎ (Climbs above first right × Climbs above second left)
 
+-- the row climbs to one that stands in a part, between whose sides names must not meet
+pub record IsUnder (of : NamesOf) (t : Table) (above : List (List ℕ)) (k : ℕ) : Type 0 where
+  pub row : ℕ
+  pub left : ℕ
+  pub right : ℕ
+  pub join : IsJoin of t row left right
+  pub climbs : Climbs above (k ∷ []) row
+
 -- the table's rows made ready
 pub record AreRowsOf (of : NamesOf) (t : Table) (above : List (List ℕ)) (standing : List ℕ) : Type 0 where
   pub valid : IsTable t
@@ -52,6 +60,11 @@ pub record AreMarks (n round : ℕ) (marks : Marks) : Type 0 where
 abbrev pub sides_in : NamesOf → Option Simple → Option (ℕ × ℕ)
 sides_in of None = None
 sides_in of (Some p) = sides_at of p
+
+-- a row that has sides
+abbrev pub join_list : ℕ → Option (ℕ × ℕ) → List ℕ
+join_list row None = []
+join_list row (Some s) = row ∷ []
 
 abbrev pub row_sides : declared.Rows → ℕ → Option (ℕ × ℕ)
 row_sides rows row = if slice_index_or rows.standing.items row 0 == 1 then sides_in rows.of (slice_get rows.grammar.now.patterns row) else None

@@ -11,6 +11,8 @@ mod held;
 mod kind;
 mod names_meet;
 mod names_meet_groups;
+mod names_meet_heads;
+mod names_meet_joins;
 mod names_meet_labels;
 mod names_meet_reach;
 mod names_meet_rows;

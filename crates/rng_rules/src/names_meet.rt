@@ -17,8 +17,9 @@ use std::alloc::Global;
 /// classes of attributes that occur on both sides.
 ///
 /// RELAX NG Specification, section 7.3. Only want of memory is an error. Names are looked up by hashing; a class that is
-/// no name is compared with each other. For each name, and for each class that is none, the cost is what stands above the
-/// attributes with it: in a tree at most their number times the depth.
+/// no name is compared with each other. Attributes that stand in no group and no interleave cost nothing more. For a name
+/// that one pattern has, the cost is what stands above the first that stands twice, in a tree nothing; for a name that
+/// several have, and for a class that is none, it is what stands above them: in a tree at most their number times the depth.
 pub(crate) fn attribute_names_meet(
     alloc: Global,
     grammar: &SimpleGrammar,
@@ -51,7 +52,7 @@ fn names_meet(alloc: Global, grammar: &SimpleGrammar, of: NamesOf) -> Result<boo
     ensures all { IfOk result (λ yes. (p : tree.Simple ℕ) → IsPart (grammar_of grammar.now) p → Breaks of (grammar_of grammar.now) p → IsTrue yes) }
 {
     let rows = Rows::new(alloc, grammar, of)?;
-    let labels = labels(alloc, grammar, of, rows.standing.len())?;
+    let labels = labels(alloc, &rows)?;
     let groups = name_groups(alloc, labels.as_slice())?;
     if groups_meet(alloc, &rows, groups.rows.as_slice())? {
         return Ok(true);

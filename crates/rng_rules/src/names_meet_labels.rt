@@ -1,13 +1,15 @@
 // The rows of a grammar that have name classes, and which of them have names in common with a class.
-ghost use Rattle.std.specs.Prelude.{◌≡◌, ◌⊎◌, ◌↔◌, ◌++◌, ℕ, length, map, slice_get, option_copied, Contains, IfOk, OnOk};
+ghost use Rattle.std.specs.Prelude.{◌≡◌, ◌<◌, ◌⊎◌, ◌↔◌, ◌++◌, ℕ, length, map, option_copied, Contains, IfOk, OnOk};
 ghost use Rattle.rng_model.specs.Names.{Overlap};
 ghost use Rattle.rng_model.specs.View.{class_of};
 ghost use Rattle.rng_model.specs.declared.name.NameClass.{NameClass};
-ghost use Rattle.rng_rules.specs.NamesMeetLabels.{label_list, label_of};
-ghost use Rattle.rng_rules.specs.NamesMeetRows.{IsLabelled, class_in};
+ghost use Rattle.rng_rules.specs.NamesMeetLabels.{AreLabels, judged_class, label_list, label_of};
+ghost use Rattle.rng_rules.specs.NamesMeetReach.{lists};
+ghost use Rattle.rng_rules.specs.NamesMeetSides.{AreRows};
 
-use crate::names_meet::NamesOf;
-use rng_model::{NameClass, OutOfMemory, PatternId, SimpleGrammar};
+use crate::names_meet_joins::under_joins;
+use crate::names_meet_sides::Rows;
+use rng_model::{NameClass, OutOfMemory, PatternId};
 use rng_names::overlap;
 use std::alloc::Global;
 
@@ -18,45 +20,47 @@ pub(crate) struct Label<'a> {
     pub class: &'a NameClass,
 }
 
-/// All rows that have name classes by themselves, of the first `count`, which are all.
-pub(crate) fn labels<'a>(
-    alloc: Global,
-    grammar: &'a SimpleGrammar,
-    of: NamesOf,
-    count: usize,
-) -> Result<Vec<Label<'a>>, OutOfMemory>
-    requires { count ≡ length grammar.now.patterns }
-    ensures { IfOk result (λ ls. (row : ℕ) (c : NameClass) → Contains (map label_of ls.items) (row, c) ↔ IsLabelled of grammar.now row c) }
+/// The rows that have name classes by themselves, of those that stand in a row between whose sides names must not meet.
+/// Linear.
+pub(crate) fn labels<'a>(alloc: Global, rows: &Rows<'a>) -> Result<Vec<Label<'a>>, OutOfMemory>
+    requires { AreRows rows.now }
+    ensures { IfOk result (λ ls. AreLabels rows.now.of rows.now.grammar.now (lists rows.now.above.items) (map label_of ls.items)) }
 {
+    let under = under_joins(alloc, rows)?;
     let mut labels = Vec::new(alloc);
-    for row in 0..count {
-        add_label(&mut labels, grammar, of, row)?;
+    for row in 0..under.len() {
+        add_label(&mut labels, rows, under.as_slice(), row)?;
     }
     Ok(labels)
 }
 
-/// Adds the row if it has a name class.
+/// Adds the row if it is marked and has a name class.
 fn add_label<'a>(
     labels: &mut Vec<Label<'a>>,
-    grammar: &'a SimpleGrammar,
-    of: NamesOf,
+    rows: &Rows<'a>,
+    under: &[usize],
     row: usize,
 ) -> Result<(), OutOfMemory>
+    requires { row < length under.now }
     ensures { OnOk result (map label_of labels.new.items
-        ≡ map label_of labels.old.items ++ label_list row (class_in of grammar.now.elements (slice_get grammar.now.patterns row))) }
+        ≡ map label_of labels.old.items ++ label_list row (judged_class rows.now.of rows.now.grammar.now under.now row)) }
 {
-    if let Some(class) = class_in(grammar, of, row) {
+    if let Some(class) = judged_class(rows, under, row) {
         labels.push(Label { row, class })?;
     }
     Ok(())
 }
 
-/// The name class that a row has by itself.
-fn class_in(grammar: &SimpleGrammar, of: NamesOf, row: usize) -> Option<&NameClass>
-    ensures { option_copied result ≡ class_in of grammar.now.elements (slice_get grammar.now.patterns row) }
+/// The name class that a row has by itself, if it is marked.
+fn judged_class<'a>(rows: &Rows<'a>, under: &[usize], row: usize) -> Option<&'a NameClass>
+    requires { row < length under.now }
+    ensures { option_copied result ≡ judged_class rows.now.of rows.now.grammar.now under.now row }
 {
-    match grammar.pattern(PatternId(row)) {
-        Some(pattern) => of.class(grammar, pattern),
+    if under[row] != 1 {
+        return None;
+    }
+    match rows.grammar.pattern(PatternId(row)) {
+        Some(pattern) => rows.of.class(rows.grammar, pattern),
         None => None,
     }
 }

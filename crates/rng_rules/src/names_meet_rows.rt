@@ -1,5 +1,5 @@
 // What stands in the rows of a grammar, and what they occur in.
-ghost use Rattle.std.specs.Prelude.{◌≡◌, ◌<◌, ◌⊎◌, ◌↔◌, ℕ, [], ◌∷◌, length, map, slice_get, slice_index_or, Contains, IfOk, OnOk, Some};
+ghost use Rattle.std.specs.Prelude.{◌≡◌, ◌<◌, ◌⊎◌, ◌↔◌, ℕ, [], ◌∷◌, length, map, slice_get, slice_index_or, All, Contains, IfOk, OnOk, Some};
 ghost use Rattle.rng_model.specs.Table.{AreChildrenBelow};
 ghost use Rattle.rng_rules.specs.NamesMeetReach.{IsReachedBy, lists};
 ghost use Rattle.rng_rules.specs.NamesMeetRows.{IsAbove, children, children_at, part_rows, passed};
@@ -13,11 +13,25 @@ pub(crate) fn standing(alloc: Global, grammar: &SimpleGrammar) -> Result<Vec<usi
     ensures long { IfOk result (λ marks. length marks.items ≡ length grammar.now.patterns) }
     ensures exact { IfOk result (λ marks. (k : ℕ) → IsReachedBy (children_at grammar.now.patterns) (part_rows grammar.now) k ↔ (slice_get marks.items k ≡ Some 1)) }
 {
-    let below = below(alloc, grammar)?;
     let mut parts = bodies(alloc, grammar)?;
     parts.push(grammar.start().0)?;
+    within(alloc, grammar, parts.as_slice())
+}
+
+/// For each row a 1 if it stands in one of these, or is one, and a 0 if not. Linear.
+pub(crate) fn within(
+    alloc: Global,
+    grammar: &SimpleGrammar,
+    rows: &[usize],
+) -> Result<Vec<usize>, OutOfMemory>
+    requires { All (λ k. k < length grammar.now.patterns) rows.now }
+    ensures long { IfOk result (λ marks. length marks.items ≡ length grammar.now.patterns) }
+    ensures exact { IfOk result (λ marks. (k : ℕ) → IsReachedBy (children_at grammar.now.patterns) rows.now k ↔ (slice_get marks.items k ≡ Some 1)) }
+{
+    let _ = grammar.start();
+    let below = below(alloc, grammar)?;
     let mut marks = no_marks(alloc, below.len())?;
-    let _ = reach(alloc, below.as_slice(), parts.as_slice(), &mut marks, 1)?;
+    let _ = reach(alloc, below.as_slice(), rows, &mut marks, 1)?;
     Ok(marks)
 }
 

@@ -1,20 +1,23 @@
 // The search for rows whose names meet.
-ghost use Rattle.std.specs.Prelude.{◌≡◌, ◌<◌, ◌+◌, ◌∷◌, [], ◌↔◌, ℕ, length, map, slice_index_or, Contains, IfOk, OnOk, IsTrue, IsFalse};
+ghost use Rattle.std.specs.Prelude.{◌≡◌, ◌<◌, ◌+◌, ◌∷◌, [], ◌↔◌, ℕ, length, map, slice_index_or, All, Contains, IfOk, OnOk, IsTrue, IsFalse};
 ghost use Rattle.rng_model.specs.Names.{Overlap};
 ghost use Rattle.rng_model.specs.View.{class_of};
 ghost use Rattle.rng_model.specs.declared.name.NameClass.{NameClass};
 ghost use Rattle.rng_names.specs.PlainNames.{IsPlain};
 ghost use Rattle.rng_rules.specs.NamesMeetLabels.{label_of};
+ghost use Rattle.rng_rules.specs.NamesMeetHeads.{AreHeads};
 ghost use Rattle.rng_rules.specs.NamesMeetReach.{AreBelow, lists};
 ghost use Rattle.rng_rules.specs.NamesMeetSearch.{Meeting};
 ghost use Rattle.rng_rules.specs.NamesMeetSides.{AreMarks, AreRows, MeetBetween};
 
+use crate::names_meet_heads::heads;
 use crate::names_meet_labels::{Label, overlapping};
 use crate::names_meet_sides::{Marks, Rows};
 use rng_model::{NameClass, OutOfMemory};
 use std::alloc::Global;
 
-/// Whether two rows of one group stand on the two sides of a row. Takes time in proportion to what each group reaches.
+/// Whether two rows of one group, or one and itself, stand on the two sides of a row. Linear, and takes time in proportion
+/// to what each group of two or more reaches, and to what each row alone reaches behind the first that stands in two rows.
 pub(crate) fn groups_meet(
     alloc: Global,
     rows: &Rows<'_>,
@@ -27,15 +30,51 @@ pub(crate) fn groups_meet(
     ensures none { IfOk result (λ yes. IsFalse yes → (k : ℕ) → k < length groups.now → ¬ (MeetBetween rows.now.of rows.now.grammar.now
         (lists rows.now.above.items) (slice_index_or (lists groups.now) k []) (slice_index_or (lists groups.now) k []))) }
 {
+    let heads = heads(alloc, rows)?;
     let mut marks = rows.marks(alloc)?;
     let mut round = 1;
     for group in groups {
-        if rows.meet(alloc, &mut marks, round, group.as_slice(), group.as_slice())? {
+        if group_meets(
+            alloc,
+            rows,
+            heads.as_slice(),
+            &mut marks,
+            round,
+            group.as_slice(),
+        )? {
             return Ok(true);
         }
         round += 1;
     }
     Ok(false)
+}
+
+/// Whether two of these rows, or one and itself, stand on the two sides of a row. For a row alone, its head is asked.
+fn group_meets(
+    alloc: Global,
+    rows: &Rows<'_>,
+    heads: &[usize],
+    marks: &mut Marks,
+    round: usize,
+    group: &[usize],
+) -> Result<bool, OutOfMemory>
+    requires rows { AreRows rows.now }
+    requires long { length heads.now ≡ length rows.now.standing.items }
+    requires heads { AreHeads rows.now heads.now }
+    requires marks { AreMarks (length rows.now.standing.items) round marks.old }
+    requires below { All (λ k. k < length rows.now.standing.items) group.now }
+    ensures marks { OnOk result (AreMarks (length rows.now.standing.items) (round + 1) marks.new) }
+    ensures only { IfOk result (λ yes. IsTrue yes → MeetBetween rows.now.of rows.now.grammar.now (lists rows.now.above.items) group.now group.now) }
+    ensures all { IfOk result (λ yes. MeetBetween rows.now.of rows.now.grammar.now (lists rows.now.above.items) group.now group.now → IsTrue yes) }
+{
+    match group {
+        [row] => {
+            let head = [heads[*row]];
+            let asked = head.as_slice();
+            rows.meet(alloc, marks, round, asked, asked)
+        }
+        _ => rows.meet(alloc, marks, round, group, group),
+    }
 }
 
 /// Whether two rows stand on the two sides of a row, of which one has a class that is no name, and both have a name in

@@ -121,7 +121,7 @@ impl<'a> Rows<'a> {
     }
 
     /// The sides of a row that stands in a part.
-    fn sides(&self, row: usize) -> Option<(usize, usize)>
+    pub(crate) fn sides(&self, row: usize) -> Option<(usize, usize)>
         requires { row < length self.now.standing.items }
         ensures sides { result ≡ row_sides self.now row }
         ensures below { IfSome result (λ s. (s.0 < row) × (s.1 < row)) }

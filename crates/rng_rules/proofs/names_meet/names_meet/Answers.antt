@@ -1,4 +1,4 @@
-use Rattle.std.proofs.Common.{◌≡◌, ◌↔◌, refl, sym, subst, ℕ, ◌<◌, Bool, true, false, IsTrue, IsFalse, List, [], length, map, slice_index_or, Contains, vec_items, arith}
+use Rattle.std.proofs.Common.{◌≡◌, refl, sym, subst, ℕ, ◌<◌, Bool, true, false, IsTrue, IsFalse, [], length, map, slice_index_or, Contains, vec_items, arith}
 use Rattle.std.proofs.lemmas.List.{length-map}
 use Rattle.rng_model.specs.Restrictions.{IsPart}
 use Rattle.rng_model.specs.Table.{Table, grammar_of}
@@ -8,7 +8,6 @@ use Rattle.rng_names.specs.PlainNames.{IsPlain}
 use Rattle.rng_rules.specs.declared.names_meet.NamesOf.{NamesOf}
 use Rattle.rng_rules.specs.NamesMeetLabels.{AreGroups, label_of, plain_name_of}
 use Rattle.rng_rules.specs.NamesMeetReach.{AreBelow, lists}
-use Rattle.rng_rules.specs.NamesMeetRows.{IsLabelled}
 use Rattle.rng_rules.specs.NamesMeetSearch.{Breaks, Meeting}
 use Rattle.rng_rules.specs.NamesMeetSides.{MeetBetween}
 use Rattle.rng_rules.proofs.NamesMeetAnswers.{group_meeting, groups_inside, labelled_inside, none_meet}
@@ -18,9 +17,6 @@ use Rattle.rng_rules.proofs.names_meet.names_meet.Goals as goal
 
 abbrev BrokenIn : NamesOf → Table → Type 0
 BrokenIn of t = (p : tree.Simple ℕ) × IsPart (grammar_of t) p × Breaks of (grammar_of t) p
-
-abbrev Exact : NamesOf → Table → List (ℕ × NameClass) → Type 0
-Exact of t ls = (row : ℕ) (c : NameClass) → Contains ls (row, c) ↔ IsLabelled of t row c
 
 -- of the same
 here_too : (P : NamesOf → Table → Type 0) {o of : NamesOf} {u t : Table} → o ≡ of → u ≡ t → P o u → P of t
@@ -35,14 +31,12 @@ groups_meet-requires-clause-below c =
     let rows = c.in_ok-rows.rows in
     let t = rows.grammar.now in
     let ls = map label_of c.in_ok-labels.labels.items in
-    let e = sym c.in_ok-rows.ensures.of in
-    let f = sym c.in_ok-rows.ensures.grammar in
-    let exact : Exact rows.of t ls = here_too (λ o u. Exact o u ls) e f c.in_ok-labels.ensures in
+    let exact = c.in_ok-labels.ensures in
     let are = subst (λ xs. AreGroups (map label_of xs) (map plain_name_of c.in_ok-groups.groups.names.keys) (lists c.in_ok-groups.groups.rows.items))
     c.as_slice.ensures.value c.in_ok-groups.ensures in
     subst (λ xs. AreBelow (length rows.standing.items) (lists xs)) (sym c.as_slice-2.ensures.value)
     (subst (λ n. AreBelow n (lists c.in_ok-groups.groups.rows.items)) (sym c.in_ok-rows.ensures.rows.long)
-    (groups_inside rows.of t ls (map plain_name_of c.in_ok-groups.groups.names.keys) (lists c.in_ok-groups.groups.rows.items) are exact))
+    (groups_inside rows.of t ls (map plain_name_of c.in_ok-groups.groups.names.keys) (lists c.in_ok-groups.groups.rows.items) are exact.sound))
 
 pub returns-then-branch-clause-only : goal.returns-then-branch-clause-only
 returns-then-branch-clause-only c = λ answer.
@@ -50,9 +44,7 @@ returns-then-branch-clause-only c = λ answer.
     let t = rows.grammar.now in
     let above = lists rows.above.items in
     let ls = map label_of c.in_ok-labels.labels.items in
-    let e = sym c.in_ok-rows.ensures.of in
-    let f = sym c.in_ok-rows.ensures.grammar in
-    let exact : Exact rows.of t ls = here_too (λ o u. Exact o u ls) e f c.in_ok-labels.ensures in
+    let exact = c.in_ok-labels.ensures in
     let groups = lists c.in_ok-groups.groups.rows.items in
     let are = subst (λ xs. AreGroups (map label_of xs) (map plain_name_of c.in_ok-groups.groups.names.keys) groups) c.as_slice.ensures.value c.in_ok-groups.ensures in
     let found = subst (λ xs. (k : ℕ) × MeetBetween rows.of t above (slice_index_or (lists xs) k []) (slice_index_or (lists xs) k [])) c.as_slice-2.ensures.value
@@ -66,9 +58,9 @@ others_meet-requires-clause-below c =
     let rows = c.in_ok-rows.rows in
     let t = rows.grammar.now in
     let ls = map label_of c.in_ok-labels.labels.items in
-    let exact : Exact rows.of t ls = here_too (λ o u. Exact o u ls) (sym c.in_ok-rows.ensures.of) (sym c.in_ok-rows.ensures.grammar) c.in_ok-labels.ensures in
+    let exact = c.in_ok-labels.ensures in
     subst (λ xs. (row : ℕ) (d : NameClass) → Contains (map label_of xs) (row, d) → row < length rows.standing.items) (sym c.as_slice-3.ensures.value)
-    (λ row d h. let l = labelled_inside rows.of t row d ((exact row d).0 h) in omega (arith, l, c.in_ok-rows.ensures.rows.long))
+    (λ row d h. let l = labelled_inside rows.of t row d (exact.sound row d h) in omega (arith, l, c.in_ok-rows.ensures.rows.long))
 
 pub returns-clause-only : goal.returns-clause-only
 returns-clause-only c =
@@ -76,7 +68,7 @@ returns-clause-only c =
     let t = rows.grammar.now in
     let above = lists rows.above.items in
     let ls = map label_of c.in_ok-labels.labels.items in
-    let exact : Exact rows.of t ls = here_too (λ o u. Exact o u ls) (sym c.in_ok-rows.ensures.of) (sym c.in_ok-rows.ensures.grammar) c.in_ok-labels.ensures in
+    let exact = c.in_ok-labels.ensures in
     if_ok c.others_meet.result (λ answer found is.
     here_too BrokenIn c.in_ok-rows.ensures.of c.in_ok-rows.ensures.grammar
     (meeting_breaks t c.in_ok-rows.ensures.rows.valid rows.of above c.in_ok-rows.ensures.rows.is_above ls exact
@@ -88,7 +80,7 @@ returns-clause-all c =
     let t = rows.grammar.now in
     let above = lists rows.above.items in
     let ls = map label_of c.in_ok-labels.labels.items in
-    let exact : Exact rows.of t ls = here_too (λ o u. Exact o u ls) (sym c.in_ok-rows.ensures.of) (sym c.in_ok-rows.ensures.grammar) c.in_ok-labels.ensures in
+    let exact = c.in_ok-labels.ensures in
     let items = c.in_ok-groups.groups.rows.items in
     let groups = lists items in
     let are = subst (λ xs. AreGroups (map label_of xs) (map plain_name_of c.in_ok-groups.groups.names.keys) groups) c.as_slice.ensures.value c.in_ok-groups.ensures in

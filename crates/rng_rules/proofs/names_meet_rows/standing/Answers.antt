@@ -1,36 +1,18 @@
-use Rattle.std.proofs.Common.{rules, ◌≡◌, ◌↔◌, ◌<◌, [], ap, sym, ◌∙◌, subst, ℕ, length, map, slice_get, slice_index_or, Some, All, vec_items, arith}
-use Rattle.std.proofs.lemmas.List.{length-map}
-use Rattle.rng_rules.specs.NamesMeetReach.{AreBelow, IsReachedBy, lists}
-use Rattle.rng_rules.specs.NamesMeetRows.{children, children_at, part_rows}
-use Rattle.rng_rules.proofs.NamesMeetQueues.{All-from_contains, some_at}
-use Rattle.rng_rules.proofs.NamesMeetTables.{children_in_table, parts_in_table}
+use Rattle.std.proofs.Common.{rules, ◌≡◌, ◌↔◌, ◌<◌, sym, subst, ℕ, length, slice_get, Some, All, IfOk}
+use Rattle.rng_rules.specs.NamesMeetReach.{IsReachedBy}
+use Rattle.rng_rules.specs.NamesMeetRows.{children_at, part_rows}
+use Rattle.rng_rules.proofs.NamesMeetTables.{parts_in_table}
 use Rattle.rng_rules.proofs.names_meet_rows.standing.Goals as goal
 
-pub reach-requires-clause-next : goal.reach-requires-clause-next
-reach-requires-clause-next c =
-    let ps = c.args.grammar.now.patterns in
-    let all : lists c.as_slice.result.now ≡ map children ps = ap lists c.as_slice.ensures.value ∙ c.in_ok-below.ensures in
-    let long : length ps ≡ length c.as_slice.result.now = omega (arith, ap length all, length-map c.as_slice.result.now vec_items, length-map ps children) in
-    subst (λ n. AreBelow n (lists c.as_slice.result.now)) long (subst (AreBelow (length ps)) (sym all) (children_in_table ps c.start.ensures.valid.falls))
-
-pub reach-requires-clause-start : goal.reach-requires-clause-start
-reach-requires-clause-start c =
+pub within-requires : goal.within-requires
+within-requires c =
     let t = c.args.grammar.now in
-    let all : lists c.as_slice.result.now ≡ map children t.patterns = ap lists c.as_slice.ensures.value ∙ c.in_ok-below.ensures in
-    let long : length t.patterns ≡ length c.as_slice.result.now = omega (arith, ap length all, length-map c.as_slice.result.now vec_items, length-map t.patterns children) in
-    let parts : c.as_slice-2.result.now ≡ part_rows t = search rules in
-    subst (λ n. All (λ k. k < n) c.as_slice-2.result.now) long (subst (All (λ k. k < length t.patterns)) (sym parts) (parts_in_table t c.start.ensures.valid))
-
-pub reach-requires-clause-round : goal.reach-requires-clause-round
-reach-requires-clause-round c =
-    All-from_contains (λ m. m < 1) c.in_ok-marks.marks.items
-    (λ m h. let i = some_at c.in_ok-marks.marks.items m h in omega (arith, c.in_ok-marks.ensures.none i.0 m i.2))
+    let parts : c.as_slice.result.now ≡ part_rows t = search rules in
+    subst (All (λ k. k < length t.patterns)) (sym parts) (parts_in_table t c.start.ensures.valid)
 
 pub returns-clause-exact : goal.returns-clause-exact
 returns-clause-exact c =
     let t = c.args.grammar.now in
-    let all : lists c.as_slice.result.now ≡ map children t.patterns = ap lists c.as_slice.ensures.value ∙ c.in_ok-below.ensures in
-    let parts : c.as_slice-2.result.now ≡ part_rows t = search rules in
-    subst (λ start. (k : ℕ) → IsReachedBy (children_at t.patterns) start k ↔ (slice_get c.reach.new.marks.items k ≡ Some 1)) parts
-    (subst (λ xs. (k : ℕ) → IsReachedBy (λ j. slice_index_or xs j []) c.as_slice-2.result.now k ↔ (slice_get c.reach.new.marks.items k ≡ Some 1)) all
-    c.in_ok-reach.ensures.marked)
+    let parts : c.as_slice.result.now ≡ part_rows t = search rules in
+    subst (λ start. IfOk c.within.result (λ marks. (k : ℕ) → IsReachedBy (children_at t.patterns) start k ↔ (slice_get marks.items k ≡ Some 1))) parts
+    c.within.ensures.exact
