@@ -1,15 +1,3 @@
-mod Bytes
-mod FirstTimes
-mod TextBasics
-mod TextClasses
-mod TextQuotes
-mod TextScans
-mod TextPieces
-mod TextLongest
-mod TextCuts
-mod Cutting
-mod Decoding
-mod Scalars
 mod Escaping
 mod Encoding
 mod Digits

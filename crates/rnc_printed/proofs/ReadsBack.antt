@@ -9,7 +9,7 @@ use Rattle.rnc_text.specs.Cut.{tokens_at}
 use Rattle.rnc_syntax.specs.Lexeme.{Lexeme}
 use Rattle.rnc_grammar.specs.Parsing.{IsFileTree}
 use Rattle.rnc_printed.specs.Printable.{IsPrintable}
-use Rattle.rnc_printed.specs.Marks.{characters_of_marks, piece_of_mark, MarksAreCut, MarksAreDecoded}
+use Rattle.rnc_text.specs.Marks.{characters_of_marks, piece_of_mark, MarksAreCut, MarksAreDecoded}
 use Rattle.rnc_printed.specs.LinesTree.{lines_tree}
 use Rattle.rnc_printed.specs.ReadBack.{IsReadAs}
 use Rattle.rnc_printed.proofs.MarksText.{text_is}

@@ -17,10 +17,10 @@ use Rattle.rnc_text.specs.Cut.{Token, tokens_at, HasTokens}
 use Rattle.rnc_text.specs.Decoding.{IsDecoded}
 use Rattle.rnc_syntax.specs.Lexeme as grammar
 use Rattle.rng_print.specs.PrintedText.{escaped}
-use Rattle.rnc_printed.specs.Marks.{Mark, space, line_end, word, cname, segment, sign, sign_text, mark_text, text_of_marks, ordinary, characters_of_mark}
-use Rattle.rnc_printed.specs.Marks.{characters_of_marks, piece_of_mark, is_within, IsMark, is_open, is_apart, begins_apart, AreMarks, MarksAreCut}
-use Rattle.rnc_printed.specs.Marks.{MarksAreDecoded}
-use Rattle.rnc_printed.specs.Marks as marks
+use Rattle.rnc_text.specs.Marks.{Mark, space, line_end, word, cname, segment, sign, sign_text, mark_text, text_of_marks, ordinary, characters_of_mark}
+use Rattle.rnc_text.specs.Marks.{characters_of_marks, piece_of_mark, is_within, IsMark, is_open, is_apart, begins_apart, AreParted, MarksAreCut}
+use Rattle.rnc_text.specs.Marks.{MarksAreDecoded}
+use Rattle.rnc_text.specs.Marks as marks
 use Rattle.rnc_printed.specs.MarkLexemes.{word_at, lexemes_from}
 use Rattle.std.proofs.lemmas.Bool.{false≢true}
 use Rattle.rnc_printed.proofs.Escaping.{escaped_back}
@@ -91,7 +91,7 @@ nothing = record { numbers = []; reads = none }
 
 -- ---- they are marks
 
-are_marks : {ms ks : List Mark} → Reads ms ks → AreMarks ks
+are_marks : {ms ks : List Mark} → Reads ms ks → AreParted ks
 are_marks none = tt
 are_marks (one {m} {k} {ms} {ks} s i a r) =
     (i, sym (ap (λ (b : Bool). b || begins_apart ks) (open_same s)) ∙ sym (ap (λ (b : Bool). is_open m || b) (begins_same r)) ∙ a, are_marks r)
