@@ -1,13 +1,17 @@
 #!/usr/bin/env python3
 """Times the reader of documents and the matcher together. It is no part of the gate.
 
-    tools/match_time/run.py [--only WORD] [--times N] [--seconds N] [--built PROGRAM]
+    tools/match_time/run.py [--only WORD] [--times N] [--seconds N] [--built PROGRAM] [--records N] [--jing]
 
 It builds `program.txt` over the crates that it uses in a copy of them (or takes PROGRAM, which was built so before), makes schemas and documents, and
 judges each N times (3 where it is not said), of which the quickest counts. Each line tells the bytes of the document, the milliseconds of a processor,
-the greatest memory, and what the matcher said; what takes longer than so many seconds (20) is given up.
+the greatest memory, and what the matcher said; what takes longer than so many seconds (20) is given up. `--records` says how many records the first
+document has (45,000). `--jing` judges the same documents, as XML, by jing within one running Java machine (packages `jing`, `libjing-java` and a JDK):
+its last column has the milliseconds on the clock of compiling the schema once and the least of 12 judgements; what takes longer than five times so
+many seconds is given up.
 """
 import argparse
+import os
 import pathlib
 import random
 import resource
@@ -40,12 +44,12 @@ def lists(count):
     return ", ".join(parts)
 
 
-def records(draw):
+def records(count, draw):
     schema = ("element doc { element record { attribute id { xsd:integer }, attribute kind { \"new\" | \"open\" | \"held\" }, "
               "element name { text }, element quantity { xsd:integer }, element tags { list { token* } }, element note { text }* }* }")
     rows = (f"(record\nAid {i * 7919}\nAkind {draw.choice(['new', 'open', 'held'])}\n" + element("name", f"-Part number {i}\n")
             + element("quantity", f"-{draw.randrange(-99, 2000)}\n") + element("tags", f"-t{i} t{i + 1}\n")
-            + element("note", "-A note of some words, as notes are.\n") * draw.randrange(3) + ")record\n" for i in range(45_000))
+            + element("note", "-A note of some words, as notes are.\n") * draw.randrange(3) + ")record\n" for i in range(count))
     return schema, root(rows)
 
 
@@ -69,6 +73,47 @@ def nested_repeats(depth):
     return lambda draw: (f"element doc {{ {'(' * depth}element e0 {{ empty }}{')+' * depth} }}", root([element("e0")] * 2_000))
 
 
+def shuffled_stars(count):
+    def workload(draw):
+        members_of = " & ".join(f"element e{i} {{ empty }}*" for i in range(count))
+        lines = (element("row", "".join(element(f"e{draw.randrange(count)}") for _ in range(2 * count))) for _ in range(1_000))
+        return f"element doc {{ element row {{ {members_of} }}* }}", root(lines)
+    return workload
+
+
+def pairs(count):
+    def workload(draw):
+        joined = " & ".join(f"(element a{i} {{ empty }}, element b{i} {{ empty }})" for i in range(count))
+        falling = list(reversed(range(count)))
+        return f"element doc {{ {joined} }}", root([element(f"{letter}{i}") for letter in "ab" for i in falling])
+    return workload
+
+
+def optional_groups(count):
+    def workload(draw):
+        joined = " & ".join(f"(element a{i} {{ empty }}?, element b{i} {{ empty }}*)" for i in range(count))
+        return f"element doc {{ {joined} }}", root([element(f"b{i}") for _ in range(3) for i in reversed(range(count))])
+    return workload
+
+
+def rounds(count):
+    def workload(draw):
+        joined = " & ".join(f"element e{i} {{ empty }}?" for i in range(count))
+        return f"element doc {{ ({joined})+ }}", root([element(f"e{draw.randrange(count)}") for _ in range(1_000)])
+    return workload
+
+
+def optionals(count):
+    return lambda draw: (f"start = element doc {{ {', '.join(['a?'] * count)} }}\na = element a {{ empty }}", root([element("a")] * count))
+
+
+def ambiguous(count):
+    def workload(draw):
+        schema = f"start = element doc {{ (a | b)*, a, {', '.join(['(a | b)'] * count)} }}\na = element a {{ empty }}\nb = element b {{ empty }}"
+        return schema, root([element(draw.choice("ab")) for _ in range(2_000 - count - 1)] + [element("a")] * (count + 1))
+    return workload
+
+
 def any_attributes(draw):
     row = "(row\n" + "".join(f"Aname{i} {i}\n" for i in range(256)) + ")row\n"
     return "element doc { element row { attribute * { text }+ }* }", root([row] * 300)
@@ -80,18 +125,29 @@ def attributes_in_order(draw):
     return f"element doc {{ element row {{ {wanted} }}* }}", root([row] * 1_000)
 
 
+def optional_attributes(draw):
+    wanted = " & ".join(f"attribute x{i} {{ text }}?" for i in range(64))
+    rows = ("(row\n" + "".join(f"Ax{i} {i}\n" for i in draw.sample(range(64), 32)) + ")row\n" for _ in range(1_000))
+    return f"element doc {{ element row {{ {wanted} }}* }}", root(rows)
+
+
 WORKLOADS = [
-    ("records of short elements", records),
     ("a list of 900 members", sequence(900)),
     ("a list of 20,000 members, in lists of 500", sequence(20_000)),
     ("1,000 rows of 4 interleaved members", shuffled(4, 1_000)),
     ("1,000 rows of 64 interleaved members", shuffled(64, 1_000)),
+    ("1,000 rows of 16 interleaved members, each any number of times", shuffled_stars(16)),
+    ("64 interleaved groups of two", pairs(64)),
+    ("64 interleaved groups of two that may be left out", optional_groups(64)),
+    ("rounds of 16 interleaved members that may be left out", rounds(16)),
     ("20,000 children, each one of 10", one_of(10)),
     ("20,000 children, each one of 950", one_of(950)),
     ("300 elements of 256 attributes of any name", any_attributes),
     ("1,000 elements of 64 attributes in falling order", attributes_in_order),
+    ("1,000 elements of half of 64 interleaved attributes", optional_attributes),
+    ("400 members that may be left out, and 400 children", optionals(400)),
+    ("2,000 children, an `a` 13 from the end", ambiguous(12)),
     ("2,000 children, 8 repetitions in one another", nested_repeats(8)),
-    ("2,000 children, 12 repetitions in one another", nested_repeats(12)),
     ("2,000 children, 100 repetitions in one another", nested_repeats(100)),
 ]
 
@@ -128,25 +184,62 @@ def judged(program, folder, document, seconds):
     return said.strip(), 1000 * used, int(memory.split()[-1]) / 1024
 
 
+def as_xml(document):
+    """A document of these workloads as XML: its texts have no markup and no escapes."""
+    written, tag = [], ""
+    for line in document.splitlines():
+        if line[0] == "A":
+            name, value = line[1:].split(" ", 1)
+            tag += f' {name}="{value}"'
+            continue
+        written.append(tag + ">" if tag else "")
+        tag = f"<{line[1:]}" if line[0] == "(" else ""
+        written.append({"(": "", ")": f"</{line[1:]}>", "-": line[1:]}[line[0]])
+    return "".join(written)
+
+
+def jing_classes(folder):
+    """Where Java finds the loop around jing, compiled."""
+    installed = subprocess.run(["dpkg", "-L", "libjing-java"], stdout=subprocess.PIPE, text=True, check=True).stdout.split()
+    jar = next(path for path in installed if path.endswith("/jing.jar"))
+    subprocess.run(["javac", "-cp", jar, "-d", str(folder), str(HERE / "JingLoop.java")], check=True)
+    return os.pathsep.join([str(folder), jar])
+
+
+def by_jing(classes, folder, document, seconds):
+    """The milliseconds that jing takes to compile the schema and, at least, to judge the document, and what it says."""
+    (folder / "document.xml").write_text(as_xml(document), encoding="utf-8")
+    words = ["java", "-Xss512m", "-cp", classes, "JingLoop", str(folder / "s.rnc"), str(folder / "document.xml")]
+    try:
+        return subprocess.run(words, stdout=subprocess.PIPE, stderr=subprocess.DEVNULL, text=True, timeout=5 * seconds).stdout.strip() or "failed"
+    except subprocess.TimeoutExpired:
+        return f"given up after {5 * seconds:.0f} s"
+
+
 def main():
     words = argparse.ArgumentParser(description=__doc__.splitlines()[0])
     words.add_argument("--only", default="")
     words.add_argument("--times", type=int, default=3)
     words.add_argument("--seconds", type=float, default=20)
     words.add_argument("--built", type=pathlib.Path)
+    words.add_argument("--records", type=int, default=45_000)
+    words.add_argument("--jing", action="store_true")
     given = words.parse_args()
     with tempfile.TemporaryDirectory(prefix="match-time-") as room:
         folder = pathlib.Path(room)
         program = given.built.resolve() if given.built else built(folder)
-        print("| Schema and document | Bytes | Milliseconds of a processor | Greatest memory, MiB | Answer |\n|---|---|---|---|---|")
-        for name, workload in WORKLOADS:
+        classes = jing_classes(folder) if given.jing else None
+        print("| Schema and document | Bytes | Milliseconds of a processor | Greatest memory, MiB | Answer |" + (" jing: schema + document |" if classes else ""))
+        print("|---|---|---|---|---|" + ("---|" if classes else ""))
+        for name, workload in [("records of short elements", lambda draw: records(given.records, draw)), *WORKLOADS]:
             if given.only in name:
                 schema, document = workload(random.Random(7))
                 (folder / "s.rnc").write_text(schema, encoding="utf-8")
                 (folder / "document.pyx").write_text(document, encoding="utf-8")
                 said, took, memory = min((judged(program, folder, folder / "document.pyx", given.seconds) for _ in range(given.times)), key=lambda it: it[1])
                 figures = f"{took:.0f} | {memory:.1f}" if took < float("inf") else " | "
-                print(f"| {name} | {len(document.encode()):,} | {figures} | {said} |", flush=True)
+                peer = f" {by_jing(classes, folder, document, given.seconds)} |" if classes else ""
+                print(f"| {name} | {len(document.encode()):,} | {figures} | {said} |{peer}", flush=True)
 
 
 if __name__ == "__main__":

@@ -14,9 +14,9 @@ use Rattle.rnc_printed.specs.PrintedMarks.{marks_of}
 use Rattle.rnc_printed.specs.LinesSyntax as lines
 use Rattle.rnc_printed.specs.LinesTree.{lines_tree}
 use Rattle.std.proofs.lemmas.Bool.{false≢true}
-use Rattle.rnc_printed.proofs.Bytes.{bytes_exact, bytes_itself}
-use Rattle.rnc_printed.proofs.FirstTimes.{AreNew, has_contained, contained_has, has_left, has_right, has_last, and_has_right, and_fresh, fresh_new}
-use Rattle.rnc_printed.proofs.FirstTimes.{all_contained, all_append, all_each}
+use Rattle.rng_print.proofs.Equal.{bytes_exact, bytes_itself}
+use Rattle.rng_print.proofs.Numberings.{AreNew, has_contained, contained_has, has_left, has_right, has_last, and_has_right, and_fresh, fresh_new}
+use Rattle.rng_print.proofs.Numberings.{all_contained, all_append, all_each}
 use Rattle.rnc_printed.proofs.Digits.{item_no_keyword, prefix_apart}
 use Rattle.rnc_printed.proofs.Sentences.{KnowsType, KnowsTypes, KnowsItem, lines_sentence}
 use Rattle.rnc_printed.proofs.Nesting.{Shallow, ShallowItem, lines_nest}

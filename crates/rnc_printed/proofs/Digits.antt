@@ -15,7 +15,7 @@ use Rattle.rng_print.specs.Numbering.{has, place_in}
 use Rattle.rng_print.specs.Same.{same_tree}
 use Rattle.rng_print.specs.PrintedText.{Item, element, pattern, element_in, pattern_in, item_name, prefix_of}
 use Rattle.std.proofs.lemmas.Bool.{false≢true}
-use Rattle.rnc_printed.proofs.Bytes.{bytes_exact, bytes_differ}
+use Rattle.rng_print.proofs.Equal.{bytes_exact, bytes_differ}
 
 abbrev is_digit : ℕ → Bool
 is_digit d = nat_le 0x30 d && nat_le d 0x39

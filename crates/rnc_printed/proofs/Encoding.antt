@@ -9,7 +9,7 @@ use Rattle.std.proofs.lemmas.List.{append-nil}
 use Rattle.std.proofs.lemmas.Str.{encodes-append, encode_ascii}
 use Rattle.rng_model.specs.Characters.{is_xml_char}
 use Rattle.rng_print.specs.PrintedText.{delimiter, with_character, runs_of, escaped}
-use Rattle.rnc_printed.specs.Marks.{is_within}
+use Rattle.rnc_text.specs.Marks.{is_within}
 use Rattle.rnc_text.specs.Tokens.{is_quote}
 use Rattle.std.proofs.lemmas.Bool.{false≢true}
 

@@ -8,7 +8,7 @@ use Rattle.rng_model.specs.Characters.{is_xml_char}
 use Rattle.rnc_text.specs.declared.character.Character.TheVariants.{Ordinary}
 use Rattle.rnc_text.specs.Decoding.{AreDigits, hexadecimal, OpensEscape, Begins, escape, other}
 use Rattle.rng_print.specs.PrintedText.{escaped}
-use Rattle.rnc_printed.specs.Marks.{IsReadBack}
+use Rattle.rnc_text.specs.Marks.{IsReadBack}
 
 no_escape : (c : ℕ) (rest : List ℕ) → c ≢ 0x5C → ¬ (OpensEscape (c ∷ rest))
 no_escape c rest n o = n (let e = o.is in cc)

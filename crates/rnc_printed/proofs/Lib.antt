@@ -1,18 +1,8 @@
-mod Bytes
-mod FirstTimes
-mod TextBasics
-mod TextClasses
-mod TextQuotes
-mod TextScans
-mod TextPieces
-mod TextLongest
-mod TextCuts
-mod Cutting
-mod Decoding
-mod Scalars
 mod Escaping
 mod Encoding
-mod Digits
+pub mod Colons
+pub mod Digits
+pub mod FewItems
 mod MarksText
 mod Spelled
 mod Sentences

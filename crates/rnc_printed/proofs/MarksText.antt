@@ -13,8 +13,8 @@ use Rattle.rng_print.specs.PrintedText.{Item, element, pattern, element_at, item
 use Rattle.rng_print.specs.PrintedText.{more_runs, joined_runs, literal, class_text, classes_text, name_text, type_text, parameter_text, parameters_text}
 use Rattle.rng_print.specs.PrintedText.{datatype_text, reference, connector_text, pattern_text, element_text, item_text, line, namespace_line, item_line, lines}
 use Rattle.rng_print.specs.PrintedText.{text_of}
-use Rattle.rnc_printed.specs.Marks.{Mark, space, line_end, word, cname, segment, sign, mark_text, text_of_marks}
-use Rattle.rnc_printed.specs.Marks as marks
+use Rattle.rnc_text.specs.Marks.{Mark, space, line_end, word, cname, segment, sign, mark_text, text_of_marks}
+use Rattle.rnc_text.specs.Marks as marks
 use Rattle.rnc_printed.specs.PrintedMarks.{run_mark, joined_run_marks, literal_marks, in_parentheses_if, name_mark, class_marks, classes_marks, type_mark}
 use Rattle.rnc_printed.specs.PrintedMarks.{parameter_marks, parameters_marks, datatype_marks, reference_marks, connector_marks, braced_marks, pattern_marks}
 use Rattle.rnc_printed.specs.PrintedMarks.{item_marks, line_marks, namespace_marks, item_line_marks, lines_marks, marks_of}

@@ -12,8 +12,8 @@ use Rattle.rnc_syntax.specs.Lexeme.{Lexeme}
 use Rattle.rnc_syntax.specs.Lexeme as lexeme
 use Rattle.rnc_syntax.specs.Sentence.{is_opening, is_closing, openings, closings, NestsWithin}
 use Rattle.rng_print.specs.PrintedText.{Item, element, pattern, element_at, item_name, prefix_of, is_choice, is_except}
-use Rattle.rnc_printed.specs.Marks.{Mark, space, line_end, word, cname, segment, sign}
-use Rattle.rnc_printed.specs.Marks as marks
+use Rattle.rnc_text.specs.Marks.{Mark, space, line_end, word, cname, segment, sign}
+use Rattle.rnc_text.specs.Marks as marks
 use Rattle.std.specs.Str.{bytes_eq}
 use Rattle.std.proofs.Common.{Option, Some, None}
 use Rattle.std.specs.Prelude.{cond}

@@ -18,11 +18,11 @@ use Rattle.rng_print.specs.Numbering.{has, with_new, and_new}
 use Rattle.rng_print.specs.PrintedText.{Item, element, pattern, element_at, item_name, prefix_of, runs_of, is_choice, is_except, namespace_of, namespaces_in}
 use Rattle.rng_print.specs.PrintedText.{namespaces_among, namespaces_of, namespaces}
 use Rattle.rnc_printed.specs.Printable.{IsText, IsName, HasNames, HaveNames, CanBeNamed, IsPrintableParameter, IsPrintableType, IsPrintableTree, IsPrintable}
-use Rattle.rnc_printed.specs.Marks.{Mark, space, line_end, word, cname, sign, IsMark, is_open, begins_apart}
+use Rattle.rnc_text.specs.Marks.{Mark, space, line_end, word, cname, sign, IsMark, is_open, begins_apart}
 use Rattle.rnc_printed.specs.PrintedMarks.{run_mark, more_run_marks, joined_run_marks, literal_marks, in_parentheses_if, name_mark, class_marks, classes_marks}
 use Rattle.rnc_printed.specs.PrintedMarks.{type_mark, parameter_marks, parameters_marks, datatype_marks, reference_marks, connector_marks, braced_marks}
 use Rattle.rnc_printed.specs.PrintedMarks.{pattern_marks, item_marks, line_marks, namespace_marks, item_line_marks, marks_of}
-use Rattle.rnc_printed.proofs.FirstTimes.{all_append}
+use Rattle.rng_print.proofs.Numberings.{all_append}
 use Rattle.rnc_printed.proofs.Digits.{item_ncname, prefix_ncname, item_bytes, prefix_bytes}
 use Rattle.rnc_printed.proofs.Encoding.{encoded_run, encoded_runs, IsRun, all_runs}
 use Rattle.rnc_printed.proofs.Conditions.{PrintableItem}

@@ -16,7 +16,7 @@ use Rattle.rng_print.specs.PrintedText.{Item, element, pattern, element_at, item
 use Rattle.rnc_printed.specs.Printable.{CanBeNamed}
 use Rattle.rnc_printed.specs.LinesSyntax as lines
 use Rattle.rnc_printed.specs.LinesTree as trees
-use Rattle.rnc_printed.proofs.Bytes.{bytes_itself, bytes_other_way}
+use Rattle.rng_print.proofs.Equal.{bytes_itself, bytes_other_way}
 use Rattle.rnc_printed.proofs.Sentences.{KnowsType, KnowsTypes, KnowsItem}
 
 -- what a scope has for the prefix of a namespace
@@ -232,9 +232,6 @@ record Declared (s : Scope) (ns us : List (List ℕ)) : Type 0 where
   stays : (q : List ℕ) → AllByRecursion (λ u. bytes_eq (prefix_of ns u) q ≡ false) us → scope.namespaces q ≡ s.namespaces q
   known : KnowsAll scope ns us
 
-same_bytes : (w : List ℕ) → bytes_eq w w ≡ true
-same_bytes w = bytes_itself w
-
 apart_other : (ns : List (List ℕ)) (u : List ℕ) (us : List (List ℕ)) → AllByRecursion (Apart ns u) us
     → AllByRecursion (λ v. bytes_eq (prefix_of ns v) (prefix_of ns u) ≡ false) us
 apart_other ns u [] a = tt
@@ -249,7 +246,7 @@ all_declared s ns (u ∷ us) a f =
       is = rw (one_declared s ns u f.0) more.is;
       default = more.default;
       stays = λ q h. more.stays q h.1 ∙ rw h.0 refl;
-      known = (more.stays (prefix_of ns u) (apart_other ns u us a.0) ∙ rw (same_bytes (prefix_of ns u)) refl, more.known);
+      known = (more.stays (prefix_of ns u) (apart_other ns u us a.0) ∙ rw (bytes_itself (prefix_of ns u)) refl, more.known);
     }
 
 -- what is declared for all namespaces serves for some of them

@@ -16,8 +16,8 @@ use Rattle.rnc_grammar.specs.DeclarationRules.{xsd_as_another, xmlns_declared, n
 use Rattle.rnc_grammar.specs.DeclarationRules.{prefixes_of_name, prefixes_of_class, prefixes_of_classes, prefixes_of_type, prefixes_of_pattern}
 use Rattle.rnc_grammar.specs.DeclarationRules.{prefixes_of_components, prefixes_of_body}
 use Rattle.rnc_printed.specs.LinesSyntax as lines
-use Rattle.rnc_printed.proofs.Bytes.{bytes_itself}
-use Rattle.rnc_printed.proofs.FirstTimes.{all_append}
+use Rattle.rng_print.proofs.Equal.{bytes_itself}
+use Rattle.rng_print.proofs.Numberings.{all_append}
 use Rattle.rnc_printed.proofs.Resolving.{Apart, AreApart}
 
 among_all : {A : Type 0} (P : A → Type 0) {x : A} {xs : List A} → Among x xs → AllByRecursion P xs → P x

@@ -26,8 +26,8 @@ use Rattle.rnc_syntax.specs.Grammar.{AreComponents, no_components, and_component
 use Rattle.rnc_syntax.specs.Grammar.{and_declaration, IsBody, grammar_body, IsFile}
 use Rattle.rnc_syntax.specs.Grammar as grammar
 use Rattle.rng_print.specs.PrintedText.{Item, element, pattern, element_at, item_name, prefix_of, runs_of, with_character, delimiter, is_choice, is_except}
-use Rattle.rnc_printed.specs.Marks.{Mark, space, line_end, word, cname, segment, sign}
-use Rattle.rnc_printed.specs.Marks as marks
+use Rattle.rnc_text.specs.Marks.{Mark, space, line_end, word, cname, segment, sign}
+use Rattle.rnc_text.specs.Marks as marks
 use Rattle.rnc_printed.specs.MarkLexemes.{word_at, lexemes_from, place_behind}
 use Rattle.rnc_printed.specs.PrintedMarks.{joined_run_marks, literal_marks, in_parentheses_if, name_mark, class_marks, classes_marks, type_mark}
 use Rattle.rnc_printed.specs.PrintedMarks.{parameter_marks, parameters_marks, datatype_marks, reference_marks, connector_marks, braced_marks, pattern_marks}

@@ -1,6 +1,5 @@
 pub mod Printable
 pub mod LinesTree
-pub mod Marks
 pub mod PrintedMarks
 pub mod MarkLexemes
 pub mod LinesSyntax

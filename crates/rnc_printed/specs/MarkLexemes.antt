@@ -3,7 +3,7 @@ use Rattle.std.specs.Prelude.{ℕ, suc, List, [], ◌∷◌}
 use Rattle.rnc_text.specs.Tokens.{keyword_of, keyword_or_identifier}
 use Rattle.rnc_syntax.specs.Lexeme.{Lexeme, lexeme_at}
 use Rattle.rnc_syntax.specs.Lexeme as lexeme
-use Rattle.rnc_printed.specs.Marks.{Mark, space, line_end, word, cname, ns_name, segment, sign}
+use Rattle.rnc_text.specs.Marks.{Mark, space, line_end, word, cname, ns_name, segment, sign}
 
 -- a word that is the token with this number
 abbrev pub word_at : List ℕ → ℕ → Lexeme

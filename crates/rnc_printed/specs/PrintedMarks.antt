@@ -8,8 +8,8 @@ use Rattle.rng_model.specs.Table.{Grammar}
 use Rattle.rnc_text.specs.declared.token.Sign.TheVariants.{Equal, Comma, Bar, And, Star, Plus, Minus, OpenBrace, CloseBrace, OpenParenthesis, CloseParenthesis}
 use Rattle.rnc_text.specs.declared.token.Sign.TheVariants.{Tilde}
 use Rattle.rng_print.specs.PrintedText.{Item, element, pattern, element_at, item_name, prefix_of, runs_of, is_choice, is_except, namespaces}
-use Rattle.rnc_printed.specs.Marks.{Mark, space, line_end, word, cname, segment, sign}
-use Rattle.rnc_printed.specs.Marks as marks
+use Rattle.rnc_text.specs.Marks.{Mark, space, line_end, word, cname, segment, sign}
+use Rattle.rnc_text.specs.Marks as marks
 
 -- ---- literals
 

@@ -1,16 +1,16 @@
 //! The printed simple form of a schema is read back.
 //!
 //! The text of a simple grammar whose names are NCNames and whose texts are made of Chars breaks no clause of the compact
-//! syntax but maybe that of its size, and its file tree is that of its lines. Definitions, lemmas and one call without a
-//! body, whose contract is the laws.
+//! syntax but maybe that of its size, and its file tree is that of its lines. Definitions, lemmas and one call that does
+//! nothing, whose contract is the laws.
 //!
 //! Order of reading, in `specs/`: `Printable` (which grammars), `LinesTree` (which tree), `ReadBack` (what it is to be read).
-//! The others are for the proofs: a text is made of `Marks`, those of a grammar are `PrintedMarks`, their tokens are
+//! The others are for the proofs: a text is made of marks (`Marks` of `rnc_text`, whose `marks_laws` says that marks which are
+//! parted are cut into their pieces and stand for their characters), those of a grammar are `PrintedMarks`, their tokens are
 //! `MarkLexemes`, and the tree of these, with its prefixes, is `LinesSyntax`.
-//! In `proofs/`: `Cutting`, `Decoding` and `Scalars` (marks that are parted are cut into their pieces and decode to their
-//! characters), `Escaping` and `Encoding` (escapes and runs, in bytes and in Unicode numbers), `MarksText` (the printed text
-//! is that of its marks), `Spelled` and `ReadMarks` (these are marks that are read), `Sentences` (their tokens are a
-//! sentence), `Nesting`, `Resolving` and `Rules` (the declarations), `Conditions`, `ReadsBack`;
+//! In `proofs/`: `Escaping` and `Encoding` (escapes and runs, in bytes and in Unicode numbers), `Colons` and `Digits` (names),
+//! `MarksText` (the printed text is that of its marks), `Spelled` and `ReadMarks` (these are marks that are read), `Sentences`
+//! (their tokens are a sentence), `Nesting`, `Resolving` and `Rules` (the declarations), `Conditions`, `FewItems`, `ReadsBack`;
 //! `Datatypes` (those of the table can be named), `Examples`.
 #![tactic(auto)]
 
@@ -21,6 +21,8 @@ ghost use Rattle.rng_print.specs.PrintedText.{IsPrinted};
 ghost use Rattle.rnc_printed.specs.LinesTree.{lines_tree};
 ghost use Rattle.rnc_printed.specs.Printable.{CanBeNamed, IsPrintable};
 ghost use Rattle.rnc_printed.specs.ReadBack.{IsReadAs};
+
+use rnc_text::marks_laws;
 
 /// The laws of reading back. It does nothing: its contract is what it is for.
 ///
@@ -33,4 +35,6 @@ pub fn reading_back_laws()
     ensures read { (g : Grammar) (text : List ℕ) → IsPrintable g → (p : IsPrinted g text) → length text ≤ 1048576 → IsReadAs text (lines_tree g p.items) }
     // Each datatype of the table can be named.
     ensures named { (library name : List ℕ) → IsKnownType library name → CanBeNamed library name }
-{}
+{
+    marks_laws();
+}
