@@ -6,19 +6,21 @@ use Rattle.std.specs.List.{AllZip}
 use Rattle.std.specs.Option.{option_map}
 use Rattle.std.proofs.lemmas.Option.{same_Some, slice_get-map, slice_get-get_or, slice_get_within}
 use Rattle.std.proofs.lemmas.List.{length-set, length-replicate, map-append, take_more, get_or-set_same}
-use Rattle.std.proofs.lemmas.List.Elements.{All-weaker, All-cons, All-nil, All-take, All-map, All-contains, All-set, All-replicate}
+use Rattle.std.proofs.lemmas.List.Elements.{All-weaker, All-cons, All-head, All-nil, All-take, All-map, All-contains, All-set, All-replicate}
 use Rattle.rng_model.specs.Tree.{Simple}
 use Rattle.rng_model.specs.Document.{Item}
 use Rattle.rng_model.specs.Texts.{is_blank}
 use Rattle.rng_matching.specs.Reading.{Reading}
 use Rattle.rng_matching.specs.Taking.{Takes}
-use Rattle.rng_matching.specs.Derivatives.{is_nullable}
+use Rattle.rng_matching.specs.Derivatives.{is_not_allowed, is_nullable}
+use Rattle.rng_matching.specs.LevelStates as level
 use Rattle.rng_matching.specs.LevelStates.{AreEnded, EndsNow, EndsWith, IsAfterText}
 use Rattle.rng_matching.proofs.LevelStates.{beside_first, contained, nullable_may_end, may_end_with}
+use Rattle.rng_matching.proofs.States.{none_taken}
 use Rattle.rng_matching.proofs.LevelSteps.{none_ended, ended_no_more, ended_more}
 use Rattle.rng_patterns.specs.declared.pattern.PatternNumber.{PatternNumber}
 use Rattle.rng_matcher.specs.Numbers.{IsInside, tree_of, Adds, IsChoiceOf}
-use Rattle.rng_matcher.specs.Levels.{link_of, IsRestWithin, AreEndsWith, LeavesBy, AddsEnded}
+use Rattle.rng_matcher.specs.Levels.{link_of, IsOnlyRest, IsRestWithin, AreEndsWith, LeavesBy, AddsEnded}
 use Rattle.rng_matcher.specs.declared.links.Link.{Link}
 use Rattle.rng_matcher.proofs.Numbers.{longer_same, longer_through, inside_stays, all_inside_stay, trees_stay, map_push}
 use Rattle.rng_matcher.proofs.Linked.{zip_push}
@@ -35,6 +37,20 @@ one_of_two : (p q m : PatternNumber) → Contains (p ∷ q ∷ []) m → (m ≡ 
 one_of_two p q m (zero, lt, e) = inl (sym e)
 one_of_two p q m (suc zero, lt, e) = inr (sym e)
 one_of_two p q m (suc (suc k), lt, e) = absurd (omega (arith, lt))
+
+-- a pattern beside one that is notAllowed is a choice of both
+pub beside_none : (g : Reading) (trees : List (Simple ℕ)) (p q : PatternNumber) → IsInside trees q → is_not_allowed (tree_of trees p) ≡ true →
+    Adds (IsChoiceOf g trees (p ∷ q ∷ [])) trees trees q
+beside_none g trees p q inside none = record {
+  longer = longer_same trees;
+  inside = inside;
+  is = λ ns. (λ t. (q, contained (p ∷ q ∷ []) 1 q refl, t), by ns);
+} where
+  by : (ns : List Item) → ((m : PatternNumber) × Contains (p ∷ q ∷ []) m × Takes g (tree_of trees m) [] ns) → Takes g (tree_of trees q) [] ns
+  by ns (m, in_both, t) = elim (one_of_two p q m in_both) [
+    | inl e ↦ absurd (none_taken g (tree_of trees p) ns none (subst (λ m. Takes g (tree_of trees m) [] ns) e t))
+    | inr e ↦ subst (λ m. Takes g (tree_of trees m) [] ns) e t
+  ]
 
 -- a way out of an alternative that is not good leaves all as it is
 pub leaves_nothing : (g : Reading) (good : List Bool) (trees : List (Simple ℕ)) (l : Link) (before : List PatternNumber) → All (IsInside trees) before →
@@ -108,6 +124,55 @@ no_ends g good around old new none outside a e = record {
 
   nothing : TakesNothing (tree_of new none)
   nothing ns t = let m = (a.is ns).0 t in let lt = m.1.1 in omega (arith, lt)
+
+-- the only way out, from a good alternative into the only one around
+
+only_one : {A : Type 0} (x m : A) → Contains (x ∷ []) m → x ≡ m
+only_one x m (zero, lt, e) = e
+only_one x m (suc k, lt, e) = absurd (omega (arith, lt))
+
+at_only : {A : Type 0} (x r : A) (i : ℕ) → slice_get (x ∷ []) i ≡ Some r → (i ≡ 0) × (x ≡ r)
+at_only x r zero e = (refl, same_Some _ _ e)
+at_only x r (suc i) e = absurd (cc)
+
+module _ (g : Reading) (good : List Bool) (trees : List (Simple ℕ)) (l : Link) (is_good : slice_get good l.inner ≡ Some true)
+    (within : IsRestWithin trees 1 l) where
+  abbrev left : Simple ℕ
+  left = tree_of trees l.rest
+
+  first : l.outer ≡ 0
+  first = let lt = within.0 in omega (arith, lt)
+
+  only_to : (k : level.Link) (ns : List Item) → Contains (link_of trees l ∷ []) k → slice_get good k.inner ≡ Some true → Takes g k.rest [] ns
+      → (r : Simple ℕ) × (slice_get (left ∷ []) k.outer ≡ Some r) × Takes g r [] ns
+  only_to k ns c is d =
+      let e = only_one (link_of trees l) k c in
+      (left, ap (λ k. slice_get (left ∷ []) k.outer) (sym e) ∙ ap (slice_get (left ∷ [])) first, subst (λ k. Takes g k.rest [] ns) (sym e) d)
+
+  only_back : (i : ℕ) (r : Simple ℕ) (ns : List Item) → slice_get (left ∷ []) i ≡ Some r → Takes g r [] ns
+      → (k : level.Link) × Contains (link_of trees l ∷ []) k × (k.outer ≡ i) × (slice_get good k.inner ≡ Some true) × Takes g k.rest [] ns
+  only_back i r ns at d =
+      let h = at_only left r i at in
+      (link_of trees l, contained (link_of trees l ∷ []) 0 (link_of trees l) refl, first ∙ sym h.0, is_good, subst (λ r. Takes g r [] ns) (sym h.1) d)
+
+  only_ends : AddsEnded g good 1 trees trees (l ∷ []) (l.rest ∷ [])
+  only_ends = record {
+    longer = longer_same trees;
+    inside = All-cons (IsInside trees) l.rest [] within.1 (All-nil (IsInside trees));
+    count = refl;
+    ended = record { to = only_to; back = only_back };
+  }
+
+pub only_ended : (g : Reading) (good : List Bool) (around : ℕ) (trees : List (Simple ℕ)) (links : List Link) (rest : PatternNumber)
+    (outside : List PatternNumber) → IsOnlyRest good links around rest → All (IsRestWithin trees around) links → outside ≡ rest ∷ []
+    → AddsEnded g good around trees trees links outside
+only_ended g good around trees links rest outside o within is =
+    let all = subst (λ ls. All (IsRestWithin trees 1) ls) o.only (subst (λ n. All (IsRestWithin trees n) links) o.one within) in
+    let ends = only_ends g good trees o.link o.may_end (All-head (IsRestWithin trees 1) o.link [] all) in
+    let left : o.link.rest ∷ [] ≡ outside = ap (λ n. n ∷ []) (sym o.leaves) ∙ sym is in
+    subst (AddsEnded g good around trees trees links) left
+    (subst (λ ls. AddsEnded g good around trees trees ls (o.link.rest ∷ [])) (sym o.only)
+    (subst (λ n. AddsEnded g good n trees trees (o.link ∷ []) (o.link.rest ∷ [])) (sym o.one) ends))
 
 -- in a loop over the ways out
 pub ends_at : (g h : Reading) (good : List Bool) (around : ℕ) (old base new : List (Simple ℕ)) (links : List Link) (i : ℕ) (d : Link)

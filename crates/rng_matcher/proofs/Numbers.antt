@@ -1,9 +1,9 @@
 -- Numbers of a table that grows.
-use Rattle.std.proofs.Common.{◌≡◌, ℕ, ◌<◌, ◌+◌, List, [], ◌∷◌, ◌++◌, length, map, take, refl, sym, ap, ◌∙◌, subst, All, arith, slice_index_or}
-use Rattle.std.proofs.Common.{append_assoc, Result, Ok, Err, IfOk}
-use Rattle.std.proofs.lemmas.List.{length-append, get_or_append_left, take_more}
+use Rattle.std.proofs.Common.{◌≡◌, ℕ, ◌<◌, ◌+◌, List, [], ◌∷◌, ◌++◌, length, map, take, refl, sym, ap, ◌∙◌, subst, All, arith, slice_index_or, slice_set, drop}
+use Rattle.std.proofs.Common.{append_assoc, Result, Ok, Err, IfOk, OnOk}
+use Rattle.std.proofs.lemmas.List.{length-append, length-set, get_or_append_left, take_at, take_more}
 use Rattle.std.proofs.lemmas.List.Elements.{All-weaker, All-take, All-push, AllZip-push, All-head, All-tail, All-nil, All-cons}
-use Rattle.std.specs.List.{AllZip}
+use Rattle.std.specs.List.{AllZip, refill}
 use Rattle.rng_model.specs.Tree.{Simple, s_not_allowed}
 use Rattle.rng_matching.specs.Reading.{Reading}
 use Rattle.rng_matching.specs.Restricted.{IsRestricted}
@@ -13,6 +13,16 @@ use Rattle.rng_matcher.specs.Numbers.{Longer, IsInside, tree_of, Adds, AddsEach}
 pub ok_weaker : {A E : Type 0} (r : Result A E) (P Q : A → Type 0) → ((x : A) → P x → Q x) → IfOk r P → IfOk r Q
 ok_weaker (Ok x) P Q f h = f x h
 ok_weaker (Err e) P Q f h = tt
+
+pub on_ok_weaker : {A E : Type 0} (r : Result A E) (P Q : Type 0) → (P → Q) → OnOk r P → OnOk r Q
+on_ok_weaker (Ok x) P Q f h = f h
+on_ok_weaker (Err e) P Q f h = tt
+
+-- an item that is set through a loan of all
+pub set_lent : {A : Type 0} (xs lent : List A) (i : ℕ) (y : A) → lent ≡ xs → refill (length xs) xs (slice_set lent i y) ≡ slice_set xs i y
+set_lent xs lent i y same =
+    take_at (slice_set lent i y) (drop (length (slice_set lent i y)) xs) (length xs) (length-set lent i y ∙ ap length same)
+    ∙ ap (λ zs. slice_set zs i y) same
 
 pub append_nothing : {A : Type 0} (xs : List A) → xs ++ [] ≡ xs
 append_nothing [] = refl

@@ -52,6 +52,14 @@ pub record AddsEnded (g : Reading) (good : List Bool) (around : ℕ) (old new : 
 abbrev pub IsRestWithin : List (Simple ℕ) → ℕ → Link → Type 0
 IsRestWithin trees outer l = (l.outer < outer) × IsInside trees l.rest
 
+-- the rest is that of the only way out, which leads from a good alternative into the only one around
+pub record IsOnlyRest (good : List Bool) (links : List Link) (around : ℕ) (rest : PatternNumber) : Type 0 where
+  pub link : Link
+  pub only : links ≡ link ∷ []
+  pub one : around ≡ 1
+  pub may_end : slice_get good link.inner ≡ Some true
+  pub leaves : rest ≡ link.rest
+
 -- of the alternatives around an element the one that a link leads to takes what the rest takes too, where the link leads from a good one
 pub record LeavesBy (g : Reading) (good : List Bool) (old new : List (Simple ℕ)) (l : Link) (before after : List PatternNumber) : Type 0 where
   pub longer : Longer old new

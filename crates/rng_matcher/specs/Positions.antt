@@ -1,5 +1,5 @@
 -- What a matcher knows between two events.
-use Rattle.std.specs.Prelude.{◌≡◌, ◌⊎◌, ⊤, ℕ, List, [], ◌∷◌, ◌++◌, length, All}
+use Rattle.std.specs.Prelude.{◌≡◌, ◌⊎◌, ⊤, ℕ, List, [], ◌∷◌, ◌++◌, length, All, Bool, true, false}
 use Rattle.rng_model.specs.Tree.{Simple}
 use Rattle.rng_model.specs.PyxTrees.{Event, EventKind}
 use Rattle.rng_matching.specs.Reading.{Reading}
@@ -46,6 +46,11 @@ pub record HasCome (g : Reading) (trees : List (Simple ℕ)) (p : Position) (lin
   pub stands : StandsFor g matcher (kinds es)
   pub known : All (λ e. KnowsName g.grammar e.kind) es
   pub last : IsLastLine es line
+
+-- what is known of a document where all went well before, and after the event of this line may or may not go well still
+abbrev pub progress_at : Bool → Position → ℕ → Progress
+progress_at true p line = progress.Going p line
+progress_at false p line = progress.Failed line
 
 abbrev pub IsProgressInside : List (Simple ℕ) → Progress → Type 0
 IsProgressInside trees (progress.Going p line) = IsPositionInside trees p

@@ -1,5 +1,5 @@
 // The end of an element, with what stood in it.
-ghost use Rattle.std.specs.Prelude.{◌≡◌, ℕ, List, IfOk, OnOk, length};
+ghost use Rattle.std.specs.Prelude.{◌≡◌, ℕ, List, OnOk, length};
 ghost use Rattle.rng_matching.specs.LevelStates.{EndsNow, EndsWith};
 ghost use Rattle.rng_matcher.specs.States.{AddsState, EndsIf, IsStateInside, state_of};
 ghost use Rattle.rng_matcher.specs.Strings.{IsHeld, IsHeldInside};
@@ -11,35 +11,35 @@ use crate::state::{State, close};
 use rng_model::OutOfMemory;
 use std::alloc::Global;
 
-/// The state after the end of an element that holds an element.
+/// Takes the end of an element that holds an element.
 pub fn after_elements<D: Derivatives>(
     derivatives: &mut D,
     alloc: Global,
-    state: State,
-) -> Result<State, OutOfMemory>
-    requires { IsStateInside (D.trees derivatives.old) state }
+    state: &mut State,
+) -> Result<(), OutOfMemory>
+    requires { IsStateInside (D.trees derivatives.old) state.old }
     ensures reading { OnOk result (D.reading derivatives.new ≡ D.reading derivatives.old) }
-    ensures ended { IfOk result (AddsState (EndsIf (D.reading derivatives.old) (EndsNow (D.reading derivatives.old)) (state_of (D.trees derivatives.old) state))
-        (D.trees derivatives.old) (D.trees derivatives.new)) }
+    ensures ended { OnOk result (AddsState (EndsIf (D.reading derivatives.old) (EndsNow (D.reading derivatives.old))
+        (state_of (D.trees derivatives.old) state.old)) (D.trees derivatives.old) (D.trees derivatives.new) state.new) }
 {
     let good = which_end(derivatives, alloc, state.now.as_slice())?;
     close(derivatives, alloc, state, good.as_slice())
 }
 
-/// The state after the end of an element that holds no element: one with a string alone, or with nothing, which counts as
-/// an empty string (RELAX NG Specification, section 6.2.7).
+/// Takes the end of an element that holds no element: one with a string alone, or with nothing, which counts as an empty
+/// string (RELAX NG Specification, section 6.2.7).
 pub fn after_lone_string<D: Derivatives>(
     derivatives: &mut D,
     alloc: Global,
-    state: State,
+    state: &mut State,
     string: Option<Held>,
-) -> Result<State, OutOfMemory>
-    requires state { IsStateInside (D.trees derivatives.old) state }
-    requires string { IsHeldInside (D.trees derivatives.old) (length state.now.items) string }
+) -> Result<(), OutOfMemory>
+    requires state { IsStateInside (D.trees derivatives.old) state.old }
+    requires string { IsHeldInside (D.trees derivatives.old) (length state.old.now.items) string }
     ensures reading { OnOk result (D.reading derivatives.new ≡ D.reading derivatives.old) }
-    ensures ended { IfOk result (AddsState (λ n. (s : List ℕ) → IsHeld (D.reading derivatives.old) (D.trees derivatives.old) state.now.items string s
-        → EndsIf (D.reading derivatives.old) (EndsWith (D.reading derivatives.old) s) (state_of (D.trees derivatives.old) state) n)
-        (D.trees derivatives.old) (D.trees derivatives.new)) }
+    ensures ended { OnOk result (AddsState (λ n. (s : List ℕ) → IsHeld (D.reading derivatives.old) (D.trees derivatives.old) state.old.now.items string s
+        → EndsIf (D.reading derivatives.old) (EndsWith (D.reading derivatives.old) s) (state_of (D.trees derivatives.old) state.old) n)
+        (D.trees derivatives.old) (D.trees derivatives.new) state.new) }
 {
     let held = held_or_empty(derivatives, alloc, state.now.as_slice(), string)?;
     let good = which_end_with(

@@ -7,6 +7,7 @@ ghost use Rattle.rng_matching.specs.LevelStates.{IsAfterTag, IsAfterText};
 ghost use Rattle.rng_matching.specs.Reading.{Reading};
 ghost use Rattle.rng_matcher.specs.Numbers.{Adds, AddsStarts, AreRenewed, IsChoiceOf, IsInside, tree_of};
 
+use crate::lists::Ways;
 use rng_model::{Attr, Name, OutOfMemory};
 use rng_patterns::PatternNumber;
 use std::alloc::Global;
@@ -16,6 +17,16 @@ use std::alloc::Global;
 pub struct Way {
     pub body: PatternNumber,
     pub rest: PatternNumber,
+}
+
+/// The way from the first pattern of a table to itself, which stands for none.
+impl Default for Way {
+    fn default() -> Self {
+        Way {
+            body: PatternNumber(0),
+            rest: PatternNumber(0),
+        }
+    }
 }
 
 /// Patterns by number, and what is left of them after an item, for a grammar that obeys the restrictions.
@@ -79,7 +90,7 @@ pub trait Derivatives {
         alloc: Global,
         pattern: PatternNumber,
         name: &Name,
-    ) -> Result<Vec<Way>, OutOfMemory>
+    ) -> Result<Ways, OutOfMemory>
         requires { IsInside (trees self.old) pattern }
         ensures reading { OnOk result (reading self.new ≡ reading self.old) }
         ensures starts { IfOk result (λ ways. AddsStarts (reading self.old) (name_of name.now) (trees self.old) (trees self.new)

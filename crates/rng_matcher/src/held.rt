@@ -6,6 +6,7 @@ ghost use Rattle.rng_matcher.specs.Strings.{AddsHeld, IsHeld, IsHeldInside};
 
 use crate::derivatives::Derivatives;
 use crate::levels::after_string;
+use crate::lists::Numbers;
 use rng_model::OutOfMemory;
 use rng_patterns::PatternNumber;
 use std::alloc::Global;
@@ -14,7 +15,7 @@ use std::alloc::Global;
 #[derive(Drop)]
 pub struct Held {
     pub blank: bool,
-    pub after: Vec<PatternNumber>,
+    pub after: Numbers,
 }
 
 /// Whether a text is nothing but spaces, tabs and line ends.

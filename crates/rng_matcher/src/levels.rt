@@ -5,8 +5,10 @@ ghost use Rattle.rng_matching.specs.LevelStates.{IsAfterTag, IsAfterText};
 ghost use Rattle.rng_matcher.specs.Numbers.{AddsEach, IsInside};
 
 use crate::derivatives::Derivatives;
+use crate::lists::Numbers;
 use rng_model::{Attr, OutOfMemory};
 use rng_patterns::PatternNumber;
+use smallvec::SmallVec;
 use std::alloc::Global;
 
 /// What is left of each body after the attributes of a tag.
@@ -15,13 +17,13 @@ pub fn entered<D: Derivatives>(
     alloc: Global,
     bodies: &[PatternNumber],
     attrs: &[Attr],
-) -> Result<Vec<PatternNumber>, OutOfMemory>
+) -> Result<Numbers, OutOfMemory>
     requires { All (IsInside (D.trees derivatives.old)) bodies.now }
     ensures reading { OnOk result (D.reading derivatives.new ≡ D.reading derivatives.old) }
     ensures entered { IfOk result (λ all. AddsEach (IsAfterTag (D.reading derivatives.old) (map attribute_of attrs.now))
         (D.trees derivatives.old) (D.trees derivatives.new) bodies.now all.items) }
 {
-    let mut entered = Vec::new(alloc);
+    let mut entered = SmallVec::new(alloc);
     'bodies: for body in bodies {
         entered.push(derivatives.after_tag(alloc, *body, attrs)?)?;
     }
@@ -34,13 +36,13 @@ pub fn after_string<D: Derivatives>(
     alloc: Global,
     patterns: &[PatternNumber],
     text: &str,
-) -> Result<Vec<PatternNumber>, OutOfMemory>
+) -> Result<Numbers, OutOfMemory>
     requires { All (IsInside (D.trees derivatives.old)) patterns.now }
     ensures reading { OnOk result (D.reading derivatives.new ≡ D.reading derivatives.old) }
     ensures after { IfOk result (λ all. AddsEach (IsAfterText (D.reading derivatives.old) text.now)
         (D.trees derivatives.old) (D.trees derivatives.new) patterns.now all.items) }
 {
-    let mut after = Vec::new(alloc);
+    let mut after = SmallVec::new(alloc);
     'patterns: for pattern in patterns {
         after.push(derivatives.after_text(alloc, *pattern, text)?)?;
     }

@@ -11,6 +11,7 @@ mod ends;
 mod held;
 mod levels;
 mod links;
+mod lists;
 mod matcher;
 mod outcome;
 mod position;
@@ -19,5 +20,6 @@ mod renewing;
 mod state;
 
 pub use derivatives::{Derivatives, Way};
+pub use lists::Ways;
 pub use matcher::Matcher;
 pub use outcome::Outcome;

@@ -5,8 +5,10 @@ ghost use Rattle.rng_matcher.specs.Levels.{AddsLinks, AddsOpened};
 ghost use Rattle.rng_matcher.specs.Numbers.{IsInside};
 
 use crate::derivatives::{Derivatives, Way};
+use crate::lists::{Links, Numbers};
 use rng_model::{Name, OutOfMemory};
 use rng_patterns::PatternNumber;
+use smallvec::SmallVec;
 use std::alloc::Global;
 
 /// A way out of an element: once the alternative at the place `inner` ends, the one around it at the place `outer` goes on
@@ -18,20 +20,31 @@ pub struct Link {
     pub rest: PatternNumber,
 }
 
+/// The way out with the first pattern of a table, which stands for none.
+impl Default for Link {
+    fn default() -> Self {
+        Link {
+            inner: 0,
+            outer: 0,
+            rest: PatternNumber(0),
+        }
+    }
+}
+
 /// The bodies of the elements that a start may begin, each once, and the ways out of them.
 #[derive(Drop)]
 pub struct Opened {
-    pub bodies: Vec<PatternNumber>,
-    pub links: Vec<Link>,
+    pub bodies: Numbers,
+    pub links: Links,
 }
 
 /// The place of a body among others; it is added where it is not there.
-fn place_of(bodies: &mut Vec<PatternNumber>, body: PatternNumber) -> Result<usize, OutOfMemory>
+fn place_of(bodies: &mut Numbers, body: PatternNumber) -> Result<usize, OutOfMemory>
     ensures found { IfOk result (λ i. slice_get bodies.new.items i ≡ Some body) }
     ensures others { OnOk result ((bodies.new.items ≡ bodies.old.items) ⊎ (bodies.new.items ≡ bodies.old.items ++ body ∷ [])) }
 {
     let place = bodies.len();
-    for (known, other) in bodies.iter().enumerate() {
+    for (known, other) in bodies.as_slice().iter().enumerate() {
         if *other == body {
             return Ok(known);
         }
@@ -42,8 +55,8 @@ fn place_of(bodies: &mut Vec<PatternNumber>, body: PatternNumber) -> Result<usiz
 
 /// Adds the bodies of ways, and links for them to the alternative at a place.
 fn add_links(
-    bodies: &mut Vec<PatternNumber>,
-    links: &mut Vec<Link>,
+    bodies: &mut Numbers,
+    links: &mut Links,
     outer: usize,
     ways: &[Way],
 ) -> Result<(), OutOfMemory>
@@ -72,8 +85,8 @@ pub fn started<D: Derivatives>(
     ensures opened { IfOk result (λ o. AddsOpened (D.reading derivatives.old) (name_of name.now) (D.trees derivatives.old) (D.trees derivatives.new)
         now.now o.bodies.items o.links.items) }
 {
-    let mut bodies = Vec::new(alloc);
-    let mut links = Vec::new(alloc);
+    let mut bodies = SmallVec::new(alloc);
+    let mut links = SmallVec::new(alloc);
     'alternatives: for (outer, pattern) in now.iter().enumerate() {
         let ways = derivatives.starts(alloc, *pattern, name)?;
         add_links(&mut bodies, &mut links, outer, ways.as_slice())?;

@@ -13,13 +13,13 @@ use crate::derivatives::Derivatives;
 use crate::ends::some_end;
 use crate::outcome::Outcome;
 use crate::position::Position;
-use crate::progress::{Progress, progress_after};
+use crate::progress::{Progress, take_event};
 use crate::state::State;
 use rng_model::{Event, Events, OutOfMemory};
 use rng_patterns::PatternNumber;
+use smallvec::SmallVec;
 use std::alloc::Global;
 use std::marker::Model;
-use std::mem;
 
 /// A matcher: it takes the events of a document one by one, and tells whether the document is valid.
 ///
@@ -51,7 +51,7 @@ impl<D: Derivatives + Drop> Matcher<D> {
         ensures reading { IfOk result (λ m. D.reading m.0 ≡ D.reading derivatives) }
         ensures stands { IfOk result (λ m. IsKnown (D.reading m.0) (D.trees m.0) m.1 []) }
     {
-        let now = vec![in alloc; start]?;
+        let now = SmallVec::from_slice(alloc, &[start])?;
         let state = State {
             now,
             levels: Vec::new(alloc),
@@ -101,9 +101,12 @@ impl<D: Derivatives + Drop> Matcher<D> {
         ensures lost { OnErr result (IsLost self.new.1) }
         ensures again { IsLost self.old.1 → IsErr result }
     {
-        let progress = mem::replace(&mut self.progress, Progress::Lost);
-        self.progress = progress_after(&mut self.derivatives, self.alloc, progress, event)?;
-        Ok(())
+        let taken = take_event(&mut self.derivatives, self.alloc, &mut self.progress, event);
+        if taken.is_ok() {
+            return Ok(());
+        }
+        self.progress = Progress::Lost;
+        Err(OutOfMemory)
     }
 }
 

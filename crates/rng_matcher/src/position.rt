@@ -1,5 +1,5 @@
 // What a matcher keeps between two events.
-ghost use Rattle.std.specs.Prelude.{◌≡◌, ℕ, List, IfOk, OnOk, map};
+ghost use Rattle.std.specs.Prelude.{◌≡◌, ℕ, List, None, OnOk, map};
 ghost use Rattle.rng_model.specs.PyxTrees as trees;
 ghost use Rattle.rng_model.specs.Tree.{Simple};
 ghost use Rattle.rng_model.specs.View.{attribute_of, name_of};
@@ -24,86 +24,77 @@ pub struct Position {
     pub held: Option<Held>,
 }
 
-/// The state once the held string has turned out to stand beside an element: a blank one is nothing there (RELAX NG
+/// Lets the held string go, once it has turned out to stand beside an element: a blank one is nothing there (RELAX NG
 /// Specification, section 6.2.7).
-fn settled(position: Position) -> State
-    ensures inside { (trees : List (Simple ℕ)) → IsPositionInside trees position → IsStateInside trees result }
-    ensures settles { (g : Reading) (trees : List (Simple ℕ)) (m : LevelMatcher) → IsPositionOf g trees position m
-        → SettlesLevels g m.held m.state (state_of trees result) }
+fn settle(position: &mut Position)
+    ensures inside { (trees : List (Simple ℕ)) → IsPositionInside trees position.old → IsStateInside trees position.new.state }
+    ensures settles { (g : Reading) (trees : List (Simple ℕ)) (m : LevelMatcher) → IsPositionOf g trees position.old m
+        → SettlesLevels g m.held m.state (state_of trees position.new.state) }
+    ensures begun { position.new.has_begun ≡ position.old.has_begun }
+    ensures held { position.new.held ≡ None }
 {
-    let Position { state, held, .. } = position;
-    let Some(Held { blank, after }) = held else {
-        return state;
+    let Some(Held { blank, after }) = position.held.take() else {
+        return;
     };
     if blank {
-        return state;
+        return;
     }
-    State {
-        now: after,
-        levels: state.levels,
-    }
+    position.state.now = after;
 }
 
-/// The position after a start tag.
+/// Takes a start tag.
 pub fn after_start<D: Derivatives>(
     derivatives: &mut D,
     alloc: Global,
-    position: Position,
+    position: &mut Position,
     name: &Name,
     attrs: &[Attr],
-) -> Result<Position, OutOfMemory>
-    requires { IsPositionInside (D.trees derivatives.old) position }
+) -> Result<(), OutOfMemory>
+    requires { IsPositionInside (D.trees derivatives.old) position.old }
     ensures reading { OnOk result (D.reading derivatives.new ≡ D.reading derivatives.old) }
-    ensures step { IfOk result (λ q. AddsStep (D.reading derivatives.old) (trees.a_start (name_of name.now) (map attribute_of attrs.now))
-        (D.trees derivatives.old) (D.trees derivatives.new) position q) }
+    ensures step { OnOk result (AddsStep (D.reading derivatives.old) (trees.a_start (name_of name.now) (map attribute_of attrs.now))
+        (D.trees derivatives.old) (D.trees derivatives.new) position.old position.new) }
 {
-    let state = enter(derivatives, alloc, settled(position), name, attrs)?;
-    Ok(Position {
-        state,
-        has_begun: false,
-        held: None,
-    })
+    settle(position);
+    enter(derivatives, alloc, &mut position.state, name, attrs)?;
+    position.has_begun = false;
+    Ok(())
 }
 
-/// The position after a string.
+/// Takes a string.
 pub fn after_text<D: Derivatives>(
     derivatives: &mut D,
     alloc: Global,
-    position: Position,
+    position: &mut Position,
     text: &str,
-) -> Result<Position, OutOfMemory>
-    requires { IsPositionInside (D.trees derivatives.old) position }
+) -> Result<(), OutOfMemory>
+    requires { IsPositionInside (D.trees derivatives.old) position.old }
     ensures reading { OnOk result (D.reading derivatives.new ≡ D.reading derivatives.old) }
-    ensures step { IfOk result (λ q. AddsStep (D.reading derivatives.old) (trees.a_string text.now)
-        (D.trees derivatives.old) (D.trees derivatives.new) position q) }
+    ensures step { OnOk result (AddsStep (D.reading derivatives.old) (trees.a_string text.now)
+        (D.trees derivatives.old) (D.trees derivatives.new) position.old position.new) }
 {
     let held = hold(derivatives, alloc, position.state.now.as_slice(), text)?;
-    Ok(Position {
-        state: position.state,
-        has_begun: position.has_begun,
-        held: Some(held),
-    })
+    position.held = Some(held);
+    Ok(())
 }
 
-/// The position after an end tag.
+/// Takes an end tag.
 pub fn after_end<D: Derivatives>(
     derivatives: &mut D,
     alloc: Global,
-    position: Position,
-) -> Result<Position, OutOfMemory>
-    requires { IsPositionInside (D.trees derivatives.old) position }
+    position: &mut Position,
+) -> Result<(), OutOfMemory>
+    requires { IsPositionInside (D.trees derivatives.old) position.old }
     ensures reading { OnOk result (D.reading derivatives.new ≡ D.reading derivatives.old) }
-    ensures step { IfOk result (λ q. AddsStep (D.reading derivatives.old) trees.an_end
-        (D.trees derivatives.old) (D.trees derivatives.new) position q) }
+    ensures step { OnOk result (AddsStep (D.reading derivatives.old) trees.an_end
+        (D.trees derivatives.old) (D.trees derivatives.new) position.old position.new) }
 {
-    let state = if position.has_begun {
-        after_elements(derivatives, alloc, settled(position))?
-    } else {
-        after_lone_string(derivatives, alloc, position.state, position.held)?
-    };
-    Ok(Position {
-        state,
-        has_begun: true,
-        held: None,
-    })
+    if position.has_begun {
+        settle(position);
+        return after_elements(derivatives, alloc, &mut position.state);
+    }
+    let string = position.held.take();
+    after_lone_string(derivatives, alloc, &mut position.state, string)?;
+    position.has_begun = true;
+    Ok(())
 }

@@ -5,11 +5,11 @@ ghost use Rattle.rng_model.specs.EventView.{event_of, kind_of};
 ghost use Rattle.rng_model.specs.PyxTrees as trees;
 ghost use Rattle.rng_matching.specs.Derivatives.{is_not_allowed};
 ghost use Rattle.rng_matcher.specs.Numbers.{IsInside, tree_of};
-ghost use Rattle.rng_matcher.specs.Positions.{AddsProgress, AddsStep, HasCome, IsKnown, IsLost, IsPositionInside, IsProgressInside};
+ghost use Rattle.rng_matcher.specs.Positions.{AddsProgress, AddsStep, HasCome, IsKnown, IsLost, IsPositionInside, IsProgressInside, progress_at};
 
 use crate::derivatives::Derivatives;
 use crate::position::{Position, after_end, after_start, after_text};
-use crate::renewing::renewed;
+use crate::renewing::renew;
 use rng_model::{Event, EventKind, OutOfMemory};
 use rng_patterns::PatternNumber;
 use std::alloc::Global;
@@ -38,17 +38,17 @@ fn is_hopeless<D: Derivatives>(derivatives: &D, now: &[PatternNumber]) -> bool
     true
 }
 
-/// The position after an event.
+/// Takes an event.
 fn step<D: Derivatives>(
     derivatives: &mut D,
     alloc: Global,
-    position: Position,
+    position: &mut Position,
     kind: EventKind<'_>,
-) -> Result<Position, OutOfMemory>
-    requires { IsPositionInside (D.trees derivatives.old) position }
+) -> Result<(), OutOfMemory>
+    requires { IsPositionInside (D.trees derivatives.old) position.old }
     ensures reading { OnOk result (D.reading derivatives.new ≡ D.reading derivatives.old) }
-    ensures step { IfOk result (λ q. AddsStep (D.reading derivatives.old) (kind_of kind.entry)
-        (D.trees derivatives.old) (D.trees derivatives.new) position q) }
+    ensures step { OnOk result (AddsStep (D.reading derivatives.old) (kind_of kind.entry)
+        (D.trees derivatives.old) (D.trees derivatives.new) position.old position.new) }
 {
     match kind {
         EventKind::Start { name, attrs } => after_start(derivatives, alloc, position, name, attrs),
@@ -57,45 +57,50 @@ fn step<D: Derivatives>(
     }
 }
 
-/// What is known after one more event, where all went well before.
+/// Takes one more event, where all went well before; answers whether it may go well still.
 fn go_on<D: Derivatives>(
     derivatives: &mut D,
     alloc: Global,
-    position: Position,
+    position: &mut Position,
     event: Event<'_>,
-) -> Result<Progress, OutOfMemory>
-    requires { IsPositionInside (D.trees derivatives.old) position }
+) -> Result<bool, OutOfMemory>
+    requires { IsPositionInside (D.trees derivatives.old) position.old }
     ensures reading { OnOk result (D.reading derivatives.new ≡ D.reading derivatives.old) }
-    ensures progress { IfOk result (λ p. AddsProgress (D.reading derivatives.old) (event_of event.entry)
-        (λ events. (line : ℕ) × HasCome (D.reading derivatives.old) (D.trees derivatives.old) position line events) (D.trees derivatives.new) p) }
+    ensures progress { IfOk result (λ well. AddsProgress (D.reading derivatives.old) (event_of event.entry)
+        (λ events. (line : ℕ) × HasCome (D.reading derivatives.old) (D.trees derivatives.old) position.old line events) (D.trees derivatives.new)
+        (progress_at well position.new event.entry.line)) }
 {
-    let position = step(derivatives, alloc, position, event.kind)?;
+    step(derivatives, alloc, position, event.kind)?;
     if is_hopeless(derivatives, position.state.now.as_slice()) {
-        return Ok(Progress::Failed(event.line));
+        return Ok(false);
     }
-    let position = renewed(derivatives, alloc, position)?;
-    Ok(Progress::Going {
-        position,
-        line: event.line,
-    })
+    renew(derivatives, alloc, position)?;
+    Ok(true)
 }
 
-/// What is known after one more event.
-pub fn progress_after<D: Derivatives>(
+/// Takes one more event. After want of memory nothing is promised of what is known.
+pub fn take_event<D: Derivatives>(
     derivatives: &mut D,
     alloc: Global,
-    progress: Progress,
+    progress: &mut Progress,
     event: Event<'_>,
-) -> Result<Progress, OutOfMemory>
-    requires { IsProgressInside (D.trees derivatives.old) progress }
+) -> Result<(), OutOfMemory>
+    requires { IsProgressInside (D.trees derivatives.old) progress.old }
     ensures reading { OnOk result (D.reading derivatives.new ≡ D.reading derivatives.old) }
-    ensures progress { IfOk result (λ p. AddsProgress (D.reading derivatives.old) (event_of event.entry)
-        (IsKnown (D.reading derivatives.old) (D.trees derivatives.old) progress) (D.trees derivatives.new) p) }
-    ensures lost { IsLost progress → IsErr result }
+    ensures progress { OnOk result (AddsProgress (D.reading derivatives.old) (event_of event.entry)
+        (IsKnown (D.reading derivatives.old) (D.trees derivatives.old) progress.old) (D.trees derivatives.new) progress.new) }
+    ensures lost { IsLost progress.old → IsErr result }
 {
     match progress {
-        Progress::Going { position, .. } => go_on(derivatives, alloc, position, event),
-        Progress::Failed(line) => Ok(Progress::Failed(line)),
+        Progress::Going { position, line } => {
+            *line = event.line;
+            if go_on(derivatives, alloc, position, event)? {
+                return Ok(());
+            }
+            *progress = Progress::Failed(event.line);
+            Ok(())
+        }
+        Progress::Failed(_) => Ok(()),
         Progress::Lost => Err(OutOfMemory),
     }
 }

@@ -1,5 +1,5 @@
 // Patterns that a position does not hold are let go.
-ghost use Rattle.std.specs.Prelude.{◌≡◌, ◌++◌, ◌≤◌, ℕ, List, IfOk, OnOk, drop, length, take};
+ghost use Rattle.std.specs.Prelude.{◌≡◌, ◌++◌, ◌≤◌, ℕ, List, OnOk, drop, length, take};
 ghost use Rattle.std.specs.List.{AllZip};
 ghost use Rattle.rng_model.specs.Tree.{Simple};
 ghost use Rattle.rng_matcher.specs.Positions.{IsPositionInside};
@@ -12,6 +12,7 @@ use crate::position::Position;
 use crate::state::{Level, State};
 use rng_model::OutOfMemory;
 use rng_patterns::PatternNumber;
+use smallvec::SmallVec;
 use std::alloc::Global;
 
 /// Adds what the ways out of an element leave.
@@ -60,51 +61,40 @@ fn put_levels(levels: &mut Vec<Level>, numbers: &[PatternNumber])
     }
 }
 
-/// The state, where all patterns are let go that it does not hold.
-fn renewed_state<D: Derivatives>(
+/// All patterns are let go that the state does not hold.
+fn renew_state<D: Derivatives>(
     derivatives: &mut D,
     alloc: Global,
-    state: State,
-) -> Result<State, OutOfMemory>
-    requires { IsStateInside (D.trees derivatives.old) state }
+    state: &mut State,
+) -> Result<(), OutOfMemory>
+    requires { IsStateInside (D.trees derivatives.old) state.old }
     ensures reading { OnOk result (D.reading derivatives.new ≡ D.reading derivatives.old) }
-    ensures renewed { IfOk result (λ s. IsStateRenewed (D.trees derivatives.old) (D.trees derivatives.new) state s) }
+    ensures renewed { OnOk result (IsStateRenewed (D.trees derivatives.old) (D.trees derivatives.new) state.old state.new) }
 {
-    let State {
-        now: mut held,
-        mut levels,
-    } = state;
-    let count = held.len();
-    add_levels(&mut held, levels.as_slice())?;
-    let mut numbers = derivatives.renew(alloc, held.as_slice())?;
-    let (_, rests) = numbers.as_slice().split_at(count);
-    put_levels(&mut levels, rests);
-    numbers.truncate(count);
-    Ok(State {
-        now: numbers,
-        levels,
-    })
+    let mut held = Vec::new(alloc);
+    held.extend_from_slice(state.now.as_slice())?;
+    add_levels(&mut held, state.levels.as_slice())?;
+    let numbers = derivatives.renew(alloc, held.as_slice())?;
+    let (now, rests) = numbers.as_slice().split_at(state.now.len());
+    put_levels(&mut state.levels, rests);
+    state.now = SmallVec::from_slice(alloc, now)?;
+    Ok(())
 }
 
-/// The position, where all patterns are let go that it does not hold, if there are too many.
+/// All patterns are let go that the position does not hold, if there are too many.
 ///
 /// Not while a string is held, which is settled with the next event. Costs what the position holds, and the renewal of that.
-pub fn renewed<D: Derivatives>(
+pub fn renew<D: Derivatives>(
     derivatives: &mut D,
     alloc: Global,
-    position: Position,
-) -> Result<Position, OutOfMemory>
-    requires { IsPositionInside (D.trees derivatives.old) position }
+    position: &mut Position,
+) -> Result<(), OutOfMemory>
+    requires { IsPositionInside (D.trees derivatives.old) position.old }
     ensures reading { OnOk result (D.reading derivatives.new ≡ D.reading derivatives.old) }
-    ensures renewed { IfOk result (λ q. IsPositionRenewed (D.trees derivatives.old) (D.trees derivatives.new) position q) }
+    ensures renewed { OnOk result (IsPositionRenewed (D.trees derivatives.old) (D.trees derivatives.new) position.old position.new) }
 {
     if position.held.is_some() || !derivatives.is_crowded() {
-        return Ok(position);
+        return Ok(());
     }
-    let state = renewed_state(derivatives, alloc, position.state)?;
-    Ok(Position {
-        state,
-        has_begun: position.has_begun,
-        held: None,
-    })
+    renew_state(derivatives, alloc, &mut position.state)
 }

@@ -139,6 +139,9 @@ impl PatternTable {
         ensures takes { OnOk result ((t : Table) (g : Reading) (xs : List Attribute) (ns : List Item)
             → SomeTakes g (tree_of t self.now) alternatives.old.items xs ns → SomeTakes g (tree_of t self.now) alternatives.new.items xs ns) }
     {
+        if alternatives.len() < 2 {
+            return Ok(());
+        }
         let absorbed = self.absorbed(alloc, alternatives.as_slice())?;
         if absorbed.is_empty() {
             return Ok(());

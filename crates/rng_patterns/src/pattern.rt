@@ -5,7 +5,7 @@ ghost use Rattle.rng_patterns.specs.Facts.{IsWithin, joined_elements, one_elemen
 use rng_model::{ElementId, PatternId};
 
 /// A position in a table of patterns, from 0.
-#[derive(Clone, Copy, PartialEq, Eq, PartialOrd, Ord, Hash)]
+#[derive(Clone, Copy, Default, PartialEq, Eq, PartialOrd, Ord, Hash)]
 pub struct PatternNumber(pub usize);
 
 /// A pattern in simple form, made of others that are named by their numbers.

@@ -1,6 +1,11 @@
-use Rattle.std.proofs.Common.{rules, ◌∙◌}
-use Rattle.rng_matcher.proofs.Ending.{ends_at, no_ends}
+use Rattle.std.proofs.Common.{◌∙◌}
+use Rattle.rng_matcher.proofs.Ending.{ends_at, no_ends, only_ended}
 use Rattle.rng_matcher.proofs.ends.ended.Goals as goal
+
+pub returns-in-Some-clause-ended : goal.returns-in-Some-clause-ended
+returns-in-Some-clause-ended g c =
+    only_ended (g.D.Derivatives.reading c.args.derivatives.now) c.args.good.now c.args.around (g.D.Derivatives.trees c.args.derivatives.now) c.args.links.now
+    c.in-Some.rest c.in_ok-from_slice.field-0.items c.in-Some.ensures c.requires c.in_ok-from_slice.ensures.ok
 
 pub links-init : goal.links-init
 links-init g c =
@@ -8,7 +13,7 @@ links-init g c =
     record {
       same = c.in_ok-none.ensures.reading;
       first = no_ends (g.D.Derivatives.reading c.args.derivatives.now) c.args.good.now c.args.around (trees c.args.derivatives.now) (trees c.choice.new.self)
-          c.in_ok-none.none c.in_ok-outside.outside.items c.in_ok-none.ensures.choice (search rules);
+          c.in_ok-none.none c.in_ok-outside.outside.items c.in_ok-none.ensures.choice (c.in_ok-outside.ensures.items_if_clones_equal (λ y e. e));
     }
 
 pub links-preserved : goal.links-preserved

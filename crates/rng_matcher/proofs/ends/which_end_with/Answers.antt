@@ -9,4 +9,4 @@ alternatives-preserved g c =
     c.alternatives.place _ _ c.alternatives.good.items c.push.new.self.items c.may_end.result c.alternatives.invariant c.alternatives-test.true
     (slice_get-get_or c.args.after.now c.alternatives.place (record { 0 = 0 })
     (subst (λ k. c.alternatives.place < k) c.requires.count c.alternatives-test.true))
-    c.may_end.ensures c.in_ok-push.ensures.items
+    c.may_end.ensures c.in_ok-push.ensures.ok

@@ -13,5 +13,5 @@ patterns-preserved g c =
       first = each_at (λ r. IsAfterText r c.args.text.now) (reading c.patterns.derivatives) (reading c.args.derivatives.now)
           (trees c.args.derivatives.now) (trees c.patterns.derivatives) (trees c.after_text.new.self) c.args.patterns.now c.patterns.after.items
           c.push.new.self.items c.patterns.pattern-index _ c.in_ok-after_text.field-0 before.same before.first c.requires c.patterns-test.true
-          c.in_ok-after_text.ensures.after c.in_ok-push.ensures.items;
+          c.in_ok-after_text.ensures.after c.in_ok-push.ensures.ok;
     }

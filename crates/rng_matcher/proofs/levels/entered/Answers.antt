@@ -14,5 +14,5 @@ bodies-preserved g c =
       first = each_at (λ r. IsAfterTag r (map attribute_of c.args.attrs.now)) (reading c.bodies.derivatives) (reading c.args.derivatives.now)
           (trees c.args.derivatives.now) (trees c.bodies.derivatives) (trees c.after_tag.new.self) c.args.bodies.now c.bodies.entered.items
           c.push.new.self.items c.bodies.body-index _ c.in_ok-after_tag.field-0 before.same before.first c.requires c.bodies-test.true
-          c.in_ok-after_tag.ensures.after c.in_ok-push.ensures.items;
+          c.in_ok-after_tag.ensures.after c.in_ok-push.ensures.ok;
     }

@@ -16,5 +16,5 @@ alternatives-preserved g c =
           c.alternatives.bodies.items c.add_links.new.bodies.items c.alternatives.links.items c.add_links.new.links.items before.same before.first
           c.requires c.alternatives-test.true c.in_ok-ways.ensures.starts
           (subst (λ ways. AddsLinks c.alternatives.outer ways c.alternatives.bodies.items c.add_links.new.bodies.items c.alternatives.links.items
-          c.add_links.new.links.items) c.as_slice.ensures.value c.in_ok-add_links.ensures);
+          c.add_links.new.links.items) c.as_slice.ensures c.in_ok-add_links.ensures);
     }

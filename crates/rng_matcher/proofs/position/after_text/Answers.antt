@@ -10,6 +10,6 @@ returns-clause-step g c =
     let old = trees c.args.derivatives.now in
     let new = trees c.hold.new.derivatives in
     let held = c.in_ok-held.held in
-    let p = c.args.position in
+    let p = c.args.position.now in
     string_step reading c.args.text.now old new p held (record { state = p.state; has_begun = p.has_begun; held = Some held }) c.requires
-    (subst (λ ns. AddsHeld (λ s. s ≡ c.args.text.now) reading old new ns held) c.as_slice.ensures.value c.in_ok-held.ensures.held) refl refl refl
+    (subst (λ ns. AddsHeld (λ s. s ≡ c.args.text.now) reading old new ns held) c.as_slice.ensures c.in_ok-held.ensures.held) refl refl refl

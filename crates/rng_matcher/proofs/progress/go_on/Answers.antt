@@ -12,12 +12,12 @@ returns-then-is_hopeless-clause-progress g c =
     let trees = g.D.Derivatives.trees in
     let reading = g.D.Derivatives.reading c.args.derivatives.now in
     let new = trees c.step.new.derivatives in
-    let all = subst (λ ns. list_all (λ n. is_not_allowed (tree_of new n)) ns ≡ true) c.as_slice.ensures.value
+    let all = subst (λ ns. list_all (λ n. is_not_allowed (tree_of new n)) ns ≡ true) c.as_slice.ensures
     (sym c.is_hopeless.ensures ∙ c.if-is_hopeless.true) in
     record {
       inside = tt;
-      stands = λ es come. fails reading (trees c.args.derivatives.now) new c.args.position c.in_ok-position.position (event_of c.args.event)
-          c.in_ok-position.ensures.step come.0 es come.1 all;
+      stands = λ es come. fails reading (trees c.args.derivatives.now) new c.args.position.now c.step.new.position (event_of c.args.event)
+          c.in_ok-step.ensures.step come.0 es come.1 all;
     }
 
 pub returns-clause-progress : goal.returns-clause-progress
@@ -25,14 +25,14 @@ returns-clause-progress g c =
     let trees = g.D.Derivatives.trees in
     let reading = g.D.Derivatives.reading c.args.derivatives.now in
     let mid = trees c.step.new.derivatives in
-    let new = trees c.renewed.new.derivatives in
+    let new = trees c.renew.new.derivatives in
     let event = event_of c.args.event in
-    let some = subst (λ ns. list_all (λ n. is_not_allowed (tree_of mid n)) ns ≡ false) c.as_slice.ensures.value
+    let some = subst (λ ns. list_all (λ n. is_not_allowed (tree_of mid n)) ns ≡ false) c.as_slice.ensures
     (sym c.is_hopeless.ensures ∙ c.if-is_hopeless.false) in
     record {
-      inside = c.in_ok-position-2.ensures.renewed.inside;
-      stands = λ es come. come_renewed reading mid new c.in_ok-position.position c.in_ok-position-2.position event.line (es ++ event ∷ [])
-          c.in_ok-position-2.ensures.renewed
-          (comes_on reading (trees c.args.derivatives.now) mid c.args.position c.in_ok-position.position event c.in_ok-position.ensures.step come.0 es come.1
+      inside = c.in_ok-renew.ensures.renewed.inside;
+      stands = λ es come. come_renewed reading mid new c.step.new.position c.renew.new.position event.line (es ++ event ∷ [])
+          c.in_ok-renew.ensures.renewed
+          (comes_on reading (trees c.args.derivatives.now) mid c.args.position.now c.step.new.position event c.in_ok-step.ensures.step come.0 es come.1
           some);
     }

@@ -17,9 +17,9 @@ returns-clause-state g c =
     let new = trees c.entered.new.derivatives in
     let bodies = c.in_ok-bodies.field-0.bodies in
     let links = c.in_ok-bodies.field-0.links in
-    enters reading q xs old mid new c.args.state (record { now = c.in_ok-now.now; levels = c.push.new.self }) bodies.items
+    enters reading q xs old mid new c.args.state.now (record { now = c.in_ok-state.field-0; levels = c.push.new.self }) bodies.items
     (record { around = c.len-around.result; links = links }) c.requires
-    (subst (λ os. AddsOpened reading q old mid os bodies.items links.items) c.as_slice.ensures.value c.in_ok-bodies.ensures.opened)
-    (subst (λ bs. AddsEach (IsAfterTag reading xs) mid new bs c.in_ok-now.now.items) c.as_slice-2.ensures.value
-    (subst (λ r. AddsEach (IsAfterTag r xs) mid new c.as_slice-2.result.now c.in_ok-now.now.items) c.in_ok-bodies.ensures.reading
-    c.in_ok-now.ensures.entered)) (search rules) c.in_ok-push.ensures.items
+    (subst (λ os. AddsOpened reading q old mid os bodies.items links.items) c.as_slice.ensures c.in_ok-bodies.ensures.opened)
+    (subst (λ bs. AddsEach (IsAfterTag reading xs) mid new bs c.in_ok-state.field-0.items) c.as_slice-2.ensures
+    (subst (λ r. AddsEach (IsAfterTag r xs) mid new c.as_slice-2.result.now c.in_ok-state.field-0.items) c.in_ok-bodies.ensures.reading
+    c.in_ok-state.ensures.entered)) (search rules) c.in_ok-push.ensures.items

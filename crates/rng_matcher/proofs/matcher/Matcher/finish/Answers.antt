@@ -15,7 +15,7 @@ returns-then-some_end-clause-outcome g c = λ bytes d is known.
     let derivatives = c.self.inside.derivatives in
     let now = subst (λ m. IsKnown (reading m.0) (trees m.0) m.1 (events_of d)) (sym c.self.view_is) known in
     let come = subst (λ p. IsKnown (reading derivatives) (trees derivatives) p (events_of d)) c.in-Going.is now in
-    let some = subst (λ ns. list_any (λ n. is_nullable (tree_of (trees derivatives) n)) ns ≡ true) c.as_slice.ensures.value
+    let some = subst (λ ns. list_any (λ n. is_nullable (tree_of (trees derivatives) n)) ns ≡ true) c.as_slice.ensures
     (sym c.some_end.ensures ∙ c.if-some_end.true) in
     subst (λ m. IsValid (reading m.0) d) c.self.view_is
     (ends_valid (reading derivatives) (trees derivatives) c.in-Going.position c.in-Going.line bytes d is come some)
@@ -27,7 +27,7 @@ returns-in-Going-clause-outcome g c = λ bytes d is known.
     let derivatives = c.self.inside.derivatives in
     let now = subst (λ m. IsKnown (reading m.0) (trees m.0) m.1 (events_of d)) (sym c.self.view_is) known in
     let come = subst (λ p. IsKnown (reading derivatives) (trees derivatives) p (events_of d)) c.in-Going.is now in
-    let none = subst (λ ns. list_any (λ n. is_nullable (tree_of (trees derivatives) n)) ns ≡ false) c.as_slice.ensures.value
+    let none = subst (λ ns. list_any (λ n. is_nullable (tree_of (trees derivatives) n)) ns ≡ false) c.as_slice.ensures
     (sym c.some_end.ensures ∙ c.if-some_end.false) in
     subst (λ m. ¬ (IsValid (reading m.0) d) × FailsAt (reading m.0) (events_of d) c.in-Going.line) c.self.view_is
     (ends_invalid (reading derivatives) (trees derivatives) c.in-Going.position c.in-Going.line bytes d is come none)

@@ -1,16 +1,16 @@
 use Rattle.std.proofs.Common.{subst, All, rules}
 use Rattle.rng_matcher.specs.Numbers.{IsInside}
 use Rattle.rng_matcher.proofs.Renewal.{held_inside, state_renewed}
-use Rattle.rng_matcher.proofs.renewing.renewed_state.Goals as goal
+use Rattle.rng_matcher.proofs.renewing.renew_state.Goals as goal
 
 pub renew-requires : goal.renew-requires
 renew-requires g c =
     let old = g.D.Derivatives.trees c.args.derivatives.now in
-    subst (All (IsInside old)) (search rules) (held_inside old c.args.state c.requires)
+    subst (All (IsInside old)) (search rules) (held_inside old c.args.state.now c.requires)
 
 pub returns-clause-renewed : goal.returns-clause-renewed
 returns-clause-renewed g c =
     let trees = g.D.Derivatives.trees in
-    state_renewed (trees c.args.derivatives.now) (trees c.renew.new.self) c.args.state
-    (record { now = c.truncate.new.self; levels = c.put_levels.new.levels }) c.as_slice-2.result.now c.in_ok-numbers.numbers.items c.requires
+    state_renewed (trees c.args.derivatives.now) (trees c.renew.new.self) c.args.state.now
+    (record { now = c.in_ok-state.field-0; levels = c.put_levels.new.levels }) c.as_slice-3.result.now c.in_ok-numbers.numbers.items c.requires
     (search rules) c.in_ok-numbers.ensures.kept (search rules) (search rules)

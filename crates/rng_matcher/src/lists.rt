@@ -1,0 +1,17 @@
+// Short lists, which take no memory of their own where they are as short as nearly all are.
+use crate::derivatives::Way;
+use crate::links::Link;
+use rng_patterns::PatternNumber;
+use smallvec::SmallVec;
+
+/// Alternatives: two at most for nearly all elements.
+pub type Numbers = SmallVec<PatternNumber, 2>;
+
+/// The ways to begin with an element: one at most for nearly all patterns.
+pub type Ways = SmallVec<Way, 1>;
+
+/// The ways out of an element: one for nearly all.
+pub type Links = SmallVec<Link, 1>;
+
+/// Which of the alternatives pass a test.
+pub type Tests = SmallVec<bool, 8>;
