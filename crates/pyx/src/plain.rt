@@ -3,18 +3,15 @@ ghost use Rattle.std.specs.Prelude.{◌≡◌, IfSome, true};
 ghost use Rattle.std.specs.List.{list_all};
 ghost use Rattle.pyx.specs.PlainBytes.{flaw, is_plain, is_plain_name, may_begin, may_follow};
 
-/// A byte that stands only in characters that XML has: U+FFFE and U+FFFF begin with the byte 0xEF.
-fn is_plain(byte: u8) -> bool
-    ensures { result ≡ is_plain byte }
-{
-    (byte >= 0x20 || byte == b'\t' || byte == b'\n' || byte == b'\r') && byte != 0xEF
-}
-
-/// 1 for a byte that is not plain.
+/// 1 for a byte that is not plain. A plain one stands only in characters that XML has: U+FFFE and U+FFFF begin with the byte 0xEF.
 fn flaw(byte: u8) -> u8
     ensures { result ≡ flaw (is_plain byte) }
 {
-    if is_plain(byte) { 0 } else { 1 }
+    if (byte >= 0x20 || byte == b'\t' || byte == b'\n' || byte == b'\r') && byte != 0xEF {
+        0
+    } else {
+        1
+    }
 }
 
 /// All bytes are plain. It looks at each of them, whatever the others are, so that many are looked at at once.

@@ -69,13 +69,21 @@ fn is_repeated(attrs: &[Attr], slots: &mut [bool; SLOT_COUNT]) -> bool
     }
 }
 
+/// Two of these attributes have one name. No other function holds the slots, so that a tag of few attributes does not clear them.
+#[inline(never)]
+fn is_named_twice_by_slots(attrs: &[Attr]) -> bool
+    ensures { result ≡ is_named_twice (map attribute_of attrs.now) }
+{
+    is_repeated(attrs, &mut [false; SLOT_COUNT])
+}
+
 /// Two of these attributes have one name.
 #[tactic(auto, unfolding(crate::specs::TagReader::is_named_twice))]
 pub fn is_named_twice(attrs: &[Attr]) -> bool
     ensures { result ≡ is_named_twice (map attribute_of attrs.now) }
 {
     if attrs.len() > PAIRED_LIMIT {
-        return is_repeated(attrs, &mut [false; SLOT_COUNT]);
+        return is_named_twice_by_slots(attrs);
     }
     match attrs {
         [first, rest @ ..] => is_named_in(&first.name, rest) || is_named_twice(rest),
