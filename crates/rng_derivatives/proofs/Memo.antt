@@ -1,5 +1,6 @@
 -- What is kept of starts stays so, and serves each name of a key.
-use Rattle.std.proofs.Common.{◌≡◌, ◌∙◌, ◌⊎◌, ℕ, List, [], ◌∷◌, map, All, Bool, true, false, cond, inl, inr, ⊎_elim, Some, None, Vec}
+use Rattle.std.proofs.Common.{◌≡◌, ◌∙◌, ◌⊎◌, ℕ, List, [], ◌∷◌, map, All, Bool, true, false, cond, inl, inr, ⊎_elim, Some, None}
+use Rattle.smallvec.specs.SmallVec.{SmallVec}
 use Rattle.std.proofs.Common.{refl, sym, ap, ap₂, subst, ◌==◌}
 use Rattle.std.proofs.lemmas.Bool.{and_parts}
 use Rattle.std.proofs.lemmas.Bool.Decides.{Decides-eqb}
@@ -40,7 +41,7 @@ same_key a b e =
     ap₂ (λ x y. record { pattern = record { 0 = x }; name = record { 0 = y } }) ((Decides-eqb a.pattern.0 b.pattern.0).0 both.0)
     ((Decides-eqb a.name.0 b.name.0).0 both.1)
 
-module _ {Y Z : Type 0} (old new : HashMap StartKey (Vec Way Y) Z) (start : StartKey) (v : Vec Way Y)
+module _ {Z : Type 0} (old new : HashMap StartKey (SmallVec Way) Z) (start : StartKey) (v : SmallVec Way)
     (put : Updates same.ghosts.eq old new start (Some v)) where
   pub kept_or_put : (k : StartKey) (ws : List Way) → HasKept new k ws → HasKept old k ws ⊎ ((k ≡ start) × (ws ≡ v.items))
   kept_or_put k ws h = by (same.ghosts.eq start k) refl
@@ -49,10 +50,10 @@ module _ {Y Z : Type 0} (old new : HashMap StartKey (Vec Way Y) Z) (start : Star
       by true e =
           let there : Some h.0 ≡ Some v = sym h.1 ∙ put.0 k ∙ ap (λ b. cond b (Some v) (get same.ghosts.eq old k)) e in
           let value : h.0 ≡ v = cc in
-          inr (sym (same_key start k e), sym h.2 ∙ ap (λ (v : Vec Way Y). v.items) value)
+          inr (sym (same_key start k e), sym h.2 ∙ ap (λ (v : SmallVec Way). v.items) value)
       by false e = inl (h.0, sym (put.0 k ∙ ap (λ b. cond b (Some v) (get same.ghosts.eq old k)) e) ∙ h.1, h.2)
 
-pub none_kept : {Y Z : Type 0} (memo : HashMap StartKey (Vec Way Y) Z) → IsEmpty memo → (k : StartKey) (ws : List Way) → HasKept memo k ws → ⊥
+pub none_kept : {Z : Type 0} (memo : HashMap StartKey (SmallVec Way) Z) → IsEmpty memo → (k : StartKey) (ws : List Way) → HasKept memo k ws → ⊥
 none_kept memo empty k ws h = absurd (none_is (subst (λ es. lookup (same.ghosts.eq k) es ≡ Some h.0) empty h.1))
 
 -- ---- the ways
@@ -82,14 +83,14 @@ module _ (t : Table) (old new : List Node) (keys : Keys) (longer : nodes.Longer 
     answers = λ q e. starts_stay (trees t old) (trees t new) (trees_longer t old new longer) (reading_of t) q k.pattern ws a.asked (a.answers q e);
   }
 
-  module _ {Y Z : Type 0} (numbers : List PatternNumber) (memo : HashMap StartKey (Vec Way Y) Z) (known : Known)
-      (served : IsServedBy t keys (Some old) numbers memo known) (more : Known) (all : AreAllKnown t keys new more) where
-    pub serves_longer : IsServedBy t keys (Some new) numbers memo more
+  module _ {Z : Type 0} (numbers : List PatternNumber) (memo : HashMap StartKey (SmallVec Way) Z) (known : Known)
+      (served : IsServedBy t keys false old numbers memo known) (more : Known) (all : AreAllKnown t keys new more) where
+    pub serves_longer : IsServedBy t keys false new numbers memo more
     serves_longer = (served_longer t old new numbers longer served.0, served.1, (λ k ws h. answer_stays k ws (served.2 k ws h)), all)
 
     -- and one answer more
-    pub serves_more : (kept : HashMap StartKey (Vec Way Y) Z) (start : StartKey) (ways : List Way) → AreAnswer t new keys start ways
-        → ((k : StartKey) (ws : List Way) → HasKept kept k ws → HasKept memo k ws ⊎ ((k ≡ start) × (ws ≡ ways))) → IsServedBy t keys (Some new) numbers kept more
+    pub serves_more : (kept : HashMap StartKey (SmallVec Way) Z) (start : StartKey) (ways : List Way) → AreAnswer t new keys start ways
+        → ((k : StartKey) (ws : List Way) → HasKept kept k ws → HasKept memo k ws ⊎ ((k ≡ start) × (ws ≡ ways))) → IsServedBy t keys false new numbers kept more
     serves_more kept start ways answer within = (
       served_longer t old new numbers longer served.0,
       served.1,

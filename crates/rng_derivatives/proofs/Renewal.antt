@@ -1,11 +1,10 @@
 -- What holds of some patterns holds of them in another table.
-use Rattle.std.proofs.Common.{◌≡◌, ◌∙◌, ℕ, zero, suc, ◌<◌, ◌≤◌, ◌+◌, List, [], ◌∷◌, ◌++◌, length, map, take, drop, All, get_or, slice_index_or}
+use Rattle.std.proofs.Common.{◌≡◌, ◌∙◌, ℕ, zero, suc, ◌<◌, List, [], ◌∷◌, ◌++◌, length, map, take, drop, All, get_or, slice_index_or}
 use Rattle.std.proofs.Common.{refl, sym, ap, ap₂, subst, arith}
 use Rattle.std.specs.List.{AllZip}
 use Rattle.std.proofs.lemmas.List.Elements.{All-cons, All-head, All-nil, All-tail}
 use Rattle.rng_model.specs.Table.{Table, tree_at}
 use Rattle.rng_model.specs.declared.simple.PatternId.{PatternId}
-use Rattle.rng_matching.specs.Reading.{Reading}
 use Rattle.rng_matching.specs.Restricted.{IsRestricted, IsRestrictedBody}
 use Rattle.rng_matching.specs.Taking.{Same}
 use Rattle.rng_patterns.specs.Node.{Node}
@@ -14,8 +13,6 @@ use Rattle.rng_patterns.specs.Trees.{trees, tree_of}
 use Rattle.rng_patterns.specs.declared.pattern.PatternNumber.{PatternNumber}
 use Rattle.rng_patterns.proofs.Trees.{length-trees}
 use Rattle.rng_ways.specs.Kinds.{Obeys}
-use Rattle.rng_ways.specs.declared.way.Place.{Place}
-use Rattle.rng_ways.proofs.Rows.{body_there}
 use Rattle.rng_ways.proofs.Starts.{body_inside}
 use Rattle.rng_matcher.specs.Numbers as numbers
 use Rattle.rng_matcher.specs.Numbers.{AreRenewed, IsInside}

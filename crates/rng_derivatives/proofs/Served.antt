@@ -1,6 +1,7 @@
 -- What holds of a table that serves a grammar.
-use Rattle.std.proofs.Common.{◌≡◌, ◌∙◌, ◌↔◌, ℕ, ◌<◌, List, [], ◌∷◌, ◌++◌, All, length, fold, sym, ap, subst, arith, Option, Some, None}
-use Rattle.std.proofs.Common.{slice_index_or, Vec}
+use Rattle.std.proofs.Common.{◌≡◌, ◌∙◌, ◌↔◌, ℕ, ◌<◌, List, [], ◌∷◌, ◌++◌, All, length, fold, sym, ap, subst, arith, Bool, true, false}
+use Rattle.std.proofs.Common.{slice_index_or}
+use Rattle.smallvec.specs.SmallVec.{SmallVec}
 use Rattle.std.specs.HashMap.{HashMap}
 use Rattle.rng_keys.specs.Keys.{Keys}
 use Rattle.std.proofs.lemmas.List.{append-nil, append_assoc, get_or_default}
@@ -38,7 +39,7 @@ use Rattle.rng_matcher.specs.Numbers as numbers
 use Rattle.rng_matcher.specs.Numbers.{Adds, AddsStarts, IsChoiceOf, IsInside}
 use Rattle.rng_matcher.specs.declared.derivatives.Way.{Way}
 use Rattle.rng_derivatives.specs.declared.start_memo.StartKey.{StartKey}
-use Rattle.rng_derivatives.specs.Serving.{IsServed, IsServedBy, nodes_in}
+use Rattle.rng_derivatives.specs.Serving.{IsServed, IsServedBy, nodes_unless}
 use Rattle.rng_derivatives.specs.Starts.{OpensLike}
 use Rattle.rng_derivatives.proofs.Joining.{starts_are, starts_inside}
 
@@ -99,12 +100,11 @@ module _ (t : Table) (ns : List Node) (numbers : List PatternNumber) (keeps : Br
     start_same = subst (λ (n : PatternNumber). Same (reading_of t) (tree_of t ns n.0) (tree_at t.patterns t.start)) start_is
         (taken.same t.start.0 start_there (reading_of t))
 
--- ---- what contracts see of a table that is there, or not
+-- ---- what contracts see of a table, unless memory was wanting
 
-module _ (t : Table) (table : Option (List Node)) (ns : List Node) (seen : Table × List Node) (there : table ≡ Some ns)
-    (view : (t, nodes_in table) ≡ seen) where
+module _ (t : Table) (lost : Bool) (ns : List Node) (seen : Table × List Node) (there : lost ≡ false) (view : (t, nodes_unless lost ns) ≡ seen) where
   pub seen_there : (t, ns) ≡ seen
-  seen_there = subst (λ (o : Option (List Node)). (t, nodes_in o) ≡ seen) there view
+  seen_there = subst (λ b. (t, nodes_unless b ns) ≡ seen) there view
 
   pub below_there : (n : PatternNumber) → IsInside (trees seen.0 seen.1) n → n.0 < length ns
   below_there n inside =
@@ -115,18 +115,18 @@ module _ (t : Table) (table : Option (List Node)) (ns : List Node) (seen : Table
   pub all_below_there : (ms : List PatternNumber) → All (IsInside (trees seen.0 seen.1)) ms → All (λ m. m.0 < length ns) ms
   all_below_there ms all = All-weaker (IsInside (trees seen.0 seen.1)) (λ m. m.0 < length ns) below_there ms all
 
-pub none_there : (t : Table) (table : Option (List Node)) (seen : Table × List Node) (n : PatternNumber) → table ≡ None → (t, nodes_in table) ≡ seen
+pub none_there : (t : Table) (lost : Bool) (ns : List Node) (seen : Table × List Node) (n : PatternNumber) → lost ≡ true → (t, nodes_unless lost ns) ≡ seen
     → IsInside (trees seen.0 seen.1) n → ⊥
-none_there t table seen n none view inside =
-    let nothing : (t, []) ≡ seen = subst (λ (o : Option (List Node)). (t, nodes_in o) ≡ seen) none view in
+none_there t lost ns seen n gone view inside =
+    let nothing : (t, []) ≡ seen = subst (λ b. (t, nodes_unless b ns) ≡ seen) gone view in
     let at = subst (λ (s : Table × List Node). n.0 < length (trees s.0 s.1)) (sym nothing) inside.below in
     let same = length-trees t [] in
     absurd (omega (arith, at, same))
 
-pub there_served : {Y Z : Type 0} (t : Table) (keys : Keys) (table : Option (List Node)) (ns : List Node) (numbers : List PatternNumber)
-    (memo : HashMap StartKey (Vec Way Y) Z) (known : Known) → table ≡ Some ns → IsServedBy t keys table numbers memo known
-    → IsServedBy t keys (Some ns) numbers memo known
-there_served t keys table ns numbers memo known there served = subst (λ (o : Option (List Node)). IsServedBy t keys o numbers memo known) there served
+pub there_served : {Z : Type 0} (t : Table) (keys : Keys) (lost : Bool) (ns : List Node) (numbers : List PatternNumber)
+    (memo : HashMap StartKey (SmallVec Way) Z) (known : Known) → lost ≡ false → IsServedBy t keys lost ns numbers memo known
+    → IsServedBy t keys false ns numbers memo known
+there_served t keys lost ns numbers memo known there served = subst (λ b. IsServedBy t keys b ns numbers memo known) there served
 
 -- ---- what is added
 

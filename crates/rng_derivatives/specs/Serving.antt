@@ -1,5 +1,6 @@
 -- The patterns of a grammar in a table, for a matcher.
-use Rattle.std.specs.Prelude.{⊤, List, [], Option, Some, None, Vec}
+use Rattle.std.specs.Prelude.{⊤, List, [], Bool, true, false}
+use Rattle.smallvec.specs.SmallVec.{SmallVec}
 use Rattle.std.specs.HashMap.{HashMap}
 use Rattle.rng_keys.specs.Keys.{Keys, KeysServe}
 use Rattle.rng_matcher.specs.declared.derivatives.Way.{Way}
@@ -17,12 +18,12 @@ pub record IsServed (t : Table) (ns : List Node) (numbers : List PatternNumber) 
   pub ready : IsReady t ns numbers
   pub bodies : HasRestrictedBodies t ns numbers
 
--- so it is, and what is kept of starts and known of ways is so in the table, where there is one
-abbrev pub IsServedBy : {Y Z : Type 0} → Table → Keys → Option (List Node) → List PatternNumber → HashMap StartKey (Vec Way Y) Z → Known → Type 0
-IsServedBy t keys None numbers memo known = ⊤
-IsServedBy t keys (Some ns) numbers memo known = IsServed t ns numbers × KeysServe t keys × AreAnswers t ns keys memo × AreAllKnown t keys ns known
+-- so it is, and what is kept of starts and known of ways is so in the table, unless memory was wanting
+abbrev pub IsServedBy : {Z : Type 0} → Table → Keys → Bool → List Node → List PatternNumber → HashMap StartKey (SmallVec Way) Z → Known → Type 0
+IsServedBy t keys true ns numbers memo known = ⊤
+IsServedBy t keys false ns numbers memo known = IsServed t ns numbers × KeysServe t keys × AreAnswers t ns keys memo × AreAllKnown t keys ns known
 
--- the patterns of a table; none where there is no table
-abbrev pub nodes_in : Option (List Node) → List Node
-nodes_in None = []
-nodes_in (Some ns) = ns
+-- the patterns of a table; none where memory was wanting
+abbrev pub nodes_unless : Bool → List Node → List Node
+nodes_unless true ns = []
+nodes_unless false ns = ns

@@ -1,5 +1,6 @@
 -- The ways of starts that are kept.
-use Rattle.std.specs.Prelude.{◌≡◌, List, Some, Vec}
+use Rattle.std.specs.Prelude.{◌≡◌, List, Some}
+use Rattle.smallvec.specs.SmallVec.{SmallVec}
 use Rattle.std.specs.HashMap.{HashMap, get}
 use Rattle.rng_model.specs.Names.{Name}
 use Rattle.rng_model.specs.Table.{Table}
@@ -13,8 +14,8 @@ use Rattle.rng_derivatives.specs.declared.start_memo.StartKey.{StartKey}
 use Rattle.rng_derivatives.specs.contracts.start_memo.StartKeyPartialEq.TheImpl as same
 
 -- these ways are kept for the start
-abbrev pub HasKept : {Y Z : Type 0} → HashMap StartKey (Vec Way Y) Z → StartKey → List Way → Type 0
-HasKept {Y} memo k ways = (v : Vec Way Y) × (get same.ghosts.eq memo k ≡ Some v) × (v.items ≡ ways)
+abbrev pub HasKept : {Z : Type 0} → HashMap StartKey (SmallVec Way) Z → StartKey → List Way → Type 0
+HasKept memo k ways = (v : SmallVec Way) × (get same.ghosts.eq memo k ≡ Some v) × (v.items ≡ ways)
 
 -- they are those of a start of each name of the key
 pub record AreAnswer (t : Table) (ns : List Node) (keys : Keys) (k : StartKey) (ways : List Way) : Type 0 where
@@ -22,5 +23,5 @@ pub record AreAnswer (t : Table) (ns : List Node) (keys : Keys) (k : StartKey) (
   pub answers : (q : Name) → key_of keys q ≡ k.name.0 → AddsStarts (reading_of t) q (trees t ns) (trees t ns) (tree_of (trees t ns) k.pattern) ways
 
 -- so are all that are kept
-abbrev pub AreAnswers : {Y Z : Type 0} → Table → List Node → Keys → HashMap StartKey (Vec Way Y) Z → Type 0
+abbrev pub AreAnswers : {Z : Type 0} → Table → List Node → Keys → HashMap StartKey (SmallVec Way) Z → Type 0
 AreAnswers t ns keys memo = (k : StartKey) (ways : List Way) → HasKept memo k ways → AreAnswer t ns keys k ways

@@ -11,7 +11,7 @@ use crate::renewing::{Selection, count_start, limit_beside, renewed};
 use crate::start_memo::{StartKey, StartMemo, copied, keep, kept};
 use crate::starts::joined_ways;
 use rng_keys::NameKeys;
-use rng_matcher::{Derivatives, Way};
+use rng_matcher::{Derivatives, Ways};
 use rng_model::{Attr, Name, OutOfMemory, SimpleGrammar};
 use rng_patterns::{PatternNumber, PatternTable};
 use rng_ways::{Known, after_tag, after_text, start};
@@ -38,15 +38,16 @@ pub struct GrammarDerivatives<'a> {
     starts: usize,
     /// How many patterns there may be before those that nobody holds are let go.
     limit: usize,
-    /// `None` after want of memory.
-    table: Option<PatternTable>,
+    table: PatternTable,
+    /// Whether memory was wanting: then nothing is known of the table any more.
+    lost: bool,
 }
 
 impl<'a> Model for GrammarDerivatives<'a> {
     ghost use Rattle.std.specs.Prelude.{List};
     ghost use Rattle.rng_model.specs.Table.{Table};
     ghost use Rattle.rng_patterns.specs.Node.{Node};
-    ghost use Rattle.rng_derivatives.specs.Serving.{IsServedBy, nodes_in};
+    ghost use Rattle.rng_derivatives.specs.Serving.{IsServedBy, nodes_unless};
 
     ghost Value = { Table × List Node };
 
@@ -55,9 +56,9 @@ impl<'a> Model for GrammarDerivatives<'a> {
 
     ghost coded = { Prim.hlevel (codes, classes.the_row.coded) };
 
-    ghost view = { λ d. (d.grammar.now, nodes_in d.table) };
+    ghost view = { λ d. (d.grammar.now, nodes_unless d.lost d.table) };
 
-    ghost invariant = { λ d. IsServedBy d.grammar.now d.keys d.table d.numbers.items d.memo d.known };
+    ghost invariant = { λ d. IsServedBy d.grammar.now d.keys d.lost d.table d.numbers.items d.memo d.known };
 }
 
 impl<'a> GrammarDerivatives<'a> {
@@ -88,7 +89,8 @@ impl<'a> GrammarDerivatives<'a> {
                 known,
                 starts: 0,
                 limit,
-                table: Some(table),
+                table,
+                lost: false,
             },
             start,
         ))
@@ -101,17 +103,17 @@ impl Derivatives for GrammarDerivatives<'_> {
     ghost trees = { λ d. trees d.0 d.1 };
 
     fn is_nullable(&self, pattern: PatternNumber) -> bool {
-        match &self.table {
-            Some(table) => table.facts(pattern).nullable,
-            None => false,
+        if self.lost {
+            return false;
         }
+        self.table.facts(pattern).nullable
     }
 
     fn is_not_allowed(&self, pattern: PatternNumber) -> bool {
-        match &self.table {
-            Some(table) => table.is_not_allowed(pattern),
-            None => true,
+        if self.lost {
+            return true;
         }
+        self.table.is_not_allowed(pattern)
     }
 
     fn choice(
@@ -119,11 +121,12 @@ impl Derivatives for GrammarDerivatives<'_> {
         alloc: Global,
         members: &[PatternNumber],
     ) -> Result<PatternNumber, OutOfMemory> {
-        let Some(mut table) = self.table.take() else {
+        if self.lost {
             return Err(OutOfMemory);
-        };
-        let number = table.choice(alloc, members)?;
-        self.table = Some(table);
+        }
+        self.lost = true;
+        let number = self.table.choice(alloc, members)?;
+        self.lost = false;
         Ok(number)
     }
 
@@ -133,21 +136,22 @@ impl Derivatives for GrammarDerivatives<'_> {
         pattern: PatternNumber,
         text: &str,
     ) -> Result<PatternNumber, OutOfMemory> {
-        let Some(mut table) = self.table.take() else {
+        if self.lost {
             return Err(OutOfMemory);
-        };
+        }
+        self.lost = true;
         let numbers = self.numbers.as_slice();
         let number = after_text(
             alloc,
             self.grammar,
             &self.keys,
-            &mut table,
+            &mut self.table,
             &mut self.known,
             numbers,
             pattern,
             text,
         )?;
-        self.table = Some(table);
+        self.lost = false;
         Ok(number)
     }
 
@@ -157,21 +161,22 @@ impl Derivatives for GrammarDerivatives<'_> {
         body: PatternNumber,
         attrs: &[Attr],
     ) -> Result<PatternNumber, OutOfMemory> {
-        let Some(mut table) = self.table.take() else {
+        if self.lost {
             return Err(OutOfMemory);
-        };
+        }
+        self.lost = true;
         let numbers = self.numbers.as_slice();
         let number = after_tag(
             alloc,
             self.grammar,
             &self.keys,
-            &mut table,
+            &mut self.table,
             &mut self.known,
             numbers,
             body,
             attrs,
         )?;
-        self.table = Some(table);
+        self.lost = false;
         Ok(number)
     }
 
@@ -180,19 +185,19 @@ impl Derivatives for GrammarDerivatives<'_> {
         alloc: Global,
         pattern: PatternNumber,
         name: &Name,
-    ) -> Result<Vec<Way>, OutOfMemory> {
-        let Some(mut table) = self.table.take() else {
+    ) -> Result<Ways, OutOfMemory> {
+        if self.lost {
             return Err(OutOfMemory);
-        };
+        }
         let asked = StartKey {
             pattern,
             name: self.keys.key(name),
         };
         if let Some(ways) = kept(&self.memo, asked) {
             let ways = copied(alloc, ways)?;
-            self.table = Some(table);
             return Ok(ways);
         }
+        self.lost = true;
         count_start(
             alloc,
             self.grammar,
@@ -205,23 +210,20 @@ impl Derivatives for GrammarDerivatives<'_> {
             alloc,
             self.grammar,
             &self.keys,
-            &mut table,
+            &mut self.table,
             &mut self.known,
             numbers,
             pattern,
             asked.name,
         )?;
-        let starts = joined_ways(alloc, &mut table, ways.as_slice())?;
+        let starts = joined_ways(alloc, &mut self.table, ways.as_slice())?;
         keep(alloc, &mut self.memo, asked, starts.as_slice())?;
-        self.table = Some(table);
+        self.lost = false;
         Ok(starts)
     }
 
     fn is_crowded(&self) -> bool {
-        match &self.table {
-            Some(table) => table.len() >= self.limit,
-            None => false,
-        }
+        self.table.len() >= self.limit
     }
 
     fn renew(
@@ -229,19 +231,21 @@ impl Derivatives for GrammarDerivatives<'_> {
         alloc: Global,
         held: &[PatternNumber],
     ) -> Result<Vec<PatternNumber>, OutOfMemory> {
-        let Some(table) = self.table.take() else {
+        if self.lost {
             return Err(OutOfMemory);
-        };
+        }
+        self.lost = true;
         let Selection {
             table,
             numbers,
             held,
-        } = renewed(alloc, &table, self.numbers.as_slice(), held)?;
+        } = renewed(alloc, &self.table, self.numbers.as_slice(), held)?;
         self.known = Known::new(alloc, self.grammar, &self.keys)?;
         self.memo = HashMap::new(alloc);
         self.numbers = numbers;
         self.limit = limit_beside(table.len());
-        self.table = Some(table);
+        self.table = table;
+        self.lost = false;
         Ok(held)
     }
 }

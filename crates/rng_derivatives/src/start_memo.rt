@@ -5,9 +5,10 @@ ghost use Rattle.rng_derivatives.specs.StartMemo.{HasKept};
 ghost use Rattle.rng_derivatives.specs.declared.start_memo.StartKey.{StartKey};
 
 use rng_keys::NameKey;
-use rng_matcher::Way;
+use rng_matcher::{Way, Ways};
 use rng_model::OutOfMemory;
 use rng_patterns::PatternNumber;
+use smallvec::SmallVec;
 use std::alloc::Global;
 use std::collections::HashMap;
 
@@ -19,18 +20,16 @@ pub struct StartKey {
 }
 
 /// The ways of starts, as far as they are kept.
-pub type StartMemo = HashMap<StartKey, Vec<Way>>;
+pub type StartMemo = HashMap<StartKey, Ways>;
 
 /// How many starts are kept at most, so that memory stays bounded however many patterns a document leads to.
 const MOST_KEPT: usize = 16_384;
 
 /// A copy of ways. The error is want of memory.
-pub fn copied(alloc: Global, ways: &[Way]) -> Result<Vec<Way>, OutOfMemory>
+pub fn copied(alloc: Global, ways: &[Way]) -> Result<Ways, OutOfMemory>
     ensures { IfOk result (λ copy. copy.items ≡ ways.now) }
 {
-    let mut copy = Vec::new(alloc);
-    copy.extend_from_slice(ways)?;
-    Ok(copy)
+    Ok(SmallVec::from_slice(alloc, ways)?)
 }
 
 /// The ways that are kept for a start.

@@ -8,9 +8,10 @@ ghost use Rattle.rng_patterns.specs.Trees.{tree_of};
 ghost use Rattle.rng_ways.specs.Ways.{AreInside, IsInside, IsTakenOut, ways_by};
 ghost use Rattle.rng_derivatives.specs.Starts.{IsWayInside, OpensLike, with_way};
 
-use rng_matcher::Way;
+use rng_matcher::{Way, Ways};
 use rng_model::OutOfMemory;
 use rng_patterns::{PatternNumber, PatternTable};
+use smallvec::SmallVec;
 use std::alloc::Global;
 
 /// Whether one of the two is notAllowed.
@@ -36,7 +37,7 @@ fn place_of_rest(ways: &[Way], rest: PatternNumber) -> Option<usize>
 }
 
 /// Takes a way with this rest out of others, if there is one.
-fn take_rest(ways: &mut Vec<Way>, rest: PatternNumber) -> Option<Way>
+fn take_rest(ways: &mut Ways, rest: PatternNumber) -> Option<Way>
     ensures found { IfSome result (λ w. (w.rest ≡ rest) × IsTakenOut ways.old.items ways.new.items w) }
     ensures none { IfNone result (ways.new.items ≡ ways.old.items) }
 {
@@ -48,7 +49,7 @@ fn take_rest(ways: &mut Vec<Way>, rest: PatternNumber) -> Option<Way>
 fn add_way(
     alloc: Global,
     table: &mut PatternTable,
-    all: &mut Vec<Way>,
+    all: &mut Ways,
     way: rng_ways::Way,
 ) -> Result<(), OutOfMemory>
     requires inside { All (IsWayInside table.old) all.old.items }
@@ -78,12 +79,12 @@ pub fn joined_ways(
     alloc: Global,
     table: &mut PatternTable,
     ways: &[rng_ways::Way],
-) -> Result<Vec<Way>, OutOfMemory>
+) -> Result<Ways, OutOfMemory>
     requires { AreInside table.old ways.now }
     ensures longer { OnOk result (Longer table.old table.new) }
     ensures ways { IfOk result (λ joined. (t : Table) → OpensLike t table.new (ways_by (tree_of t table.old) ways.now) joined.items) }
 {
-    let mut joined = Vec::new(alloc);
+    let mut joined = SmallVec::new(alloc);
     'ways: for way in ways {
         add_way(alloc, table, &mut joined, *way)?;
     }

@@ -32,7 +32,7 @@ returns-clause-ways c = λ t.
     let body = c.in_ok-body.body in
     let inside = subst (All (IsWayInside old)) out.2 c.requires.inside in
     let one : Way = record { body = body; rest = way.rest } in
-    let e : c.push-2.new.self.items ≡ (out.0 ++ out.1) ++ one ∷ [] = c.in_ok-push-2.ensures.items ∙ ap (λ (ws : List Way). ws ++ one ∷ []) out.3 in
+    let e : c.push-2.new.self.items ≡ (out.0 ++ out.1) ++ one ∷ [] = c.in_ok-push-2.ensures.ok ∙ ap (λ (ws : List Way). ws ++ one ∷ []) out.3 in
     let more = joined_more old new c.in_ok-body.ensures.longer out.0 out.1 other way body inside c.requires.way taken.0 c.in_ok-body.ensures.inside t
     (choice_of_two (reading_of t) (tree_of t old) other.body way.leaf (tree_of t new body.0) (c.in_ok-body.ensures.matches t (reading_of t)))
     (λ h k. c.in_ok-body.ensures.restricted t (all_of_two IsRestricted (tree_of t old) other.body way.leaf h k))

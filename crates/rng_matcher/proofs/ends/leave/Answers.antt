@@ -1,4 +1,4 @@
-use Rattle.std.proofs.Common.{rules, ◌≡◌, subst, sym, slice_get, slice_index_or, slice_set, Some}
+use Rattle.std.proofs.Common.{rules, ◌≡◌, subst, sym, slice_get, slice_index_or, Some}
 use Rattle.std.proofs.lemmas.Option.{slice_get-get_or}
 use Rattle.rng_patterns.specs.declared.pattern.PatternNumber.{PatternNumber}
 use Rattle.rng_matcher.specs.Levels.{LeavesBy}
