@@ -1,6 +1,8 @@
 mod Escaping
 mod Encoding
-mod Digits
+pub mod Colons
+pub mod Digits
+pub mod FewItems
 mod MarksText
 mod Spelled
 mod Sentences

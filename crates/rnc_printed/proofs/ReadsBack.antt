@@ -1,9 +1,7 @@
 -- The printed text of a printable grammar is read back.
-use Rattle.std.proofs.Common.{◌≡◌, ℕ, ◌≤◌, ◌<◌, ◌^◌, List, [], ◌∷◌, ◌++◌, length, map, flat_map, sym, ap, subst, arith, codes}
-use Rattle.std.proofs.lemmas.List.{length-append}
+use Rattle.std.proofs.Common.{ℕ, ◌≤◌, ◌<◌, ◌^◌, List, length, map, sym, subst, arith}
 use Rattle.rng_model.specs.Table.{Grammar}
-use Rattle.rng_print.specs.PrintedText.{Item, IsItemsOf, namespaces, item_name, item_text, item_line, namespace_line, prefix_of, literal, reference, line}
-use Rattle.rng_print.specs.PrintedText.{text_of, IsPrinted}
+use Rattle.rng_print.specs.PrintedText.{Item, IsItemsOf, namespaces, text_of, IsPrinted}
 use Rattle.rnc_text.specs.Decoding.{IsDecoded}
 use Rattle.rnc_text.specs.Cut.{tokens_at}
 use Rattle.rnc_syntax.specs.Lexeme.{Lexeme}
@@ -12,31 +10,11 @@ use Rattle.rnc_printed.specs.Printable.{IsPrintable}
 use Rattle.rnc_text.specs.Marks.{characters_of_marks, piece_of_mark, MarksAreCut, MarksAreDecoded}
 use Rattle.rnc_printed.specs.LinesTree.{lines_tree}
 use Rattle.rnc_printed.specs.ReadBack.{IsReadAs}
+use Rattle.rnc_printed.proofs.FewItems.{items_few}
 use Rattle.rnc_printed.proofs.MarksText.{text_is}
 use Rattle.rnc_printed.proofs.Conditions.{items_printable, tokens_read}
 use Rattle.rnc_printed.proofs.Spelled.{marks_are_decoded, marks_have_tokens, tokens_are}
 use Rattle.rnc_printed.proofs.ReadMarks.{marks_are_read}
-
--- ---- a text that is not too long has few items
-
-each_longer : {A : Type 0} (f : A → List ℕ) → ((a : A) → 0 < length (f a)) → (xs : List A) → length xs ≤ length (flat_map f xs)
-each_longer f h [] = omega arith
-each_longer f h (x ∷ xs) = let n = h x in let m = each_longer f h xs in let e = length-append (f x) (flat_map f xs) in omega (arith, n, m, e)
-
-line_long : (name w : List ℕ) → 0 < length (line name w)
-line_long name w = let e = length-append name (codes " = " ++ (w ++ 0xA ∷ [])) in omega (arith, e)
-
-pub items_few : (g : Grammar) (items : List Item) → (length items ≤ length (text_of g items)) × (length (namespaces g items) ≤ length (text_of g items))
-items_few g items =
-    let ns = namespaces g items in
-    let a = each_longer (item_line g ns items) (λ i. line_long (item_name items i) (item_text g ns items i)) items in
-    let b = each_longer (namespace_line ns) (λ u. namespace_long ns u) ns in
-    let e = length-append (flat_map (namespace_line ns) ns) (line (codes "start") (reference items g.start) ++ flat_map (item_line g ns items) items) in
-    let f = length-append (line (codes "start") (reference items g.start)) (flat_map (item_line g ns items) items) in
-    (omega (arith, a, e, f), omega (arith, b, e))
-  where
-    namespace_long : (ns : List (List ℕ)) (u : List ℕ) → 0 < length (namespace_line ns u)
-    namespace_long ns u = let e = length-append (codes "namespace ") (line (prefix_of ns u) (literal u)) in omega (arith, e)
 
 -- The printed text of a printable grammar breaks no clause of a file but that of its size, and has the tree of its lines.
 reads_back : MarksAreCut → MarksAreDecoded → (g : Grammar) (items : List Item) → IsPrintable g → IsItemsOf g items → length items < 2 ^ 64
@@ -56,9 +34,8 @@ reads_back cut decoded g items p n lt few =
 pub printed_reads_back : MarksAreCut → MarksAreDecoded → (g : Grammar) (text : List ℕ) → IsPrintable g → (p : IsPrinted g text) → length text ≤ 1048576
     → IsReadAs text (lines_tree g p.items)
 printed_reads_back cut decoded g text h p le =
-    let n : length text ≡ length (text_of g p.items) = ap length p.is in
-    let few = items_few g p.items in
+    let few = items_few g text p in
     let a = few.0 in
     let b = few.1 in
     subst (λ (x : List ℕ). IsReadAs x (lines_tree g p.items)) (sym p.is)
-    (reads_back cut decoded g p.items h p.numbered (omega (arith, n, a, le)) (omega (arith, n, b, le)))
+    (reads_back cut decoded g p.items h p.numbered (omega (arith, a, le)) (omega (arith, b, le)))

@@ -1,13 +1,11 @@
 -- Marks in bytes, and the same marks in Unicode numbers.
-use Rattle.std.proofs.Common.{◌≡◌, ◌∙◌, inl, inr, ℕ, suc, ◌+◌, ◌<◌, Bool, true, cond, List, [], ◌∷◌, ◌++◌, length, take, drop, map, flat_map, refl, sym}
-use Rattle.std.proofs.Common.{ap, subst, arith}
-use Rattle.std.specs.Prelude.{◌&&◌, ◌||◌, not, encode_utf8_all}
-use Rattle.std.specs.List.{list_all, position_or_len}
+use Rattle.std.proofs.Common.{◌≡◌, ◌∙◌, inl, inr, ℕ, suc, ◌+◌, ◌<◌, Bool, true, List, [], ◌∷◌, ◌++◌, map, flat_map, refl, sym, ap, subst, arith}
+use Rattle.std.specs.Prelude.{◌||◌, encode_utf8_all}
 use Rattle.std.specs.Char.{encode_utf8}
-use Rattle.std.proofs.lemmas.Bool.{and_parts, or_cases, and_from, or_right}
+use Rattle.std.proofs.lemmas.Bool.{or_cases, or_right}
+use Rattle.std.proofs.lemmas.List.{map-append}
 use Rattle.std.proofs.lemmas.Str.{encodes-append, encode_ascii}
-use Rattle.rng_model.specs.Characters.{is_ncname, is_name_char, is_name_start, is_colon}
-use Rattle.rnc_text.specs.declared.character.Character.{Character}
+use Rattle.rng_model.specs.Characters.{is_ncname}
 use Rattle.rnc_text.specs.declared.character.Character.TheVariants.{Ordinary}
 use Rattle.rnc_text.specs.declared.token.Sign.{Sign}
 use Rattle.rnc_text.specs.declared.token.Sign.TheVariants as signs
@@ -17,14 +15,13 @@ use Rattle.rnc_text.specs.Cut.{Token, tokens_at, HasTokens}
 use Rattle.rnc_text.specs.Decoding.{IsDecoded}
 use Rattle.rnc_syntax.specs.Lexeme as grammar
 use Rattle.rng_print.specs.PrintedText.{escaped}
-use Rattle.rnc_text.specs.Marks.{Mark, space, line_end, word, cname, segment, sign, sign_text, mark_text, text_of_marks, ordinary, characters_of_mark}
-use Rattle.rnc_text.specs.Marks.{characters_of_marks, piece_of_mark, is_within, IsMark, is_open, is_apart, begins_apart, AreParted, MarksAreCut}
-use Rattle.rnc_text.specs.Marks.{MarksAreDecoded}
+use Rattle.rnc_text.specs.Marks.{Mark, space, line_end, word, cname, segment, sign, sign_text, mark_text, text_of_marks, ordinary}
+use Rattle.rnc_text.specs.Marks.{characters_of_marks, piece_of_mark, IsMark, is_open, is_apart, begins_apart, AreParted, MarksAreCut, MarksAreDecoded}
 use Rattle.rnc_text.specs.Marks as marks
 use Rattle.rnc_printed.specs.MarkLexemes.{word_at, lexemes_from}
-use Rattle.std.proofs.lemmas.Bool.{false≢true}
 use Rattle.rnc_printed.proofs.Escaping.{escaped_back}
-use Rattle.rnc_printed.proofs.Encoding.{AreHigh, low_or_high, high_bytes, other_number, escaped_all}
+use Rattle.rnc_printed.proofs.Encoding.{escaped_all}
+use Rattle.rnc_printed.proofs.Colons.{HasNoColon, ncname_no_colon, before_colon}
 
 -- a mark in bytes, and the same in numbers
 pub data Spells : Mark → Mark → Type 0 where
@@ -160,69 +157,8 @@ numbers_ordinary (c ∷ w) = ap (λ (x : List ℕ). c ∷ x) (numbers_ordinary w
 bytes_ordinary : (n w : List ℕ) → encode_utf8_all n ≡ w → bytes_of (ordinary n) ≡ w
 bytes_ordinary n w e = ap encode_utf8_all (numbers_ordinary n) ∙ e
 
-numbers_append : (xs ys : List Character) → numbers_of (xs ++ ys) ≡ numbers_of xs ++ numbers_of ys
-numbers_append [] ys = refl
-numbers_append (x ∷ xs) ys = ap (λ (y : List ℕ). number_of x ∷ y) (numbers_append xs ys)
-
 prefixed_numbers : (m n : List ℕ) → numbers_of (ordinary m ++ Ordinary 0x3A ∷ ordinary n) ≡ m ++ 0x3A ∷ n
-prefixed_numbers m n = numbers_append (ordinary m) (Ordinary 0x3A ∷ ordinary n) ∙ rw (numbers_ordinary m, numbers_ordinary n) refl
-
--- no byte is a colon
-abbrev HasNoColon : List ℕ → Type 0
-HasNoColon w = list_all (λ b. not (grammar.is_colon b)) w ≡ true
-
-no_colon_both : (xs ys : List ℕ) → HasNoColon xs → HasNoColon ys → HasNoColon (xs ++ ys)
-no_colon_both [] ys h i = i
-no_colon_both (x ∷ xs) ys h i =
-    let p = and_parts (not (grammar.is_colon x)) (list_all (λ b. not (grammar.is_colon b)) xs) h in
-    and_from (not (grammar.is_colon x)) _ p.0 (no_colon_both xs ys p.1 i)
-
-high_no_colon : (bs : List ℕ) → AreHigh bs → HasNoColon bs
-high_no_colon [] h = refl
-high_no_colon (b ∷ bs) h = and_from (not (grammar.is_colon b)) _ (rw (other_number b 58 h.0 (omega arith)) refl) (high_no_colon bs h.1)
-
-character_no_colon : (c : ℕ) → not (is_colon c) ≡ true → HasNoColon (encode_utf8 c)
-character_no_colon c h = elim (low_or_high c) [
-  | inl lt ↦ subst HasNoColon (sym (encode_ascii c lt)) (and_from (not (grammar.is_colon c)) true h refl)
-  | inr high ↦ high_no_colon (encode_utf8 c) (high_bytes c high)
-]
-
-name_no_colon : (w : List ℕ) → list_all (λ d. is_name_char d && not (is_colon d)) w ≡ true → HasNoColon (encode_utf8_all w)
-name_no_colon [] h = refl
-name_no_colon (c ∷ w) h =
-    let p = and_parts (is_name_char c && not (is_colon c)) (list_all (λ d. is_name_char d && not (is_colon d)) w) h in
-    let q = and_parts (is_name_char c) (not (is_colon c)) p.0 in
-    no_colon_both (encode_utf8 c) (encode_utf8_all w) (character_no_colon c q.1) (name_no_colon w p.1)
-
-ncname_no_colon : (w : List ℕ) → is_ncname w ≡ true → HasNoColon (encode_utf8_all w)
-ncname_no_colon [] h = absurd (false≢true h)
-ncname_no_colon (c ∷ w) h =
-    let p = and_parts (is_name_start c && not (is_colon c)) (list_all (λ d. is_name_char d && not (is_colon d)) w) h in
-    let q = and_parts (is_name_start c) (not (is_colon c)) p.0 in
-    no_colon_both (encode_utf8 c) (encode_utf8_all w) (character_no_colon c q.1) (name_no_colon w p.1)
-
-colon_place : (p l : List ℕ) → HasNoColon p → position_or_len grammar.is_colon (p ++ 58 ∷ l) ≡ length p
-colon_place [] l h = refl
-colon_place (c ∷ p) l h =
-    let q = and_parts (not (grammar.is_colon c)) (list_all (λ b. not (grammar.is_colon b)) p) h in
-    let e = colon_place p l q.1 in
-    ap (λ (b : Bool). cond b (1 + position_or_len grammar.is_colon (p ++ 58 ∷ l)) 0) q.0 ∙ omega (arith, e)
-
-take_front : (p r : List ℕ) → take (length p) (p ++ r) ≡ p
-take_front [] r = refl
-take_front (c ∷ p) r = ap (λ (x : List ℕ). c ∷ x) (take_front p r)
-
-drop_front : (p r : List ℕ) (x : ℕ) → drop (length p + 1) (p ++ x ∷ r) ≡ r
-drop_front [] r x = refl
-drop_front (c ∷ p) r x = ap (λ (n : ℕ). drop n (c ∷ (p ++ x ∷ r))) one_more ∙ drop_front p r x
-  where
-    one_more : suc (length p) + 1 ≡ suc (length p + 1)
-    one_more = omega arith
-
-before_colon : (p l : List ℕ) → HasNoColon p → (grammar.prefix_in (p ++ 58 ∷ l) ≡ p) × (grammar.local_in (p ++ 58 ∷ l) ≡ l)
-before_colon p l h =
-    let e = colon_place p l h in
-    (ap (λ (n : ℕ). take n (p ++ 58 ∷ l)) e ∙ take_front p (58 ∷ l), ap (λ (n : ℕ). drop (n + 1) (p ++ 58 ∷ l)) e ∙ drop_front p l 58)
+prefixed_numbers m n = map-append number_of (ordinary m) (Ordinary 0x3A ∷ ordinary n) ∙ rw (numbers_ordinary m, numbers_ordinary n) refl
 
 cname_lexeme : (m n p l : List ℕ) (k : ℕ) → encode_utf8_all m ≡ p → encode_utf8_all n ≡ l → is_ncname m ≡ true
     → grammar.lexeme_at kinds.CName (bytes_of (ordinary m ++ Ordinary 0x3A ∷ ordinary n)) k ≡ grammar.cname p l
@@ -237,7 +173,7 @@ ns_lexeme : (m p : List ℕ) (k : ℕ) → encode_utf8_all m ≡ p → is_ncname
 ns_lexeme m p k e h =
     let w : bytes_of (ordinary m ++ Ordinary 0x3A ∷ Ordinary 0x2A ∷ [])
     ≡ p ++ 58 ∷ 0x2A ∷ [] = ap encode_utf8_all
-    (numbers_append (ordinary m) (Ordinary 0x3A ∷ Ordinary 0x2A ∷ []) ∙ ap (λ (x : List ℕ). x ++ 0x3A ∷ 0x2A ∷ []) (numbers_ordinary m))
+    (map-append number_of (ordinary m) (Ordinary 0x3A ∷ Ordinary 0x2A ∷ []) ∙ ap (λ (x : List ℕ). x ++ 0x3A ∷ 0x2A ∷ []) (numbers_ordinary m))
     ∙ encodes-append m (0x3A ∷ 0x2A ∷ []) ∙ rw (e, small_bytes.3) refl in
     let b = before_colon p (0x2A ∷ []) (subst HasNoColon e (ncname_no_colon m h)) in
     ap (λ (x : List ℕ). grammar.ns_name (grammar.prefix_in x)) w ∙ rw b.0 refl

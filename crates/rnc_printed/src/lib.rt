@@ -8,9 +8,9 @@
 //! The others are for the proofs: a text is made of marks (`Marks` of `rnc_text`, whose `marks_laws` says that marks which are
 //! parted are cut into their pieces and stand for their characters), those of a grammar are `PrintedMarks`, their tokens are
 //! `MarkLexemes`, and the tree of these, with its prefixes, is `LinesSyntax`.
-//! In `proofs/`: `Escaping` and `Encoding` (escapes and runs, in bytes and in Unicode numbers), `MarksText` (the printed text
-//! is that of its marks), `Spelled` and `ReadMarks` (these are marks that are read), `Sentences` (their tokens are a
-//! sentence), `Nesting`, `Resolving` and `Rules` (the declarations), `Conditions`, `ReadsBack`;
+//! In `proofs/`: `Escaping` and `Encoding` (escapes and runs, in bytes and in Unicode numbers), `Colons` and `Digits` (names),
+//! `MarksText` (the printed text is that of its marks), `Spelled` and `ReadMarks` (these are marks that are read), `Sentences`
+//! (their tokens are a sentence), `Nesting`, `Resolving` and `Rules` (the declarations), `Conditions`, `FewItems`, `ReadsBack`;
 //! `Datatypes` (those of the table can be named), `Examples`.
 #![tactic(auto)]
 

@@ -1,14 +1,11 @@
 -- The characters of a file are Chars, and so the texts that they spell: of NCNames and of segments.
-use Rattle.std.proofs.Common.{◌≡◌, ◌∙◌, ◌⊎◌, inl, inr, refl, sym, subst, ap, ℕ, suc, ◌+◌, ◌≤◌, ◌<◌, ◌/◌, ◌%◌, Bool, true, false, ◌||◌, ◌&&◌, cond, arith}
-use Rattle.std.proofs.Common.{List, [], ◌∷◌, ◌++◌, length}
-use Rattle.std.specs.Prelude.{nat_le, nat_lt, ◌==◌, not, encode_utf8_all}
-use Rattle.std.specs.List.{list_all, AllByRecursion, position_or_len}
-use Rattle.std.specs.Prelude.{take, drop}
-use Rattle.std.specs.Char.{encode_utf8}
+use Rattle.std.proofs.Common.{◌≡◌, ◌∙◌, inl, inr, refl, sym, subst, ap, ℕ, ◌≤◌, ◌<◌, Bool, true, false, ◌||◌, ◌&&◌, cond, arith, List, [], ◌∷◌, ◌++◌}
+use Rattle.std.specs.Prelude.{nat_le, nat_lt}
+use Rattle.std.specs.List.{list_all, AllByRecursion}
 use Rattle.std.specs.Str.{all_scalars, IsUtf8, chars}
-use Rattle.std.proofs.lemmas.Bool.{and_parts, or_cases, lt-ltb, le-ltb, le-leb, leb-true, ltb-true, ltb-false, ne_eqb}
-use Rattle.std.proofs.lemmas.Str.{chars-encodes, encode_ascii}
-use Rattle.rng_model.specs.Characters.{is_xml_char, is_ncname, is_name_start, is_name_char, is_colon}
+use Rattle.std.proofs.lemmas.Bool.{and_parts, or_cases, lt-ltb, le-ltb, le-leb, leb-true}
+use Rattle.std.proofs.lemmas.Str.{chars-encodes}
+use Rattle.rng_model.specs.Characters.{is_xml_char, is_ncname}
 use Rattle.rnc_text.specs.Characters.{number_of, numbers_of, bytes_of}
 use Rattle.rnc_text.specs.Cut.{IsNext, Cuts}
 use Rattle.rnc_text.specs.Cut as cut
@@ -131,91 +128,3 @@ cut_pieces (cut.here e) h = tt
 cut_pieces (cut.next_is {cs} {all} {rest} {piece} {after} {pieces} n more e) h =
     let p = chars_parts (characters_in piece) after (subst AreChars n.parts h) in
     subst (AllByRecursion IsCharPiece) (sym e) ((n.is, p.0), cut_pieces more p.1)
-
--- ---- the bytes of a name hold no colon
-
-abbrev AreHigh : List ℕ → Type 0
-AreHigh bs = AllByRecursion (λ b. 128 ≤ b) bs
-
-high_at : (c : ℕ) (x y z : Bool) → x ≡ false
-    → AreHigh (cond x (c ∷ []) (cond y ((192 + c / 64) ∷ (128 + c % 64) ∷ [])
-    (cond z ((224 + c / 4096) ∷ (128 + c / 64 % 64) ∷ (128 + c % 64) ∷ [])
-    ((240 + c / 262144) ∷ (128 + c / 4096 % 64) ∷ (128 + c / 64 % 64) ∷ (128 + c % 64) ∷ []))))
-high_at c true y z e = false_true (sym e)
-high_at c false true z e = (omega arith, (omega arith, tt))
-high_at c false false true e = (omega arith, (omega arith, (omega arith, tt)))
-high_at c false false false e = (omega arith, (omega arith, (omega arith, (omega arith, tt))))
-
-high_bytes : (c : ℕ) → 128 ≤ c → AreHigh (encode_utf8 c)
-unfolding encode_utf8
-high_bytes c h = high_at c (nat_lt c 128) (nat_lt c 2048) (nat_lt c 65536) (le-ltb c 128 h)
-
-low_or_high : (c : ℕ) → (c < 128) ⊎ (128 ≤ c)
-low_or_high c = at_test (nat_lt c 128) refl
-  where
-    at_test : (b : Bool) → nat_lt c 128 ≡ b → (c < 128) ⊎ (128 ≤ c)
-    at_test true e = inl (ltb-true c 128 e)
-    at_test false e = inr (ltb-false c 128 e)
-
--- no byte is a colon
-abbrev pub HasNoColon : List ℕ → Type 0
-HasNoColon w = list_all (λ b. not (is_colon b)) w ≡ true
-
-no_colon_both : (xs ys : List ℕ) → HasNoColon xs → HasNoColon ys → HasNoColon (xs ++ ys)
-no_colon_both [] ys h i = i
-no_colon_both (x ∷ xs) ys h i =
-    let p = and_parts (not (is_colon x)) (list_all (λ b. not (is_colon b)) xs) h in
-    both_true (not (is_colon x)) (list_all (λ b. not (is_colon b)) (xs ++ ys)) p.0 (no_colon_both xs ys p.1 i)
-
-other_number : (b c : ℕ) → 128 ≤ b → c < 128 → (b == c) ≡ false
-other_number b c h l = ne_eqb b c (λ e. absurd (omega (arith, h, l, e)))
-
-high_no_colon : (bs : List ℕ) → AreHigh bs → HasNoColon bs
-high_no_colon [] h = refl
-high_no_colon (b ∷ bs) h =
-    both_true (not (is_colon b)) (list_all (λ b. not (is_colon b)) bs) (rw (other_number b 58 h.0 (omega arith)) refl) (high_no_colon bs h.1)
-
-character_no_colon : (c : ℕ) → not (is_colon c) ≡ true → HasNoColon (encode_utf8 c)
-character_no_colon c h = elim (low_or_high c) [
-  | inl lt ↦ subst HasNoColon (sym (encode_ascii c lt)) (both_true (not (is_colon c)) true h refl)
-  | inr high ↦ high_no_colon (encode_utf8 c) (high_bytes c high)
-]
-
-more_no_colon : (w : List ℕ) → list_all (λ d. is_name_char d && not (is_colon d)) w ≡ true → HasNoColon (encode_utf8_all w)
-more_no_colon [] h = refl
-more_no_colon (c ∷ w) h =
-    let p = and_parts (is_name_char c && not (is_colon c)) (list_all (λ d. is_name_char d && not (is_colon d)) w) h in
-    let q = and_parts (is_name_char c) (not (is_colon c)) p.0 in
-    no_colon_both (encode_utf8 c) (encode_utf8_all w) (character_no_colon c q.1) (more_no_colon w p.1)
-
-pub numbers_no_colon : (w : List ℕ) → is_ncname w ≡ true → HasNoColon (encode_utf8_all w)
-numbers_no_colon [] h = false_true h
-numbers_no_colon (c ∷ w) h =
-    let p = and_parts (is_name_start c && not (is_colon c)) (list_all (λ d. is_name_char d && not (is_colon d)) w) h in
-    let q = and_parts (is_name_start c) (not (is_colon c)) p.0 in
-    no_colon_both (encode_utf8 c) (encode_utf8_all w) (character_no_colon c q.1) (more_no_colon w p.1)
-
-colon_place : (p l : List ℕ) → HasNoColon p → position_or_len is_colon (p ++ 58 ∷ l) ≡ length p
-colon_place [] l h = refl
-colon_place (c ∷ p) l h =
-    let q = and_parts (not (is_colon c)) (list_all (λ b. not (is_colon b)) p) h in
-    let e = colon_place p l q.1 in
-    ap (λ (b : Bool). cond b (1 + position_or_len is_colon (p ++ 58 ∷ l)) 0) q.0 ∙ omega (arith, e)
-
-take_front : (p r : List ℕ) → take (length p) (p ++ r) ≡ p
-take_front [] r = refl
-take_front (c ∷ p) r = ap (λ (x : List ℕ). c ∷ x) (take_front p r)
-
-drop_front : (p r : List ℕ) (x : ℕ) → drop (length p + 1) (p ++ x ∷ r) ≡ r
-drop_front [] r x = refl
-drop_front (c ∷ p) r x = ap (λ (n : ℕ). drop n (c ∷ (p ++ x ∷ r))) one_more ∙ drop_front p r x
-  where
-    one_more : suc (length p) + 1 ≡ suc (length p + 1)
-    one_more = omega arith
-
--- what stands before the first colon, and what stands after it
-pub before_colon : (p l : List ℕ) → HasNoColon p → take (position_or_len is_colon (p ++ 58 ∷ l)) (p ++ 58 ∷ l) ≡ p
-before_colon p l h = ap (λ (n : ℕ). take n (p ++ 58 ∷ l)) (colon_place p l h) ∙ take_front p (58 ∷ l)
-
-pub after_colon : (p l : List ℕ) → HasNoColon p → drop (position_or_len is_colon (p ++ 58 ∷ l) + 1) (p ++ 58 ∷ l) ≡ l
-after_colon p l h = ap (λ (n : ℕ). drop (n + 1) (p ++ 58 ∷ l)) (colon_place p l h) ∙ drop_front p l 58

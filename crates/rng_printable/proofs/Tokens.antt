@@ -1,7 +1,8 @@
 -- The tokens of a file are well spelled.
-use Rattle.std.proofs.Common.{◌≡◌, ◌∙◌, refl, sym, subst, ap, ℕ, ◌+◌, List, [], ◌∷◌, ◌++◌, Option, Some, None, arith}
+use Rattle.std.proofs.Common.{◌≡◌, ◌∙◌, sym, subst, ap, ℕ, ◌+◌, List, [], ◌∷◌, ◌++◌, Option, Some, None, arith}
 use Rattle.std.specs.Prelude.{encode_utf8_all}
 use Rattle.std.specs.List.{AllByRecursion}
+use Rattle.std.proofs.lemmas.List.{map-append}
 use Rattle.std.proofs.lemmas.Str.{encodes-append, encode_ascii}
 use Rattle.rnc_text.specs.Characters.{number_of, numbers_of, bytes_of}
 use Rattle.rnc_text.specs.Cut.{Token, tokens_at, HasTokens}
@@ -14,28 +15,24 @@ use Rattle.rnc_text.specs.declared.token.Keyword.{Keyword}
 use Rattle.rnc_text.specs.declared.token.TokenKind.{TokenKind}
 use Rattle.rnc_syntax.specs.Lexeme.{lexeme_at, numbered, lexemes, prefix_in, local_in}
 use Rattle.rnc_printed.specs.Printable.{IsName}
+use Rattle.rnc_printed.proofs.Colons.{ncname_no_colon, before_colon}
 use Rattle.rng_printable.proofs.Characters.{AreChars, decoded_chars, chars_parts, chars_behind, text_of, name_of, IsCharPiece, cut_pieces}
-use Rattle.rng_printable.proofs.Characters.{numbers_no_colon, before_colon, after_colon}
 use Rattle.rng_printable.proofs.Rooms.{IsWellSpelled}
 
 -- ---- names with a colon
 
-numbers_both : (xs ys : List Character) → numbers_of (xs ++ ys) ≡ numbers_of xs ++ numbers_of ys
-numbers_both [] ys = refl
-numbers_both (x ∷ xs) ys = ap (λ (ns : List ℕ). number_of x ∷ ns) (numbers_both xs ys)
-
 bytes_both : (xs ys : List Character) → bytes_of (xs ++ ys) ≡ bytes_of xs ++ bytes_of ys
-bytes_both xs ys = ap encode_utf8_all (numbers_both xs ys) ∙ encodes-append (numbers_of xs) (numbers_of ys)
+bytes_both xs ys = ap encode_utf8_all (map-append number_of xs ys) ∙ encodes-append (numbers_of xs) (numbers_of ys)
 
 with_colon : (prefix rest : List Character) → bytes_of (prefix ++ Ordinary 0x3A ∷ rest) ≡ bytes_of prefix ++ 58 ∷ bytes_of rest
 with_colon prefix rest =
     bytes_both prefix (Ordinary 0x3A ∷ rest) ∙ ap (λ (w : List ℕ). bytes_of prefix ++ (w ++ bytes_of rest)) (encode_ascii 58 (omega arith))
 
 prefix_is : (prefix rest : List Character) → IsNcname prefix → prefix_in (bytes_of (prefix ++ Ordinary 0x3A ∷ rest)) ≡ bytes_of prefix
-prefix_is prefix rest h = ap prefix_in (with_colon prefix rest) ∙ before_colon (bytes_of prefix) (bytes_of rest) (numbers_no_colon (numbers_of prefix) h)
+prefix_is prefix rest h = ap prefix_in (with_colon prefix rest) ∙ (before_colon (bytes_of prefix) (bytes_of rest) (ncname_no_colon (numbers_of prefix) h)).0
 
 local_is : (prefix rest : List Character) → IsNcname prefix → local_in (bytes_of (prefix ++ Ordinary 0x3A ∷ rest)) ≡ bytes_of rest
-local_is prefix rest h = ap local_in (with_colon prefix rest) ∙ after_colon (bytes_of prefix) (bytes_of rest) (numbers_no_colon (numbers_of prefix) h)
+local_is prefix rest h = ap local_in (with_colon prefix rest) ∙ (before_colon (bytes_of prefix) (bytes_of rest) (ncname_no_colon (numbers_of prefix) h)).1
 
 -- ---- pieces
 

@@ -1,11 +1,8 @@
 -- The names of items tell them apart.
-use Rattle.std.proofs.Common.{◌≡◌, ◌∙◌, refl, sym, ap, subst, inl, inr, ℕ, suc, ◌+◌, ◌≤◌, ◌<◌, ◌^◌, Bool, true, false, cond, List, [], ◌∷◌, length}
-use Rattle.std.proofs.Common.{Option, Some, None, arith}
-use Rattle.std.specs.Prelude.{◌||◌, ◌==◌, decimal, not}
+use Rattle.std.proofs.Common.{◌≡◌, ◌∙◌, refl, sym, ap, subst, inl, inr, ℕ, ◌<◌, ◌^◌, Bool, true, List, [], ◌∷◌, length, Option, Some, None, arith}
+use Rattle.std.specs.Prelude.{◌==◌, decimal}
 use Rattle.std.specs.List.{filter_map, cons_option}
-use Rattle.std.specs.Str.Parse.{digits_value}
 use Rattle.std.proofs.lemmas.Bool.{or_cases, eqb-true}
-use Rattle.std.proofs.lemmas.Fmt.{decimal_is_IsNumeral}
 use Rattle.rng_print.specs.Numbering.{has, place_in}
 use Rattle.rng_print.specs.Same.{same_tree}
 use Rattle.rng_print.specs.PrintedText.{Item, element, pattern, same_item, element_in, pattern_in, item_name}
@@ -13,45 +10,11 @@ use Rattle.rng_print.proofs.Booleans.{false_true}
 use Rattle.rng_print.proofs.Equal.{item_exact, tree_exact, tree_itself, number_itself}
 use Rattle.rng_print.proofs.Numberings.{or_first, or_second}
 use Rattle.rng_model.specs.Lists.{Among}
+use Rattle.rnc_printed.proofs.Digits.{one_number, place_le, kept_le, one_place, tail_is}
 use Rattle.rng_reprinted.proofs.Listed.{among_has}
-
-one_number : (m n : ℕ) → m < 2 ^ 64 → n < 2 ^ 64 → decimal m ≡ decimal n → m ≡ n
-one_number m n i j e = sym (decimal_is_IsNumeral m i).1 ∙ ap (digits_value 10) e ∙ (decimal_is_IsNumeral n j).1
-
-tail_is : (c : ℕ) (v w : List ℕ) → c ∷ v ≡ c ∷ w → v ≡ w
-tail_is c v w e = cc
 
 heads_apart : (v w : List ℕ) → ◌≡◌ {A = List ℕ} (0x65 ∷ v) (0x70 ∷ w) → ⊥
 heads_apart v w e = let c : ◌≡◌ {A = ℕ} 0x65 0x70 = cc in omega (arith, c)
-
-place_le : {A : Type 0} (same : A → A → Bool) (xs : List A) (a : A) → place_in same xs a ≤ length xs
-place_le same [] a = omega arith
-place_le same (x ∷ xs) a = at_test (same a x) (place_le same xs a)
-  where
-    at_test : (b : Bool) → place_in same xs a ≤ length xs → cond (not b) (1 + place_in same xs a) 0 ≤ suc (length xs)
-    at_test true le = omega arith
-    at_test false le = omega (arith, le)
-
-kept_le : {A B : Type 0} (f : A → Option B) (xs : List A) → length (filter_map f xs) ≤ length xs
-kept_le f [] = omega arith
-kept_le f (x ∷ xs) = at_option (f x) (kept_le f xs)
-  where
-    at_option : (o : Option _) → length (filter_map f xs) ≤ length xs → length (cons_option o (filter_map f xs)) ≤ suc (length xs)
-    at_option None le = omega (arith, le)
-    at_option (Some y) le = omega (arith, le)
-
-one_place : {A : Type 0} (same : A → A → Bool) → ((a b : A) → same a b ≡ true → a ≡ b) → (xs : List A) (a b : A) → has same xs a ≡ true
-    → has same xs b ≡ true → place_in same xs a ≡ place_in same xs b → a ≡ b
-one_place same exact [] a b h i e = absurd (false_true h)
-one_place same exact (x ∷ xs) a b h i e = at_tests (same a x) (same b x) refl refl h i e (one_place same exact xs a b)
-  where
-    at_tests : (s t : Bool) → same a x ≡ s → same b x ≡ t → (s || has same xs a) ≡ true → (t || has same xs b) ≡ true
-        → cond (not s) (1 + place_in same xs a) 0 ≡ cond (not t) (1 + place_in same xs b) 0
-        → (has same xs a ≡ true → has same xs b ≡ true → place_in same xs a ≡ place_in same xs b → a ≡ b) → a ≡ b
-    at_tests true true p q h i e again = exact a x p ∙ sym (exact b x q)
-    at_tests true false p q h i e again = absurd (omega (arith, e))
-    at_tests false true p q h i e again = absurd (omega (arith, e))
-    at_tests false false p q h i e again = again h i (omega (arith, e))
 
 kept : {A : Type 0} (g : Item → Option A) (same : A → A → Bool) → ((a : A) → same a a ≡ true) → ((a b : A) → same a b ≡ true → a ≡ b) → (items : List Item)
     (i : Item) (a : A) → g i ≡ Some a → has same_item items i ≡ true → has same (filter_map g items) a ≡ true

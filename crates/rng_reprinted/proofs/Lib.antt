@@ -2,7 +2,6 @@ pub mod FineTrees
 pub mod RenamedSteps
 pub mod Listed
 pub mod ItemNames
-pub mod FewItems
 pub mod LinesFound
 pub mod Flattened
 pub mod ClassParts

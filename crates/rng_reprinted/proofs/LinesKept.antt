@@ -24,7 +24,7 @@ use Rattle.rng_simple.proofs.Renamed.{origin}
 use Rattle.rng_simple.proofs.SameRestrictions.{same_restrictions}
 use Rattle.rng_reprinted.specs.LinesSchema.{IsSchemaOfLines, IsReprinted, IsReprintedAs}
 use Rattle.rng_print.specs.SchemaText.{IsPrintedForm}
-use Rattle.rng_reprinted.proofs.FewItems.{items_few}
+use Rattle.rnc_printed.proofs.FewItems.{items_few}
 use Rattle.rng_reprinted.proofs.Flattened.{leaves_flattened, twos_flattened}
 use Rattle.rng_reprinted.proofs.GoodGrammars.{IsGoodTree, IsGoodBody, IsGoodGrammar, good_grammar}
 use Rattle.rng_reprinted.proofs.LineTrees.{leaf_at, placed, line_tree_of}
@@ -142,7 +142,7 @@ module _ (s r : Schema) (g : Grammar) (items : List Item) (h : IsReprinted s r g
 
 module _ (s r : Schema) (text : List ℕ) (h : IsReprintedAs s r text) where
   few_items : length h.printed.is_printed.items < 2 ^ 64
-  few_items = let n = items_few h.printed.grammar text h.printed.is_printed in let few = h.few in omega (arith, n, few)
+  few_items = let n = (items_few h.printed.grammar text h.printed.is_printed).0 in let few = h.few in omega (arith, n, few)
 
   is_reprinted : IsReprinted s r h.printed.grammar h.printed.is_printed.items
   is_reprinted = record { kept = h.kept; form = h.printed.is_form; numbered = h.printed.is_printed.numbered; few = few_items; lines = h.lines }
