@@ -15,7 +15,7 @@ use Rattle.rnc_text.specs.Cut.{Token, tokens_at, HasTokens}
 use Rattle.rnc_text.specs.Decoding.{IsDecoded}
 use Rattle.rnc_syntax.specs.Lexeme as grammar
 use Rattle.rng_print.specs.PrintedText.{escaped}
-use Rattle.rnc_text.specs.Marks.{Mark, space, line_end, word, cname, segment, sign, sign_text, mark_text, text_of_marks, ordinary, characters_of_mark}
+use Rattle.rnc_text.specs.Marks.{Mark, space, line_end, word, cname, segment, sign, sign_text, mark_text, text_of_marks, ordinary}
 use Rattle.rnc_text.specs.Marks.{characters_of_marks, piece_of_mark, IsMark, is_open, is_apart, begins_apart, AreParted, MarksAreCut, MarksAreDecoded}
 use Rattle.rnc_text.specs.Marks as marks
 use Rattle.rnc_printed.specs.MarkLexemes.{word_at, lexemes_from}

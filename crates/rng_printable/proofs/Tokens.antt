@@ -1,5 +1,5 @@
 -- The tokens of a file are well spelled.
-use Rattle.std.proofs.Common.{◌≡◌, ◌∙◌, refl, sym, subst, ap, ℕ, ◌+◌, List, [], ◌∷◌, ◌++◌, Option, Some, None, arith}
+use Rattle.std.proofs.Common.{◌≡◌, ◌∙◌, sym, subst, ap, ℕ, ◌+◌, List, [], ◌∷◌, ◌++◌, Option, Some, None, arith}
 use Rattle.std.specs.Prelude.{encode_utf8_all}
 use Rattle.std.specs.List.{AllByRecursion}
 use Rattle.std.proofs.lemmas.List.{map-append}
