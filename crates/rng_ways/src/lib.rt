@@ -6,6 +6,7 @@
 #![tactic(auto)]
 
 mod after;
+mod by_key;
 mod closing;
 mod filling;
 mod known;

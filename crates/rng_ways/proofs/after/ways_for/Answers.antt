@@ -27,10 +27,10 @@ pub returns-in-Text-clause-known : goal.returns-in-Text-clause-known
 returns-in-Text-clause-known c =
     if_ok c.ways.result _ _ (λ ws h. record {
       texts = h.1;
-      elements = by_key_longer IsElementKind c.args.grammar.now c.args.keys.now c.args.table.now c.ways.new.table h.0 c.args.known.now.elements.items
+      elements = by_key_longer IsElementKind c.args.grammar.now c.args.keys.now c.args.table.now c.ways.new.table h.0 c.args.known.now.elements
           c.requires.known.elements;
       attributes = by_key_longer IsAttributeKind c.args.grammar.now c.args.keys.now c.args.table.now c.ways.new.table h.0
-          c.args.known.now.attributes.items c.requires.known.attributes;
+          c.args.known.now.attributes c.requires.known.attributes;
       takers = c.requires.known.takers;
     }) (both_ok c.ways.result _ _ c.ways.ensures.longer c.ways.ensures.known)
 
@@ -39,7 +39,7 @@ returns-in-Attribute-clause-known c =
     if_ok c.attribute_ways.result _ _ (λ ws h. record {
       texts = known_longer c.args.grammar.now c.args.table.now c.attribute_ways.new.table kinds.Text h.0 c.args.known.now.texts c.requires.known.texts;
       elements = by_key_longer IsElementKind c.args.grammar.now c.args.keys.now c.args.table.now c.attribute_ways.new.table h.0
-          c.args.known.now.elements.items c.requires.known.elements;
+          c.args.known.now.elements c.requires.known.elements;
       attributes = h.1;
       takers = c.requires.known.takers;
     }) (both_ok c.attribute_ways.result _ _ c.attribute_ways.ensures.longer c.attribute_ways.ensures.known)

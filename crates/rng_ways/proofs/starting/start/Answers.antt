@@ -45,7 +45,7 @@ returns-clause-known c =
     record {
       texts = known_longer t old new kinds.Text c.in_ok-ways.ensures.longer c.args.known.now.texts c.requires.known.texts;
       elements = c.in_ok-ways.ensures.known;
-      attributes = by_key_longer IsAttributeKind t c.args.keys.now old new c.in_ok-ways.ensures.longer c.args.known.now.attributes.items
+      attributes = by_key_longer IsAttributeKind t c.args.keys.now old new c.in_ok-ways.ensures.longer c.args.known.now.attributes
           c.requires.known.attributes;
       takers = c.requires.known.takers;
     }
