@@ -29,6 +29,7 @@ use Rattle.rng_ways.specs.declared.way.Kind.TheVariants as kinds
 use Rattle.rng_ways.specs.declared.way.Place.{Place}
 use Rattle.rng_ways.specs.declared.way.Way.{Way}
 use Rattle.rng_ways.proofs.Composing.{side_law}
+use Rattle.rng_ways.proofs.KnownRests.{rests_longer}
 
 module _ (t : Table) (old new : List Node) (kind : Kind) (longer : Longer old new) where
   those_stay : (n : PatternNumber) (ways : List Way) → AreThoseOf t old kind n ways → AreThoseOf t new kind n ways
@@ -143,6 +144,7 @@ all_longer t keys old new longer known all = record {
   texts = known_longer t old new kinds.Text longer known.texts all.texts;
   elements = by_key_longer IsElementKind t keys old new longer known.elements all.elements;
   attributes = by_key_longer IsAttributeKind t keys old new longer known.attributes all.attributes;
+  rests = rests_longer old new longer known.rests all.rests;
   takers = all.takers;
 }
 

@@ -19,8 +19,8 @@ ghost use Rattle.rng_ways.specs.declared.way.Kind.TheVariants as kinds;
 ghost use Rattle.rng_ways.specs.declared.way.First.TheVariants as firsts;
 
 use crate::by_key::ways_by_key;
-use crate::closing::close;
 use crate::known::{Known, KnownByKey, is_same_name};
+use crate::rests::rest_of_tag;
 use crate::starting::number_at;
 use crate::texts::{allows, is_excepted, is_value};
 use crate::way::{First, Kind, Place, Way, Ways};
@@ -191,7 +191,7 @@ pub fn after_tag(
             rest,
         )?;
     }
-    close(alloc, table, rest)
+    rest_of_tag(alloc, table, &mut known.rests, rest)
 }
 
 /// What is left of a pattern once this has come first.

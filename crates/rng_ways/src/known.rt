@@ -6,6 +6,7 @@ ghost use Rattle.rng_patterns.specs.declared.pattern.PatternNumber.{PatternNumbe
 ghost use Rattle.rng_ways.specs.KnownWays.{AreAllKnown, HasKnown};
 ghost use Rattle.rng_ways.specs.declared.way.Way.{Way};
 
+use crate::rests::KnownRests;
 use crate::takers::Takers;
 use crate::way::{Way, Ways};
 use rng_keys::{NameKey, NameKeys};
@@ -29,6 +30,8 @@ pub struct Known {
     pub(crate) elements: KnownByKey,
     /// Those of attributes of the name that stands for a key, by keys.
     pub(crate) attributes: KnownByKey,
+    /// What is left of patterns once the attributes of a tag are taken.
+    pub(crate) rests: KnownRests,
     /// The elements that may have a name, by its key.
     pub(crate) takers: Takers,
 }
@@ -44,6 +47,7 @@ impl Known {
             texts: HashMap::new(alloc),
             elements: HashMap::new(alloc),
             attributes: HashMap::new(alloc),
+            rests: HashMap::new(alloc),
             takers,
         })
     }

@@ -11,6 +11,7 @@ mod closing;
 mod filling;
 mod known;
 mod leaves;
+mod rests;
 mod starting;
 mod takers;
 mod texts;
