@@ -29,7 +29,7 @@ use Rattle.rng_ways.specs.declared.way.Kind.TheVariants as kinds
 use Rattle.rng_ways.specs.declared.way.Place.{Place}
 use Rattle.rng_ways.proofs.Kept.{Obeys-hereditary, each_both}
 use Rattle.rng_ways.proofs.Offers.{inside_longer, law_moves, ways_stay}
-use Rattle.rng_ways.proofs.Standing.{behind-whole, stands_longer, stands_more}
+use Rattle.rng_ways.proofs.Standing.{behind-whole, stands_as, stands_itself, stands_longer, stands_more}
 use Rattle.rng_ways.proofs.WaysOfLeaves.{no_law}
 
 -- what stands for ways of a pattern are ways of it
@@ -285,6 +285,13 @@ member_made t n1 n2 kind ps p ways some all a b s =
         let cut = hereditary.sides choice x (choice_all (ps ++ p ∷ [])) h in
         let rest = hereditary.sides choice (choice_all ps) p (parts Q hereditary ps cut.1) in
         hereditary.of_both choice (s_joined choice x (choice_all ps)) p (hereditary.of_both choice x (choice_all ps) cut.0 rest.0) rest.1
+
+-- one that has none
+pub none_more : (t : Table) (ns : List Node) (kind : Kind) (ps : List (Simple ℕ)) (p : Simple ℕ) (some : List numbered.Way)
+    → AreWaysOf t ns kind (choice_all ps) some → AreWaysOf t ns kind p [] → AreWaysOf t ns kind (choice_all (ps ++ p ∷ [])) some
+none_more t ns kind ps p some a none =
+    member_made t ns ns kind ps p [] some some a none (stands_as ns some (λ t. ways_by (tree_of t ns) some) (λ t. ways_by (tree_of t ns) some ++ [])
+    (λ t. sym (append-nil (ways_by (tree_of t ns) some))) (stands_itself ns some a.inside))
 
 -- a choice over numbers, which ends in its last member
 pub over_same : (g : Reading) (f : ℕ → Simple ℕ) (ms : List ℕ) → Same g (choice_all (map f ms)) (choice_over f ms)

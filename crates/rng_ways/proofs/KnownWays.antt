@@ -1,10 +1,14 @@
 -- What is known of patterns stays so as a table grows.
-use Rattle.std.proofs.Common.{◌≡◌, ◌∙◌, ◌⊎◌, ◌<◌, ℕ, zero, suc, List, [], ◌∷◌, ◌++◌, length, slice_get, slice_set, Some, None}
-use Rattle.std.proofs.Common.{inl, inr, ⊎_elim, refl, sym, ap, subst, arith}
-use Rattle.std.specs.HashMap.{HashMap, IsEmpty}
+use Rattle.std.proofs.Common.{◌≡◌, ◌∙◌, ◌⊎◌, ◌<◌, ℕ, Bool, List, length, Some, None}
+use Rattle.std.proofs.Common.{true, ⊎_elim, sym, ap, subst, arith}
+use Rattle.std.proofs.lemmas.Bool.{cases_Bool}
+use Rattle.std.proofs.lemmas.Bool.Decides.{Decides-eqb}
+use Rattle.std.specs.HashMap.{HashMap, IsEmpty, get}
 use Rattle.std.specs.Map.{lookup}
 use Rattle.smallvec.specs.SmallVec.{SmallVec}
 use Rattle.rng_keys.specs.Keys.{Keys, name_at}
+use Rattle.rng_keys.specs.declared.name_keys.NameKey.{NameKey}
+use Rattle.rng_keys.specs.contracts.name_keys.NameKeyPartialEq.TheImpl as same_key
 use Rattle.rng_model.specs.Names.{Name}
 use Rattle.rng_model.specs.Table.{Table}
 use Rattle.rng_model.specs.Tree.{Simple}
@@ -16,7 +20,8 @@ use Rattle.rng_patterns.specs.declared.pattern.PatternNumber.{PatternNumber}
 use Rattle.rng_patterns.specs.contracts.pattern.PatternNumberPartialEq.TheImpl as same
 use Rattle.rng_patterns.proofs.Trees.{Longer-length, tree_stays}
 use Rattle.rng_ways.specs.Kinds.{IsElementNamed, IsNamed, Obeys, reading_of}
-use Rattle.rng_ways.specs.KnownWays.{AreAllKnown, AreKnown, AreKnownByKey, AreNone, AreThoseOf, HasKnown, IsAttributeKind, IsElementKind}
+use Rattle.rng_ways.specs.KnownWays.{AreAllKnown, AreKnown, AreKnownByKey, AreKnownFor, AreThoseOf, HasForKey, HasKnown, IsAttributeKind, IsElementKind}
+use Rattle.rng_ways.specs.KnownWays.{KeepsOtherKeys}
 use Rattle.rng_ways.specs.Ways.{AreWaysOf, ways_by}
 use Rattle.rng_ways.specs.declared.known.Known.{Known}
 use Rattle.rng_ways.specs.declared.way.Kind.{Kind}
@@ -24,6 +29,7 @@ use Rattle.rng_ways.specs.declared.way.Kind.TheVariants as kinds
 use Rattle.rng_ways.specs.declared.way.Place.{Place}
 use Rattle.rng_ways.specs.declared.way.Way.{Way}
 use Rattle.rng_ways.proofs.Composing.{side_law}
+use Rattle.rng_ways.proofs.KnownRests.{rests_longer}
 
 module _ (t : Table) (old new : List Node) (kind : Kind) (longer : Longer old new) where
   those_stay : (n : PatternNumber) (ways : List Way) → AreThoseOf t old kind n ways → AreThoseOf t new kind n ways
@@ -56,46 +62,33 @@ pub known_more : {Z : Type 0} (t : Table) (ns : List Node) (kind : Kind) (known 
 known_more t ns kind known more n ways all those within = λ m ws h. ⊎_elim (λ a. all m ws a)
     (λ b. subst (λ m. AreThoseOf t ns kind m ws) (sym b.0) (subst (AreThoseOf t ns kind n) (sym b.1) those)) (within m ws h)
 
--- nothing is known
-pub none_known : {Z : Type 0} (t : Table) (ns : List Node) (kind : Kind) (known : HashMap PatternNumber (SmallVec Way) Z) → IsEmpty known
-    → AreKnown t ns kind known
-none_known t ns kind known empty n ways h = absurd (none_is (subst (λ es. lookup (same.ghosts.eq n) es ≡ Some h.0) empty h.1))
+none_found : {K X Z : Type 0} (eq : K → K → Bool) (m : HashMap K X Z) → IsEmpty m → (k : K) (x : X) → get eq m k ≡ Some x → ⊥
+none_found eq m empty k x e = none_is (subst (λ es. lookup (eq k) es ≡ Some x) empty e)
   where
     none_is : {A : Type 0} {x : A} → None ≡ Some x → ⊥
     none_is e = cc
+
+-- nothing is known
+pub none_known : {Z : Type 0} (t : Table) (ns : List Node) (kind : Kind) (known : HashMap PatternNumber (SmallVec Way) Z) → IsEmpty known
+    → AreKnown t ns kind known
+none_known t ns kind known empty n ways h = absurd (none_found same.ghosts.eq known empty n h.0 h.1)
 
 -- ---- by key
 
 pub some_is : {A : Type 0} {x y : A} → Some x ≡ Some y → x ≡ y
 some_is e = cc
 
--- what stands in a list once an item was written
-set_found : {A : Type 0} (xs : List A) (k : ℕ) (y : A) (j : ℕ) (m : A) → slice_get (slice_set xs k y) j ≡ Some m
-    → ((j ≡ k) × (m ≡ y)) ⊎ (slice_get xs j ≡ Some m)
-set_found [] k y j m e = inr e
-set_found (x ∷ xs) zero y zero m e = inl (refl, sym (some_is e))
-set_found (x ∷ xs) zero y (suc j) m e = inr e
-set_found (x ∷ xs) (suc k) y zero m e = inr e
-set_found (x ∷ xs) (suc k) y (suc j) m e = ⊎_elim (λ a. inl (ap suc a.0, a.1)) (λ b. inr b) (set_found xs k y j m e)
+same_number : (a b : NameKey) → same_key.ghosts.eq a b ≡ true → a ≡ b
+same_number a b e = ap (λ k. record { 0 = k }) ((Decides-eqb a.0 b.0).0 e)
 
-set_length : {A : Type 0} (xs : List A) (k : ℕ) (y : A) → length (slice_set xs k y) ≡ length xs
-set_length [] k y = refl
-set_length (x ∷ xs) zero y = refl
-set_length (x ∷ xs) (suc k) y = ap suc (set_length xs k y)
+-- these are known for the key
+pub known_for : {Y Z : Type 0} (t : Table) (ns : List Node) (kind : Kind) (key : NameKey)
+    (known : HashMap NameKey (HashMap PatternNumber (SmallVec Way) Z) Y) (own : HashMap PatternNumber (SmallVec Way) Z) → HasForKey known key own → AreKnown t ns kind own → AreKnownFor t ns kind key known
+known_for t ns kind key known own at h = λ m there. subst (AreKnown t ns kind) (some_is (sym at ∙ there)) h
 
--- what stands in a list once one more stands behind it
-pub push_found : {A : Type 0} (xs : List A) (y : A) (j : ℕ) (m : A) → slice_get (xs ++ y ∷ []) j ≡ Some m → (m ≡ y) ⊎ (slice_get xs j ≡ Some m)
-push_found [] y zero m e = inl (sym (some_is e))
-push_found [] y (suc j) m e = inr e
-push_found (x ∷ xs) y zero m e = inr e
-push_found (x ∷ xs) y (suc j) m e = push_found xs y j m e
-
-pub none_by_key : {Z : Type 0} (Are : Name → Kind → Type 0) (t : Table) (keys : Keys) (ns : List Node)
-    (known : List (HashMap PatternNumber (SmallVec Way) Z)) → AreNone keys known → AreKnownByKey Are t keys ns known
-none_by_key Are t keys ns known none = record {
-  count = none.count;
-  each = λ k m kind at named. none_known t ns kind m (none.empty k m at);
-}
+pub none_by_key : {Y Z : Type 0} (Are : Name → Kind → Type 0) (t : Table) (keys : Keys) (ns : List Node)
+    (known : HashMap NameKey (HashMap PatternNumber (SmallVec Way) Z) Y) → IsEmpty known → AreKnownByKey Are t keys ns known
+none_by_key Are t keys ns known empty = λ k kind named m at. absurd (none_found same_key.ghosts.eq known empty k m at)
 
 -- the ways are told by the name alone
 abbrev pub AreTold : (Name → Kind → Type 0) → Type 0
@@ -130,31 +123,28 @@ same_attributes t ns (kinds.Attribute q) (kinds.Attribute r) name a b n ws h = r
   };
 }
 
-module _ {Z : Type 0} (Are : Name → Kind → Type 0) (t : Table) (keys : Keys) (old new : List Node) (longer : Longer old new)
-    (known : List (HashMap PatternNumber (SmallVec Way) Z)) (all : AreKnownByKey Are t keys old known) where
+module _ {Y Z : Type 0} (Are : Name → Kind → Type 0) (t : Table) (keys : Keys) (old new : List Node) (longer : Longer old new)
+    (known : HashMap NameKey (HashMap PatternNumber (SmallVec Way) Z) Y) (all : AreKnownByKey Are t keys old known) where
   pub by_key_longer : AreKnownByKey Are t keys new known
-  by_key_longer = record {
-    count = all.count;
-    each = λ k m kind at named. known_longer t old new kind longer m (all.each k m kind at named);
-  }
+  by_key_longer = λ k kind named m at. known_longer t old new kind longer m (all k kind named m at)
 
-  -- what is known for one name has changed
-  pub by_key_changed : AreTold Are → (k : ℕ) (kind : Kind) (more : HashMap PatternNumber (SmallVec Way) Z) → Are (name_at keys k) kind
-      → AreKnown t new kind more → AreKnownByKey Are t keys new (slice_set known k more)
-  by_key_changed same k kind more named h = record {
-    count = set_length known k more ∙ all.count;
-    each = λ j m other at told. ⊎_elim
-        (λ a. subst (AreKnown t new other) (sym a.1)
-        (λ n ws is. same t new kind other (name_at keys k) named (subst (λ j. Are (name_at keys j) other) a.0 told) n ws (h n ws is)))
-        (λ b. known_longer t old new other longer m (all.each j m other b told)) (set_found known k more j m at);
-  }
+  -- what is known for one key has changed
+  pub by_key_changed : AreTold Are → (key : NameKey) (kind : Kind) (more : HashMap NameKey (HashMap PatternNumber (SmallVec Way) Z) Y)
+      → Are (name_at keys key.0) kind → AreKnownFor t new kind key more → KeepsOtherKeys key known more → AreKnownByKey Are t keys new more
+  by_key_changed same key kind more named h others = λ k other told m at. ⊎_elim
+      (λ own.
+      let is = same_number key k own in
+      λ n ws found. same t new kind other (name_at keys key.0) named (subst (λ (j : NameKey). Are (name_at keys j.0) other) (sym is) told) n ws
+      (h m (subst (λ j. HasForKey more j m) (sym is) at) n ws found))
+      (λ apart. known_longer t old new other longer m (all k other told m (sym (others k apart) ∙ at))) (cases_Bool (same_key.ghosts.eq key k))
 
 pub all_longer : (t : Table) (keys : Keys) (old new : List Node) → Longer old new → (known : Known) → AreAllKnown t keys old known
     → AreAllKnown t keys new known
 all_longer t keys old new longer known all = record {
   texts = known_longer t old new kinds.Text longer known.texts all.texts;
-  elements = by_key_longer IsElementKind t keys old new longer known.elements.items all.elements;
-  attributes = by_key_longer IsAttributeKind t keys old new longer known.attributes.items all.attributes;
+  elements = by_key_longer IsElementKind t keys old new longer known.elements all.elements;
+  attributes = by_key_longer IsAttributeKind t keys old new longer known.attributes all.attributes;
+  rests = rests_longer old new longer known.rests all.rests;
   takers = all.takers;
 }
 

@@ -7,6 +7,7 @@ pub mod Rows
 mod WaysOfLeaves
 mod Composing
 mod Weights
+mod KnownRests
 pub mod KnownWays
 mod ElementTakers
 mod Bareness

@@ -1,8 +1,10 @@
 -- Ways that are known of patterns.
-use Rattle.std.specs.Prelude.{◌≡◌, ◌<◌, ℕ, List, Some, length, slice_get}
-use Rattle.std.specs.HashMap.{HashMap, IsEmpty, get}
+use Rattle.std.specs.Prelude.{◌≡◌, ◌<◌, List, Some, false, length}
+use Rattle.std.specs.HashMap.{HashMap, get}
 use Rattle.smallvec.specs.SmallVec.{SmallVec}
 use Rattle.rng_keys.specs.Keys.{Keys, name_at}
+use Rattle.rng_keys.specs.declared.name_keys.NameKey.{NameKey}
+use Rattle.rng_keys.specs.contracts.name_keys.NameKeyPartialEq.TheImpl as same_key
 use Rattle.rng_model.specs.Names.{Name}
 use Rattle.rng_model.specs.Table.{Table}
 use Rattle.rng_model.specs.View.{name_of}
@@ -10,6 +12,7 @@ use Rattle.rng_patterns.specs.Node.{Node}
 use Rattle.rng_patterns.specs.Trees.{tree_of}
 use Rattle.rng_patterns.specs.declared.pattern.PatternNumber.{PatternNumber}
 use Rattle.rng_patterns.specs.contracts.pattern.PatternNumberPartialEq.TheImpl as same
+use Rattle.rng_ways.specs.KnownRests.{AreRestsOf}
 use Rattle.rng_ways.specs.Takers.{AreAllTold}
 use Rattle.rng_ways.specs.Ways.{AreWaysOf}
 use Rattle.rng_ways.specs.declared.known.Known.{Known}
@@ -42,21 +45,29 @@ IsAttributeKind q (kinds.Element r) = ⊥
 IsAttributeKind q (kinds.Attribute r) = name_of r.now ≡ q
 IsAttributeKind q kinds.Text = ⊥
 
--- so are all that are known for the names that stand for keys, where these are the kinds of a name
-pub record AreKnownByKey {Z : Type 0} (Are : Name → Kind → Type 0) (t : Table) (keys : Keys) (ns : List Node)
-    (known : List (HashMap PatternNumber (SmallVec Way) Z)) : Type 0 where
-  pub count : length known ≡ length keys.names
-  pub each : (k : ℕ) (m : HashMap PatternNumber (SmallVec Way) Z) (kind : Kind) → slice_get known k ≡ Some m → Are (name_at keys k) kind
-      → AreKnown t ns kind m
+-- what is known for this key, if it was met
+abbrev pub HasForKey : {Y Z : Type 0} → HashMap NameKey (HashMap PatternNumber (SmallVec Way) Z) Y → NameKey → HashMap PatternNumber (SmallVec Way) Z → Type 0
+HasForKey known k m = get same_key.ghosts.eq known k ≡ Some m
 
--- nothing is known for each key
-pub record AreNone {Z : Type 0} (keys : Keys) (known : List (HashMap PatternNumber (SmallVec Way) Z)) : Type 0 where
-  pub count : length known ≡ length keys.names
-  pub empty : (k : ℕ) (m : HashMap PatternNumber (SmallVec Way) Z) → slice_get known k ≡ Some m → IsEmpty m
+-- so is all that is known for this key
+abbrev pub AreKnownFor : {Y Z : Type 0} → Table → List Node → Kind → NameKey → HashMap NameKey (HashMap PatternNumber (SmallVec Way) Z) Y → Type 0
+AreKnownFor {Y} {Z} t ns kind k known = (m : HashMap PatternNumber (SmallVec Way) Z) → HasForKey known k m → AreKnown t ns kind m
 
--- and all that are known of strings, of elements and of attributes, and the elements that may have a name
+-- what is known for other keys has not changed
+abbrev pub KeepsOtherKeys : {Y Z : Type 0} → NameKey → HashMap NameKey (HashMap PatternNumber (SmallVec Way) Z) Y
+    → HashMap NameKey (HashMap PatternNumber (SmallVec Way) Z) Y → Type 0
+KeepsOtherKeys key old new = (k : NameKey) → same_key.ghosts.eq key k ≡ false → get same_key.ghosts.eq new k ≡ get same_key.ghosts.eq old k
+
+-- so is all that is known for the names that stand for keys, where these are the kinds of a name
+abbrev pub AreKnownByKey : {Y Z : Type 0} → (Name → Kind → Type 0) → Table → Keys → List Node
+    → HashMap NameKey (HashMap PatternNumber (SmallVec Way) Z) Y → Type 0
+AreKnownByKey Are t keys ns known = (k : NameKey) (kind : Kind) → Are (name_at keys k.0) kind → AreKnownFor t ns kind k known
+
+-- and all that are known of strings, of elements and of attributes, what is left once a tag is closed, and the elements that
+-- may have a name
 pub record AreAllKnown (t : Table) (keys : Keys) (ns : List Node) (known : Known) : Type 0 where
   pub texts : AreKnown t ns kinds.Text known.texts
-  pub elements : AreKnownByKey IsElementKind t keys ns known.elements.items
-  pub attributes : AreKnownByKey IsAttributeKind t keys ns known.attributes.items
+  pub elements : AreKnownByKey IsElementKind t keys ns known.elements
+  pub attributes : AreKnownByKey IsAttributeKind t keys ns known.attributes
+  pub rests : AreRestsOf ns known.rests
   pub takers : AreAllTold t keys known.takers

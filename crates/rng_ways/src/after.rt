@@ -18,8 +18,9 @@ ghost use Rattle.rng_ways.specs.Ways.{AreInside, AreWaysOf};
 ghost use Rattle.rng_ways.specs.declared.way.Kind.TheVariants as kinds;
 ghost use Rattle.rng_ways.specs.declared.way.First.TheVariants as firsts;
 
-use crate::closing::close;
-use crate::known::{Known, KnownWays, is_same_name};
+use crate::by_key::ways_by_key;
+use crate::known::{Known, KnownByKey, is_same_name};
+use crate::rests::rest_of_tag;
 use crate::starting::number_at;
 use crate::texts::{allows, is_excepted, is_value};
 use crate::way::{First, Kind, Place, Way, Ways};
@@ -46,14 +47,14 @@ fn attribute_ways(
     grammar: &SimpleGrammar,
     keys: &NameKeys,
     table: &mut PatternTable,
-    known: &mut Vec<KnownWays>,
+    known: &mut KnownByKey,
     name: &Name,
     number: PatternNumber,
 ) -> Result<Ways, OutOfMemory>
     requires inside { number.0 < length table.old }
-    requires known { AreKnownByKey IsAttributeKind grammar.now keys.now table.old known.old.items }
+    requires known { AreKnownByKey IsAttributeKind grammar.now keys.now table.old known.old }
     ensures longer { OnOk result (Longer table.old table.new) }
-    ensures known { OnOk result (AreKnownByKey IsAttributeKind grammar.now keys.now table.new known.new.items) }
+    ensures known { OnOk result (AreKnownByKey IsAttributeKind grammar.now keys.now table.new known.new) }
     ensures ways { IfOk result (λ ws. AreWaysOf grammar.now table.new (kinds.Attribute name.entry) (tree_of grammar.now table.old number.0) ws.items) }
 {
     let key = keys.key(name);
@@ -69,11 +70,12 @@ fn attribute_ways(
             number,
         );
     }
-    ways(
+    ways_by_key(
         alloc,
         grammar,
         table,
-        &mut known[key.0],
+        known,
+        key,
         Elements::Any,
         Kind::Attribute(name),
         number,
@@ -189,7 +191,7 @@ pub fn after_tag(
             rest,
         )?;
     }
-    close(alloc, table, rest)
+    rest_of_tag(alloc, table, &mut known.rests, rest)
 }
 
 /// What is left of a pattern once this has come first.

@@ -1,15 +1,15 @@
 // Ways that are known of patterns.
-ghost use Rattle.std.specs.Prelude.{◌≡◌, ◌⊎◌, IfOk, IfSome, List, OnOk, length, true};
-ghost use Rattle.rng_keys.specs.Keys.{Keys};
+ghost use Rattle.std.specs.Prelude.{◌≡◌, ◌⊎◌, IfOk, IfSome, List, OnOk, true};
 ghost use Rattle.rng_model.specs.View.{name_of};
 ghost use Rattle.rng_patterns.specs.Node.{Node};
 ghost use Rattle.rng_patterns.specs.declared.pattern.PatternNumber.{PatternNumber};
-ghost use Rattle.rng_ways.specs.KnownWays.{AreAllKnown, AreNone, HasKnown};
+ghost use Rattle.rng_ways.specs.KnownWays.{AreAllKnown, HasKnown};
 ghost use Rattle.rng_ways.specs.declared.way.Way.{Way};
 
+use crate::rests::KnownRests;
 use crate::takers::Takers;
 use crate::way::{Way, Ways};
-use rng_keys::NameKeys;
+use rng_keys::{NameKey, NameKeys};
 use rng_model::{Name, OutOfMemory, SimpleGrammar};
 use rng_patterns::PatternNumber;
 use smallvec::SmallVec;
@@ -19,14 +19,19 @@ use std::collections::HashMap;
 /// The ways of patterns, as far as they are known, to take one kind of what comes first.
 pub type KnownWays = HashMap<PatternNumber, Ways>;
 
+/// Those that are known for the keys of names that were met.
+pub type KnownByKey = HashMap<NameKey, KnownWays>;
+
 /// The ways of patterns that are known, for each kind of what comes first.
 #[derive(Drop)]
 pub struct Known {
     pub(crate) texts: KnownWays,
     /// Those of elements of the name that stands for a key, by keys.
-    pub(crate) elements: Vec<KnownWays>,
+    pub(crate) elements: KnownByKey,
     /// Those of attributes of the name that stands for a key, by keys.
-    pub(crate) attributes: Vec<KnownWays>,
+    pub(crate) attributes: KnownByKey,
+    /// What is left of patterns once the attributes of a tag are taken.
+    pub(crate) rests: KnownRests,
     /// The elements that may have a name, by its key.
     pub(crate) takers: Takers,
 }
@@ -37,27 +42,15 @@ impl Known {
     pub fn new(alloc: Global, grammar: &SimpleGrammar, keys: &NameKeys) -> Result<Self, OutOfMemory>
         ensures { IfOk result (λ known. (ns : List Node) → AreAllKnown grammar.now keys.now ns known) }
     {
-        let elements = none_known(alloc, keys)?;
-        let attributes = none_known(alloc, keys)?;
         let takers = Takers::new(alloc, grammar, keys)?;
         Ok(Known {
             texts: HashMap::new(alloc),
-            elements,
-            attributes,
+            elements: HashMap::new(alloc),
+            attributes: HashMap::new(alloc),
+            rests: HashMap::new(alloc),
             takers,
         })
     }
-}
-
-/// Nothing is known for each of these keys. The error is want of memory.
-fn none_known(alloc: Global, keys: &NameKeys) -> Result<Vec<KnownWays>, OutOfMemory>
-    ensures { IfOk result (λ all. AreNone keys.now all.items) }
-{
-    let mut all = Vec::new(alloc);
-    'keys: for _ in 0..keys.len() {
-        all.push(HashMap::new(alloc))?;
-    }
-    Ok(all)
 }
 
 /// A copy of ways. The error is want of memory.

@@ -6,10 +6,12 @@
 #![tactic(auto)]
 
 mod after;
+mod by_key;
 mod closing;
 mod filling;
 mod known;
 mod leaves;
+mod rests;
 mod starting;
 mod takers;
 mod texts;

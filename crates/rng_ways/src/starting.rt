@@ -10,10 +10,10 @@ ghost use Rattle.rng_ways.specs.Ways.{AreInside, AreWaysOf};
 ghost use Rattle.rng_ways.specs.Starting.{AreBodies, AreStarts, IsBodyOf, IsReady};
 ghost use Rattle.rng_ways.specs.Takers.{AreOfKey};
 
-use crate::known::{Known, KnownWays};
+use crate::by_key::ways_by_key;
+use crate::known::{Known, KnownByKey};
 use crate::leaves::element_takes;
 use crate::way::{Kind, Way, Ways};
-use crate::ways::ways;
 use rng_keys::{NameKey, NameKeys};
 use rng_model::{Name, OutOfMemory, PatternId, SimpleGrammar};
 use rng_patterns::{Elements, Pattern, PatternNumber, PatternTable};
@@ -66,26 +66,27 @@ fn element_ways(
     grammar: &SimpleGrammar,
     keys: &NameKeys,
     table: &mut PatternTable,
-    known: &mut Vec<KnownWays>,
+    known: &mut KnownByKey,
     takers: Elements,
     key: NameKey,
     number: PatternNumber,
 ) -> Result<Ways, OutOfMemory>
     requires inside { number.0 < length table.old }
     requires key { key.0 < length keys.now.names }
-    requires known { AreKnownByKey IsElementKind grammar.now keys.now table.old known.old.items }
+    requires known { AreKnownByKey IsElementKind grammar.now keys.now table.old known.old }
     requires takers { AreOfKey grammar.now keys.now key.0 takers }
     ensures longer { OnOk result (Longer table.old table.new) }
-    ensures known { OnOk result (AreKnownByKey IsElementKind grammar.now keys.now table.new known.new.items) }
+    ensures known { OnOk result (AreKnownByKey IsElementKind grammar.now keys.now table.new known.new) }
     ensures ways { IfOk result (λ ws. (kind : Kind) × IsElementKind (name_at keys.now key.0) kind
         × AreWaysOf grammar.now table.new kind (tree_of grammar.now table.old number.0) ws.items) }
 {
     let name = keys.name(key);
-    ways(
+    ways_by_key(
         alloc,
         grammar,
         table,
-        &mut known[key.0],
+        known,
+        key,
         takers,
         Kind::Element(name),
         number,

@@ -171,6 +171,9 @@ fn ways_of_choice(
 {
     let mut all = SmallVec::new(alloc);
     'members: for member in members {
+        if is_idle(table, takers, *member) {
+            continue;
+        }
         let ways = ways(alloc, grammar, table, known, takers, kind, *member)?;
         add_filled(alloc, table, Hole::Whole, ways.as_slice(), &mut all)?;
     }

@@ -1,5 +1,6 @@
 use Rattle.std.proofs.Common.{rules}
 use Rattle.rng_patterns.proofs.Choices.{if_ok}
+use Rattle.rng_ways.proofs.Closings.{both_ok}
 use Rattle.rng_ways.proofs.KnownWays.{all_longer}
 use Rattle.rng_ways.proofs.Starts.{ready_longer}
 use Rattle.rng_ways.proofs.Tags.{one_behind_more, tag_behind}
@@ -16,15 +17,26 @@ attrs-preserved c = record {
   known = c.in_ok-rest.ensures.known;
 }
 
+pub rest_of_tag-requires-clause-known : goal.rest_of_tag-requires-clause-known
+rest_of_tag-requires-clause-known c = c.attrs.invariant.known.rests
+
 pub returns-clause-after : goal.returns-clause-after
 returns-clause-after c =
-    if_ok c.close.result _ _ (λ n h. tag_behind c.args.grammar.now c.args.table.now c.attrs.table c.close.new.table c.args.attrs.now c.attrs.attr-index
-    c.args.number c.attrs.rest n c.attrs-test.false c.attrs.invariant.behind h) c.close.ensures.closed
+    if_ok c.rest_of_tag.result _ _ (λ n h. tag_behind c.args.grammar.now c.args.table.now c.attrs.table c.rest_of_tag.new.table c.args.attrs.now
+    c.attrs.attr-index c.args.number c.attrs.rest n c.attrs-test.false c.attrs.invariant.behind h) c.rest_of_tag.ensures.closed
 
 pub after-requires-clause-known : goal.after-requires-clause-known
 after-requires-clause-known c = c.attrs.invariant.known
 
 pub returns-clause-known : goal.returns-clause-known
 returns-clause-known c =
-    if_ok c.close.result _ _ (λ n h. all_longer c.args.grammar.now c.args.keys.now c.attrs.table c.close.new.table h c.attrs.known c.attrs.invariant.known)
-    c.close.ensures.longer
+    let t = c.args.grammar.now in
+    let known = c.attrs.known in
+    if_ok c.rest_of_tag.result _ _ (λ n h.
+    let more = all_longer t c.args.keys.now c.attrs.table c.rest_of_tag.new.table h.0 known c.attrs.invariant.known in record {
+      texts = more.texts;
+      elements = more.elements;
+      attributes = more.attributes;
+      rests = h.1;
+      takers = more.takers;
+    }) (both_ok c.rest_of_tag.result _ _ c.rest_of_tag.ensures.longer c.rest_of_tag.ensures.known)

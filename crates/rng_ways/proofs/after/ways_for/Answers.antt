@@ -5,6 +5,7 @@ use Rattle.rng_ways.specs.After.{AreWaysFor}
 use Rattle.rng_ways.specs.KnownWays.{IsAttributeKind, IsElementKind}
 use Rattle.rng_ways.specs.declared.way.Kind.TheVariants as kinds
 use Rattle.rng_ways.proofs.Closings.{both_ok}
+use Rattle.rng_ways.proofs.KnownRests.{rests_longer}
 use Rattle.rng_ways.proofs.KnownWays.{by_key_longer, known_longer}
 use Rattle.rng_ways.proofs.Behind.{ways_for_attribute, ways_for_text}
 use Rattle.rng_ways.proofs.after.ways_for.Goals as goal
@@ -27,10 +28,11 @@ pub returns-in-Text-clause-known : goal.returns-in-Text-clause-known
 returns-in-Text-clause-known c =
     if_ok c.ways.result _ _ (λ ws h. record {
       texts = h.1;
-      elements = by_key_longer IsElementKind c.args.grammar.now c.args.keys.now c.args.table.now c.ways.new.table h.0 c.args.known.now.elements.items
+      elements = by_key_longer IsElementKind c.args.grammar.now c.args.keys.now c.args.table.now c.ways.new.table h.0 c.args.known.now.elements
           c.requires.known.elements;
       attributes = by_key_longer IsAttributeKind c.args.grammar.now c.args.keys.now c.args.table.now c.ways.new.table h.0
-          c.args.known.now.attributes.items c.requires.known.attributes;
+          c.args.known.now.attributes c.requires.known.attributes;
+      rests = rests_longer c.args.table.now c.ways.new.table h.0 c.args.known.now.rests c.requires.known.rests;
       takers = c.requires.known.takers;
     }) (both_ok c.ways.result _ _ c.ways.ensures.longer c.ways.ensures.known)
 
@@ -39,7 +41,8 @@ returns-in-Attribute-clause-known c =
     if_ok c.attribute_ways.result _ _ (λ ws h. record {
       texts = known_longer c.args.grammar.now c.args.table.now c.attribute_ways.new.table kinds.Text h.0 c.args.known.now.texts c.requires.known.texts;
       elements = by_key_longer IsElementKind c.args.grammar.now c.args.keys.now c.args.table.now c.attribute_ways.new.table h.0
-          c.args.known.now.elements.items c.requires.known.elements;
+          c.args.known.now.elements c.requires.known.elements;
       attributes = h.1;
+      rests = rests_longer c.args.table.now c.attribute_ways.new.table h.0 c.args.known.now.rests c.requires.known.rests;
       takers = c.requires.known.takers;
     }) (both_ok c.attribute_ways.result _ _ c.attribute_ways.ensures.longer c.attribute_ways.ensures.known)

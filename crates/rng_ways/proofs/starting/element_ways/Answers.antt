@@ -1,5 +1,4 @@
-use Rattle.std.proofs.Common.{refl, sym}
-use Rattle.std.proofs.lemmas.Option.{slice_get_read}
+use Rattle.std.proofs.Common.{refl}
 use Rattle.rng_model.specs.View.{name_of}
 use Rattle.rng_patterns.proofs.Choices.{if_ok}
 use Rattle.rng_ways.specs.KnownWays.{IsElementKind}
@@ -9,22 +8,21 @@ use Rattle.rng_ways.proofs.KnownWays.{by_key_changed, same_elements}
 use Rattle.rng_ways.proofs.ElementTakers.{element_takers}
 use Rattle.rng_ways.proofs.starting.element_ways.Goals as goal
 
-pub ways-requires-clause-known : goal.ways-requires-clause-known
-ways-requires-clause-known c =
-    let count = c.requires.known.count in
-    c.requires.known.each c.args.key.0 c.index_mut.result.now (kinds.Element c.name-name.result)
-    (slice_get_read c.args.known.now.items _ c.args.key.0 c.index_mut.result.now (sym count) c.requires.key c.index_mut.ensures.value) c.name-name.ensures.name
+pub ways_by_key-requires-clause-known : goal.ways_by_key-requires-clause-known
+ways_by_key-requires-clause-known c = c.requires.known c.args.key (kinds.Element c.name-name.result) c.name-name.ensures.name
 
-pub ways-requires-clause-takers : goal.ways-requires-clause-takers
-ways-requires-clause-takers c =
+pub ways_by_key-requires-clause-takers : goal.ways_by_key-requires-clause-takers
+ways_by_key-requires-clause-takers c =
     element_takers c.args.grammar.now c.args.keys.now c.args.key.0 (name_of c.name-name.result.now) c.name-name.ensures.own
     (kinds.Element c.name-name.result) c.args.takers refl c.requires.takers
 
 pub returns-clause-known : goal.returns-clause-known
 returns-clause-known c =
-    if_ok c.ways.result _ _ (λ ws h. by_key_changed IsElementKind c.args.grammar.now c.args.keys.now c.args.table.now c.ways.new.table h.0
-    c.args.known.now.items c.requires.known same_elements c.args.key.0 (kinds.Element c.name-name.result) c.ways.new.known c.name-name.ensures.name h.1)
-    (both_ok c.ways.result _ _ c.ways.ensures.longer c.ways.ensures.known)
+    if_ok c.ways_by_key.result _ _ (λ ws h. by_key_changed IsElementKind c.args.grammar.now c.args.keys.now c.args.table.now c.ways_by_key.new.table h.0
+    c.args.known.now c.requires.known same_elements c.args.key (kinds.Element c.name-name.result) c.ways_by_key.new.known c.name-name.ensures.name
+    h.1.0 h.1.1) (both_ok c.ways_by_key.result _ _ c.ways_by_key.ensures.longer
+    (both_ok c.ways_by_key.result _ _ c.ways_by_key.ensures.known c.ways_by_key.ensures.others))
 
 pub returns-clause-ways : goal.returns-clause-ways
-returns-clause-ways c = if_ok c.ways.result _ _ (λ ws h. (kinds.Element c.name-name.result, c.name-name.ensures.name, h)) c.ways.ensures.ways
+returns-clause-ways c =
+    if_ok c.ways_by_key.result _ _ (λ ws h. (kinds.Element c.name-name.result, c.name-name.ensures.name, h)) c.ways_by_key.ensures.ways

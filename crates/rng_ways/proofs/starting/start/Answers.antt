@@ -8,6 +8,7 @@ use Rattle.rng_ways.specs.KnownWays.{IsAttributeKind}
 use Rattle.rng_ways.specs.declared.way.Kind.TheVariants as kinds
 use Rattle.rng_ways.specs.declared.way.Place.TheVariants as places
 use Rattle.rng_ways.specs.declared.way.Way as numbered
+use Rattle.rng_ways.proofs.KnownRests.{rests_longer}
 use Rattle.rng_ways.proofs.KnownWays.{by_key_longer, element_kept, element_law, known_longer}
 use Rattle.rng_ways.proofs.Starts.{ready_longer, starts_made}
 use Rattle.rng_ways.proofs.starting.start.Goals as goal
@@ -45,7 +46,8 @@ returns-clause-known c =
     record {
       texts = known_longer t old new kinds.Text c.in_ok-ways.ensures.longer c.args.known.now.texts c.requires.known.texts;
       elements = c.in_ok-ways.ensures.known;
-      attributes = by_key_longer IsAttributeKind t c.args.keys.now old new c.in_ok-ways.ensures.longer c.args.known.now.attributes.items
+      attributes = by_key_longer IsAttributeKind t c.args.keys.now old new c.in_ok-ways.ensures.longer c.args.known.now.attributes
           c.requires.known.attributes;
+      rests = rests_longer old new c.in_ok-ways.ensures.longer c.args.known.now.rests c.requires.known.rests;
       takers = c.requires.known.takers;
     }

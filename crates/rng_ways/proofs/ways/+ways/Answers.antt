@@ -17,13 +17,19 @@ use Rattle.rng_ways.specs.Kinds.{Obeys, connector_of, reading_of, weight}
 use Rattle.rng_ways.specs.Ways.{AreWaysOf}
 use Rattle.rng_ways.proofs.Adding.{either_member}
 use Rattle.rng_ways.proofs.Composing.{both_made, copies_made, first_made, group_made, member_made, opened_hands_on, opened_same, over_hands_on}
-use Rattle.rng_ways.proofs.Composing.{map_numbers, no_order_between, over_same, side_law, ways_of_same}
+use Rattle.rng_ways.proofs.Composing.{map_numbers, no_order_between, none_more, over_same, side_law, ways_of_same}
 use Rattle.rng_ways.proofs.Kept.{Obeys-hereditary, choice_has}
 use Rattle.rng_ways.proofs.KnownWays.{known_longer, known_more, those_known}
 use Rattle.rng_ways.proofs.Nodes.{is_over, other_single, parts_there, single_alone}
 use Rattle.rng_ways.proofs.ElementTakers.{idle_ways}
 use Rattle.rng_ways.proofs.Weights.{member_less, opened_less, right_less}
 use Rattle.rng_ways.proofs.ways.+ways.Goals as goal
+
+one_taken : (f : PatternNumber → Simple ℕ) (ms : List PatternNumber) (i : ℕ) (d : PatternNumber) → i < length ms
+    → map f (take i ms) ++ f (get_or ms i d) ∷ [] ≡ map f (take (i + 1) ms)
+one_taken f ms i d inside =
+    let next : i + 1 ≡ suc i = omega arith in
+    sym (ap (map f) (ap (λ k. take k ms) next ∙ take-suc ms i d inside) ∙ map-append f (take i ms) (get_or ms i d ∷ []))
 
 pub new_ways-ways_of_choice-requires : goal.new_ways-ways_of_choice-requires
 new_ways-ways_of_choice-requires t c =
@@ -241,10 +247,8 @@ ways_of_choice-members-preserved t c =
     let f : PatternNumber → Simple ℕ = λ m. tree_of t0 n0 m.0 in
     let inside = c.requires.inside i none c.members-test.true in
     let is = tree_stays t0 n0 before (get_or ms i none).0 c.members.invariant.longer inside in
-    let next : i + 1 ≡ suc i = omega arith in
     let longer1 = Longer-trans n0 before n1 c.members.invariant.longer c.in_ok-ways.ensures.longer in
-    let cut : map f (take i ms) ++ f (get_or ms i none) ∷ [] ≡ map f (take (i + 1) ms) =
-    sym (ap (map f) (ap (λ k. take k ms) next ∙ take-suc ms i none c.members-test.true) ∙ map-append f (take i ms) (get_or ms i none ∷ [])) in
+    let cut = one_taken f ms i none c.members-test.true in
     record {
       longer = Longer-trans n0 n1 n2 longer1 c.in_ok-add_filled.ensures.longer;
       known = known_longer t0 n1 n2 c.args.kind c.in_ok-add_filled.ensures.longer c.ways.new.known c.in_ok-ways.ensures.known;
@@ -254,6 +258,34 @@ ways_of_choice-members-preserved t c =
           (subst (AreWaysOf t0 n1 c.args.kind (f (get_or ms i none))) (sym c.as_slice.ensures)
           (subst (λ p. AreWaysOf t0 n1 c.args.kind p c.in_ok-ways.ways.items) is c.in_ok-ways.ensures.ways))
           c.in_ok-add_filled.ensures.ways);
+    }
+
+pub ways_of_choice-is_idle-requires : goal.ways_of_choice-is_idle-requires
+ways_of_choice-is_idle-requires t c =
+    let none : PatternNumber = record { 0 = 0 } in
+    let inside = c.requires.inside c.members.member-index none c.members-test.true in
+    let more = Longer-length c.args.table.now c.members.table c.members.invariant.longer in
+    omega (arith, inside, more)
+
+pub ways_of_choice-members-preserved-then-is_idle : goal.ways_of_choice-members-preserved-then-is_idle
+ways_of_choice-members-preserved-then-is_idle t c =
+    let t0 = c.args.grammar.now in
+    let n0 = c.args.table.now in
+    let before = c.members.table in
+    let ms : List PatternNumber = c.args.members.now in
+    let i = c.members.member-index in
+    let none : PatternNumber = record { 0 = 0 } in
+    let f : PatternNumber → Simple ℕ = λ m. tree_of t0 n0 m.0 in
+    let inside = c.requires.inside i none c.members-test.true in
+    let is = tree_stays t0 n0 before (get_or ms i none).0 c.members.invariant.longer inside in
+    record {
+      longer = c.members.invariant.longer;
+      known = c.members.invariant.known;
+      ways = subst (λ ps. AreWaysOf t0 before c.args.kind (choice_all ps) c.members.all.items) (one_taken f ms i none c.members-test.true)
+          (none_more t0 before c.args.kind (map f (take i ms)) (f (get_or ms i none)) c.members.all.items c.members.invariant.ways
+          (subst (λ p. AreWaysOf t0 before c.args.kind p []) is
+          (idle_ways t0 before (tree_of t0 before (get_or ms i none).0) c.args.kind c.args.takers c.requires.takers
+          (c.is_idle.ensures c.if-is_idle.true t0))));
     }
 
 pub ways_of_choice-returns-clause-ways : goal.ways_of_choice-returns-clause-ways
