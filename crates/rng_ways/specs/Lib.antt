@@ -1,6 +1,7 @@
 pub mod Kinds
 pub mod Takers
 pub mod Ways
+pub mod Datatypes
 pub mod KnownWays
 pub mod Closing
 pub mod Starting

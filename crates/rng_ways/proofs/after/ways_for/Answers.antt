@@ -32,6 +32,7 @@ returns-in-Text-clause-known c =
       attributes = by_key_longer IsAttributeKind c.args.grammar.now c.args.keys.now c.args.table.now c.ways.new.table h.0
           c.args.known.now.attributes c.requires.known.attributes;
       takers = c.requires.known.takers;
+      datatypes = c.requires.known.datatypes;
     }) (both_ok c.ways.result _ _ c.ways.ensures.longer c.ways.ensures.known)
 
 pub returns-in-Attribute-clause-known : goal.returns-in-Attribute-clause-known
@@ -42,4 +43,5 @@ returns-in-Attribute-clause-known c =
           c.args.known.now.elements c.requires.known.elements;
       attributes = h.1;
       takers = c.requires.known.takers;
+      datatypes = c.requires.known.datatypes;
     }) (both_ok c.attribute_ways.result _ _ c.attribute_ways.ensures.longer c.attribute_ways.ensures.known)

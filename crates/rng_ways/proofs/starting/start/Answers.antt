@@ -48,4 +48,5 @@ returns-clause-known c =
       attributes = by_key_longer IsAttributeKind t c.args.keys.now old new c.in_ok-ways.ensures.longer c.args.known.now.attributes
           c.requires.known.attributes;
       takers = c.requires.known.takers;
+      datatypes = c.requires.known.datatypes;
     }
