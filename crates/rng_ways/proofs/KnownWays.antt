@@ -83,7 +83,8 @@ same_number a b e = ap (λ k. record { 0 = k }) ((Decides-eqb a.0 b.0).0 e)
 
 -- these are known for the key
 pub known_for : {Y Z : Type 0} (t : Table) (ns : List Node) (kind : Kind) (key : NameKey)
-    (known : HashMap NameKey (HashMap PatternNumber (SmallVec Way) Z) Y) (own : HashMap PatternNumber (SmallVec Way) Z) → HasForKey known key own → AreKnown t ns kind own → AreKnownFor t ns kind key known
+    (known : HashMap NameKey (HashMap PatternNumber (SmallVec Way) Z) Y) (own : HashMap PatternNumber (SmallVec Way) Z) → HasForKey known key own
+    → AreKnown t ns kind own → AreKnownFor t ns kind key known
 known_for t ns kind key known own at h = λ m there. subst (AreKnown t ns kind) (some_is (sym at ∙ there)) h
 
 pub none_by_key : {Y Z : Type 0} (Are : Name → Kind → Type 0) (t : Table) (keys : Keys) (ns : List Node)
@@ -146,6 +147,7 @@ all_longer t keys old new longer known all = record {
   attributes = by_key_longer IsAttributeKind t keys old new longer known.attributes all.attributes;
   rests = rests_longer old new longer known.rests all.rests;
   takers = all.takers;
+  datatypes = all.datatypes;
 }
 
 -- ---- elements

@@ -13,7 +13,7 @@ mod ElementTakers
 mod Bareness
 mod Closings
 pub mod Starts
-mod KnownTexts
+mod KnownTypes
 mod Behind
 mod Telling
 mod Pieces

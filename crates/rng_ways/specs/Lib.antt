@@ -1,6 +1,7 @@
 pub mod Kinds
 pub mod Takers
 pub mod Ways
+pub mod Datatypes
 pub mod Closing
 pub mod KnownRests
 pub mod KnownWays

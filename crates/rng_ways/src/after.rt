@@ -22,7 +22,7 @@ use crate::by_key::ways_by_key;
 use crate::known::{Known, KnownByKey, is_same_name};
 use crate::rests::rest_of_tag;
 use crate::starting::number_at;
-use crate::texts::{allows, is_excepted, is_value};
+use crate::texts::is_excepted;
 use crate::way::{First, Kind, Place, Way, Ways};
 use crate::ways::ways;
 use rng_keys::NameKeys;
@@ -318,15 +318,14 @@ fn data_takes(
             Place::Content => list_takes(alloc, grammar, keys, table, known, numbers, text, *body),
             Place::List => Ok(false),
         },
-        Simple::Data(datatype) => Ok(allows(datatype, text)),
-        Simple::DataExcept(datatype, except) => {
-            Ok(allows(datatype, text) && !is_excepted(grammar, *except, text))
+        Simple::Data(_) => Ok(known.datatypes.allow(position, text)),
+        Simple::DataExcept(_, except) => Ok(
+            known.datatypes.allow(position, text)
+                && !is_excepted(grammar, &known.datatypes, *except, text),
+        ),
+        Simple::Value { text: value, .. } => {
+            Ok(known.datatypes.equate(position, value.as_str(), text))
         }
-        Simple::Value {
-            library,
-            name,
-            text: value,
-        } => Ok(is_value(library.as_str(), name.as_str(), value.as_str(), text)),
         _ => Ok(false),
     }
 }

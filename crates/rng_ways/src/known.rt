@@ -1,11 +1,14 @@
 // Ways that are known of patterns.
 ghost use Rattle.std.specs.Prelude.{◌≡◌, ◌⊎◌, IfOk, IfSome, List, OnOk, true};
+ghost use Rattle.rng_keys.specs.Keys.{Keys};
+ghost use Rattle.rng_model.specs.Table.{Table};
 ghost use Rattle.rng_model.specs.View.{name_of};
 ghost use Rattle.rng_patterns.specs.Node.{Node};
 ghost use Rattle.rng_patterns.specs.declared.pattern.PatternNumber.{PatternNumber};
 ghost use Rattle.rng_ways.specs.KnownWays.{AreAllKnown, HasKnown};
 ghost use Rattle.rng_ways.specs.declared.way.Way.{Way};
 
+use crate::datatypes::Datatypes;
 use crate::rests::KnownRests;
 use crate::takers::Takers;
 use crate::way::{Way, Ways};
@@ -34,22 +37,35 @@ pub struct Known {
     pub(crate) rests: KnownRests,
     /// The elements that may have a name, by its key.
     pub(crate) takers: Takers,
+    pub(crate) datatypes: Datatypes,
 }
 
 impl Known {
     /// No ways are known, for a grammar with these keys of names. The error is want of memory. Costs a look-up for each element
-    /// whose name class is one name.
+    /// whose name class is one name, and a search for each data and each value.
     pub fn new(alloc: Global, grammar: &SimpleGrammar, keys: &NameKeys) -> Result<Self, OutOfMemory>
         ensures { IfOk result (λ known. (ns : List Node) → AreAllKnown grammar.now keys.now ns known) }
     {
         let takers = Takers::new(alloc, grammar, keys)?;
+        let datatypes = Datatypes::new(alloc, grammar)?;
         Ok(Known {
             texts: HashMap::new(alloc),
             elements: HashMap::new(alloc),
             attributes: HashMap::new(alloc),
             rests: HashMap::new(alloc),
             takers,
+            datatypes,
         })
+    }
+
+    /// Lets go of the ways that are known, for any table, and keeps what is known of the grammar. Takes no memory.
+    pub fn forget(&mut self, alloc: Global)
+        ensures { (t : Table) (keys : Keys) (old new : List Node) → AreAllKnown t keys old self.old → AreAllKnown t keys new self.new }
+    {
+        self.texts = HashMap::new(alloc);
+        self.elements = HashMap::new(alloc);
+        self.attributes = HashMap::new(alloc);
+        self.rests = HashMap::new(alloc);
     }
 }
 

@@ -8,6 +8,7 @@
 mod after;
 mod by_key;
 mod closing;
+mod datatypes;
 mod filling;
 mod known;
 mod leaves;

@@ -3,6 +3,7 @@ use Rattle.std.proofs.Common.{get_or, length, refl, sym, ap, subst, arith, rules
 use Rattle.std.proofs.lemmas.Option.{slice_get_within}
 use Rattle.std.proofs.Math.Seq.{take-suc}
 use Rattle.std.specs.String.{string_bytes}
+use Rattle.rng_model.specs.DatatypeTests.{known_equates}
 use Rattle.rng_model.specs.Table.{tree_at}
 use Rattle.rng_model.specs.Texts.{is_blank}
 use Rattle.rng_model.specs.Types.{datatype_of}
@@ -15,6 +16,7 @@ use Rattle.rng_patterns.specs.declared.pattern.PatternNumber.{PatternNumber}
 use Rattle.rng_patterns.proofs.Choices.{if_ok}
 use Rattle.rng_patterns.proofs.Trees.{Longer-length, Longer-refl, Longer-trans}
 use Rattle.rng_ways.specs.After.{AreRests, TellsTaken}
+use Rattle.rng_ways.specs.Datatypes.{type_at}
 use Rattle.rng_ways.specs.Kinds.{Obeys, reading_of}
 use Rattle.rng_ways.specs.Ways.{AreInside}
 use Rattle.rng_ways.specs.declared.way.First.TheVariants as firsts
@@ -22,6 +24,7 @@ use Rattle.rng_ways.specs.declared.way.Place.TheVariants as places
 use Rattle.rng_ways.specs.declared.way.Way as numbered
 use Rattle.rng_ways.proofs.Behind.{leaf_leaves, leaf_leaves_none, left_behind}
 use Rattle.rng_ways.proofs.Closings.{both_ok}
+use Rattle.rng_ways.proofs.KnownTypes.{allowed_there, equal_there}
 use Rattle.rng_ways.proofs.KnownWays.{all_longer}
 use Rattle.rng_ways.proofs.Nodes.{is_over, parts_there}
 use Rattle.rng_ways.proofs.Pieces.{either_blank, either_none, either_true, list_told, one_piece_more, value_told}
@@ -106,32 +109,39 @@ pub data_takes-returns-in-Data-clause-taken : goal.data_takes-returns-in-Data-cl
 data_takes-returns-in-Data-clause-taken t c =
     let t0 = c.args.grammar.now in
     let found = sym c.in-Some.ensures.value ∙ ap Some c.in-Data.is in
-    tells_of_data (reading_of t0) c.args.place c.args.text _ (datatype_of c.in-Data.datatype) _ (ap (data_found t0) found) c.allows.ensures
+    tells_of_data (reading_of t0) c.args.place c.args.text _ (datatype_of c.in-Data.field-0) _ (ap (data_found t0) found)
+    (c.allow.ensures ∙ allowed_there t0 c.args.known.now.datatypes c.requires.1.1.1.datatypes c.args.position.0 _ found c.args.text.now)
 
-pub data_takes-returns-then-allows-clause-taken : goal.data_takes-returns-then-allows-clause-taken
-data_takes-returns-then-allows-clause-taken t c =
+pub data_takes-returns-then-allow-clause-taken : goal.data_takes-returns-then-allow-clause-taken
+data_takes-returns-then-allow-clause-taken t c =
     let t0 = c.args.grammar.now in
     let g = reading_of t0 in
     let p = tree_at t0.patterns c.in-DataExcept.except in
     let found = sym c.in-Some.ensures.value ∙ ap Some c.in-DataExcept.is in
-    tells_of_except g c.args.place c.args.text _ (datatype_of c.in-DataExcept.datatype) p _ (ap (data_found t0) found)
-    (ap not c.is_excepted.ensures ∙ ap (λ b. b && not (is_excepted g p c.args.text.now)) (sym c.if-allows.true ∙ c.allows-in-DataExcept.ensures))
+    let own = c.allow-in-DataExcept.ensures
+    ∙ allowed_there t0 c.args.known.now.datatypes c.requires.1.1.1.datatypes c.args.position.0 _ found c.args.text.now in
+    tells_of_except g c.args.place c.args.text _ (datatype_of c.in-DataExcept.field-0) p _ (ap (data_found t0) found)
+    (ap not c.is_excepted.ensures ∙ ap (λ b. b && not (is_excepted g p c.args.text.now)) (sym c.if-allow.true ∙ own))
 
-pub data_takes-returns-else-allows-clause-taken : goal.data_takes-returns-else-allows-clause-taken
-data_takes-returns-else-allows-clause-taken t c =
+pub data_takes-returns-else-allow-clause-taken : goal.data_takes-returns-else-allow-clause-taken
+data_takes-returns-else-allow-clause-taken t c =
     let t0 = c.args.grammar.now in
     let g = reading_of t0 in
     let p = tree_at t0.patterns c.in-DataExcept.except in
     let found = sym c.in-Some.ensures.value ∙ ap Some c.in-DataExcept.is in
-    tells_of_except g c.args.place c.args.text _ (datatype_of c.in-DataExcept.datatype) p _ (ap (data_found t0) found)
-    (c.if-allows.false ∙ ap (λ b. b && not (is_excepted g p c.args.text.now)) (sym c.if-allows.false ∙ c.allows-in-DataExcept.ensures))
+    let own = c.allow-in-DataExcept.ensures
+    ∙ allowed_there t0 c.args.known.now.datatypes c.requires.1.1.1.datatypes c.args.position.0 _ found c.args.text.now in
+    tells_of_except g c.args.place c.args.text _ (datatype_of c.in-DataExcept.field-0) p _ (ap (data_found t0) found)
+    (c.if-allow.false ∙ ap (λ b. b && not (is_excepted g p c.args.text.now)) (sym c.if-allow.false ∙ own))
 
 pub data_takes-returns-in-Value-clause-taken : goal.data_takes-returns-in-Value-clause-taken
 data_takes-returns-in-Value-clause-taken t c =
     let t0 = c.args.grammar.now in
     let found = sym c.in-Some.ensures.value ∙ ap Some c.in-Value.is in
     tells_of_value (reading_of t0) c.args.place c.args.text _ (without_parameters (string_bytes c.in-Value.library) (string_bytes c.in-Value.name))
-    (string_bytes c.in-Value.value) _ (ap (data_found t0) found) (search rules)
+    (string_bytes c.in-Value.value) _ (ap (data_found t0) found) (c.equate.ensures
+    ∙ ap (λ v. known_equates (type_at c.args.known.now.datatypes c.args.position.0) v c.args.text.now) c.as_str.ensures.value
+    ∙ equal_there t0 c.args.known.now.datatypes c.requires.1.1.1.datatypes c.args.position.0 _ found c.args.text.now (string_bytes c.in-Value.value))
 
 pub data_takes-returns-in_default-row : goal.data_takes-returns-in_default-row
 data_takes-returns-in_default-row t c =

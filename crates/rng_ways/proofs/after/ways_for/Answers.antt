@@ -34,6 +34,7 @@ returns-in-Text-clause-known c =
           c.args.known.now.attributes c.requires.known.attributes;
       rests = rests_longer c.args.table.now c.ways.new.table h.0 c.args.known.now.rests c.requires.known.rests;
       takers = c.requires.known.takers;
+      datatypes = c.requires.known.datatypes;
     }) (both_ok c.ways.result _ _ c.ways.ensures.longer c.ways.ensures.known)
 
 pub returns-in-Attribute-clause-known : goal.returns-in-Attribute-clause-known
@@ -45,4 +46,5 @@ returns-in-Attribute-clause-known c =
       attributes = h.1;
       rests = rests_longer c.args.table.now c.attribute_ways.new.table h.0 c.args.known.now.rests c.requires.known.rests;
       takers = c.requires.known.takers;
+      datatypes = c.requires.known.datatypes;
     }) (both_ok c.attribute_ways.result _ _ c.attribute_ways.ensures.longer c.attribute_ways.ensures.known)

@@ -50,4 +50,5 @@ returns-clause-known c =
           c.requires.known.attributes;
       rests = rests_longer old new c.in_ok-ways.ensures.longer c.args.known.now.rests c.requires.known.rests;
       takers = c.requires.known.takers;
+      datatypes = c.requires.known.datatypes;
     }

@@ -1,0 +1,15 @@
+use Rattle.rng_ways.specs.KnownWays.{IsAttributeKind, IsElementKind}
+use Rattle.rng_ways.specs.declared.way.Kind.TheVariants as kinds
+use Rattle.rng_ways.proofs.KnownRests.{no_rests}
+use Rattle.rng_ways.proofs.KnownWays.{none_by_key, none_known}
+use Rattle.rng_ways.proofs.known.Known.forget.Goals as goal
+
+pub returns : goal.returns
+returns c = λ t keys old new all. record {
+  texts = none_known t new kinds.Text c.new.result c.new.ensures.empty;
+  elements = none_by_key IsElementKind t keys new c.new-2.result c.new-2.ensures.empty;
+  attributes = none_by_key IsAttributeKind t keys new c.new-3.result c.new-3.ensures.empty;
+  rests = no_rests new c.new-4.result c.new-4.ensures.empty;
+  takers = all.takers;
+  datatypes = all.datatypes;
+}
