@@ -37,6 +37,7 @@ pub struct Known {
     pub(crate) rests: KnownRests,
     /// The elements that may have a name, by its key.
     pub(crate) takers: Takers,
+    /// The datatypes that the grammar names, by positions.
     pub(crate) datatypes: Datatypes,
 }
 
@@ -58,7 +59,8 @@ impl Known {
         })
     }
 
-    /// Lets go of the ways that are known, for any table, and keeps what is known of the grammar. Takes no memory.
+    /// Lets go of what is known of patterns, so that it serves for any table, and keeps what is known of the grammar. Takes no
+    /// memory.
     pub fn forget(&mut self, alloc: Global)
         ensures { (t : Table) (keys : Keys) (old new : List Node) → AreAllKnown t keys old self.old → AreAllKnown t keys new self.new }
     {
