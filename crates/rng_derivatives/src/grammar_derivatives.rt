@@ -198,13 +198,7 @@ impl Derivatives for GrammarDerivatives<'_> {
             return Ok(ways);
         }
         self.lost = true;
-        count_start(
-            alloc,
-            self.grammar,
-            &self.keys,
-            &mut self.known,
-            &mut self.starts,
-        )?;
+        count_start(alloc, &mut self.known, &mut self.starts);
         let numbers = self.numbers.as_slice();
         let ways = start(
             alloc,
@@ -240,7 +234,7 @@ impl Derivatives for GrammarDerivatives<'_> {
             numbers,
             held,
         } = renewed(alloc, &self.table, self.numbers.as_slice(), held)?;
-        self.known = Known::new(alloc, self.grammar, &self.keys)?;
+        self.known.forget(alloc);
         self.memo = HashMap::new(alloc);
         self.numbers = numbers;
         self.limit = limit_beside(table.len());

@@ -1,12 +1,12 @@
 // Patterns that nobody holds are let go.
 ghost use Rattle.std.specs.Prelude.{◌≡◌, ◌<◌, ◌++◌, All, IfOk, List, OnOk, length};
+ghost use Rattle.rng_keys.specs.Keys.{Keys};
 ghost use Rattle.rng_model.specs.Table.{Table};
 ghost use Rattle.rng_patterns.specs.Node.{Node};
 ghost use Rattle.rng_ways.specs.KnownWays.{AreAllKnown};
 ghost use Rattle.rng_derivatives.specs.Renewal.{AreSameTrees};
 
-use rng_keys::NameKeys;
-use rng_model::{OutOfMemory, SimpleGrammar};
+use rng_model::OutOfMemory;
 use rng_patterns::{PatternNumber, PatternTable};
 use rng_ways::Known;
 use std::alloc::Global;
@@ -81,21 +81,13 @@ pub fn renewed(
 }
 
 /// Counts a start that is worked out. After many of them what is known of the parts of patterns is let go, so that memory stays
-/// bounded. The error is want of memory.
-pub fn count_start(
-    alloc: Global,
-    grammar: &SimpleGrammar,
-    keys: &NameKeys,
-    known: &mut Known,
-    starts: &mut usize,
-) -> Result<(), OutOfMemory>
-    ensures { OnOk result ((ns : List Node) → AreAllKnown grammar.now keys.now ns known.old → AreAllKnown grammar.now keys.now ns known.new) }
+/// bounded. Takes no memory.
+pub fn count_start(alloc: Global, known: &mut Known, starts: &mut usize)
+    ensures { (t : Table) (keys : Keys) (ns : List Node) → AreAllKnown t keys ns known.old → AreAllKnown t keys ns known.new }
 {
     *starts = starts.saturating_add(1);
-    if *starts < MOST_STARTS {
-        return Ok(());
+    if *starts >= MOST_STARTS {
+        known.forget(alloc);
+        *starts = 0;
     }
-    *known = Known::new(alloc, grammar, keys)?;
-    *starts = 0;
-    Ok(())
 }

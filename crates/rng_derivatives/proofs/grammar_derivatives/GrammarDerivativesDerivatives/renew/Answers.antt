@@ -22,8 +22,8 @@ invariant_of-self-2 c =
       served_renewed t old new d.numbers.items numbers
           (subst (λ (ms : List PatternNumber). AreSameTrees t old new ms numbers) c.as_slice.ensures.value (c.in_ok-table.ensures.numbers t)) served.0,
       served.1,
-      (λ k ws h. absurd (none_kept c.new-2.result c.new-2.ensures.empty k ws h)),
-      c.in_ok-self-inside.ensures new,
+      (λ k ws h. absurd (none_kept c.new.result c.new.ensures.empty k ws h)),
+      c.forget.ensures t d.keys old new served.3,
     )
 
 pub returns-clause-kept : goal.returns-clause-kept

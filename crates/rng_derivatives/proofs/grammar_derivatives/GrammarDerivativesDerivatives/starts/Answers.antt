@@ -95,4 +95,4 @@ start-requires-clause-known c =
     let t = d.grammar.now in
     let old = d.table in
     let there = c.if-self.false in
-    c.in_ok-count_start.ensures old (there_served t d.keys d.lost old d.numbers.items d.memo d.known there c.self.invariant).3
+    c.count_start.ensures t d.keys old (there_served t d.keys d.lost old d.numbers.items d.memo d.known there c.self.invariant).3
