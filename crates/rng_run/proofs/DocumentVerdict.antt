@@ -1,5 +1,5 @@
 -- A document has one verdict but for the line of what is invalid, and the same one wherever the same documents are valid.
-use Rattle.std.proofs.Common.{◌≡◌, ◌↔◌, ◌≤◌, ℕ, zero, suc, List, [], ◌∷◌, Option, Result, Ok, Err, IfOk, All, length, take}
+use Rattle.std.proofs.Common.{◌≡◌, ◌↔◌, ◌≤◌, ℕ, zero, suc, List, [], ◌∷◌, Option, Result, Ok, Err, IfOk, IsErrOf, OnOk, All, length, take}
 use Rattle.std.proofs.Common.{sym, ap, subst, refl, ap₂, ◌∙◌, arith, inl, inr}
 use Rattle.std.proofs.lemmas.List.Elements.{All-append, All-cons, All-weaker}
 use Rattle.rng_model.specs.Document.{Item}
@@ -25,9 +25,21 @@ use Rattle.rng_run.specs.Documents.{IsFaultOfInput, IsTaken}
 use Rattle.rng_run.specs.Judging.{IsUnknownTo, verdict_of}
 use Rattle.rng_run.specs.Verdict.{IsJudgedBy, IsVerdict, IsInvalidFrom, CannotBeValid, StartsUnknown, AreSameVerdict, malformed_by}
 use Rattle.rng_run.specs.declared.judging.JudgeFault.{JudgeFault}
+use Rattle.rng_run.specs.declared.judging.JudgeFault.TheVariants as judging
 use Rattle.rng_run.specs.declared.streams.DocumentFault.TheVariants as faults
 use Rattle.rng_run.specs.declared.answer.Verdict.{Verdict}
 use Rattle.rng_run.specs.declared.answer.Verdict.TheVariants.{Valid, Malformed, Invalid}
+
+-- ---- the fault of a document
+
+pub in_each_case : {A E : Type 0} (r : Result A E) (P : Type 0) → P → OnOk r P
+in_each_case (Ok x) P p = p
+in_each_case (Err e) P p = tt
+
+-- what breaks a clause is no failure of the input
+pub no_failed_read : (f : PyxFault) → IsErrOf (malformed_by f) judging.Read → ⊥
+no_failed_read pyx.Memory e = cc
+no_failed_read (pyx.At clause line) e = cc
 
 -- ---- one verdict
 

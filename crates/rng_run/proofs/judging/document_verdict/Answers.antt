@@ -1,10 +1,11 @@
-use Rattle.std.proofs.Common.{subst}
+use Rattle.std.proofs.Common.{Err, IsErrOf, ap, subst}
 use Rattle.rng_matcher.specs.Positions.{IsKnown}
 use Rattle.rng_matcher.specs.declared.outcome.Outcome.TheVariants as outcome
 use Rattle.rng_patterns.specs.Trees.{trees}
 use Rattle.rng_ways.specs.Kinds.{reading_of}
 use Rattle.rng_run.specs.Documents.{IsFaultOfInput}
-use Rattle.rng_run.proofs.DocumentVerdict.{fault_judged, matcher_judged}
+use Rattle.rng_run.specs.declared.judging.JudgeFault.TheVariants as judging
+use Rattle.rng_run.proofs.DocumentVerdict.{fault_judged, in_each_case, matcher_judged, no_failed_read}
 use Rattle.rng_run.proofs.judging.document_verdict.Goals as goal
 
 pub returns-in-Err-Pyx-clause-judged : goal.returns-in-Err-Pyx-clause-judged
@@ -21,3 +22,10 @@ returns-in-Ok-Invalid-clause-judged g c = matcher_judged (λ m. reading_of m.0.0
     c.in-Ok.matcher c.take_document.new.events (reading_of c.args.grammar.now) _ _ c.in-Ok-Invalid.field-0 (outcome.Invalid c.in-Ok-Invalid.line)
     c.in-Ok-Invalid.field-0-is
     c.in-Ok.ensures.reading c.in-Ok.ensures.stands c.in-Ok-take_document.ensures.taken c.in-Ok-Invalid.ensures.outcome
+
+pub returns-in-Err-Pyx-clause-calm : goal.returns-in-Err-Pyx-clause-calm
+returns-in-Err-Pyx-clause-calm g c = in_each_case c.malformed.result _ (c.in-Err-Pyx.ensures.pyx c.in-Err-Pyx.fault (ap Err c.in-Err-Pyx.field-0-is))
+
+pub returns-in-Err-Pyx-clause-read : goal.returns-in-Err-Pyx-clause-read
+returns-in-Err-Pyx-clause-read g c = λ failed. absurd (no_failed_read c.in-Err-Pyx.fault
+    (subst (λ r. IsErrOf r judging.Read) c.malformed.ensures failed))
