@@ -2,6 +2,7 @@ pub mod Trees
 mod EqualPatterns
 pub mod KnownFacts
 mod Rows
+mod Putting
 mod PatternKinds
 pub mod Choices
 pub mod Alternatives

@@ -1,5 +1,5 @@
 -- The rows of a table: what is kept of them as one is added.
-use Rattle.std.proofs.Common.{◌≡◌, ℕ, suc, if◌then◌else◌, ◌<◌, ◌≤◌, List, [], ◌∷◌, ◌++◌, length, map, slice_get, get_or, position, Bool, true, false}
+use Rattle.std.proofs.Common.{◌≡◌, ℕ, suc, if◌then◌else◌, ◌<◌, ◌≤◌, List, [], ◌∷◌, ◌++◌, length, map, slice_get, get_or, Bool, true, false}
 use Rattle.std.proofs.Common.{Option, Some, None, refl, ⊎_elim, ap, ap₂, sym, ◌∙◌, arith}
 use Rattle.std.proofs.Common.{length-append, subst, true≢false}
 use Rattle.std.proofs.lemmas.List.{get_or_append_left, get_or-map, length-map, map-append}
@@ -18,9 +18,7 @@ use Rattle.rng_patterns.specs.declared.pattern.PatternNumber.{PatternNumber}
 use Rattle.std.specs.Map.{keys_of}
 use Rattle.std.specs.List.{position_or_len}
 use Rattle.std.specs.Option.{option_map}
-use Rattle.std.proofs.lemmas.List.Quantifiers.{position-Some}
-use Rattle.std.proofs.lemmas.Grind.{common_steps}
-use Rattle.std.proofs.lemmas.List.Sums.{fails_before_first}
+use Rattle.std.proofs.lemmas.List.Sums.{fails_before_first, passes_at_first}
 use Rattle.rng_patterns.specs.contracts.pattern.PatternPartialEq.TheImpl as same
 use Rattle.rng_patterns.proofs.EqualPatterns.{same_node, equal_pattern}
 use Rattle.rng_patterns.proofs.Trees.{Longer-length, length-trees, reduced_reads, trees_pushed, tree_of-over_parts, tree_of_pushed, tree_stays}
@@ -112,20 +110,18 @@ keys_are [] = refl
 keys_are (r ∷ rows) = ap (λ xs. node_of r.0 ∷ xs) (keys_are rows)
 
 -- where it is found, its node stands
-pub found_there : (p : Pattern) (rows : List (Pattern × Facts)) (i : ℕ) → position (node_eq p) (keys_of rows) ≡ Some i
-    → slice_get (nodes_of rows) i ≡ Some (node_of p)
-found_there p rows i e =
-    let at = position-Some (node_eq p) (keys_of rows) i p e in
-    let here : slice_get (keys_of rows) i ≡ Some (get_or (keys_of rows) i p) = slice_get-get_or (keys_of rows) i p at.0 in
-    sym (ap (λ ns. slice_get ns i) (keys_are rows)) ∙ slice_get-map node_of (keys_of rows) i ∙ ap (option_map node_of) here
-    ∙ ap Some (sym (same_node p (get_or (keys_of rows) i p) at.1))
-
-none_before : (t : Pattern → Bool) (ks : List Pattern) → position t ks ≡ None → length ks ≤ position_or_len t ks
-none_before t ks e = grind (arith, common_steps)
+pub found_there : (p : Pattern) (rows : List (Pattern × Facts)) → position_or_len (node_eq p) (keys_of rows) < length (keys_of rows)
+    → slice_get (nodes_of rows) (position_or_len (node_eq p) (keys_of rows)) ≡ Some (node_of p)
+found_there p rows inside =
+    let ks = keys_of rows in
+    let i = position_or_len (node_eq p) ks in
+    sym (ap (λ ns. slice_get ns i) (keys_are rows)) ∙ slice_get-map node_of ks i ∙ ap (option_map node_of) (slice_get-get_or ks i p inside)
+    ∙ ap Some (sym (same_node p (get_or ks i p) (passes_at_first (node_eq p) ks p inside)))
 
 -- where it is not, no pattern has its node
-pub not_there : (p : Pattern) (rows : List (Pattern × Facts)) → position (node_eq p) (keys_of rows) ≡ None → IsNew (nodes_of rows) (node_of p)
-not_there p rows e i found =
+pub not_there : (p : Pattern) (rows : List (Pattern × Facts)) → length (keys_of rows) ≤ position_or_len (node_eq p) (keys_of rows)
+    → IsNew (nodes_of rows) (node_of p)
+not_there p rows all i found =
     at_key (slice_get ks i) refl (sym (slice_get-map node_of ks i) ∙ ap (λ ns. slice_get ns i) (keys_are rows) ∙ found)
   where
     ks : List Pattern
@@ -136,8 +132,7 @@ not_there p rows e i found =
     at_key (Some q) f k =
         let same : node_of p ≡ node_of q = cc in
         let inside = slice_get_within ks i q f in
-        let all = none_before (node_eq p) ks e in
-        let fails : node_eq p (get_or ks i q) ≡ false = fails_before_first (node_eq p) ks i q (omega arith) in
+        let fails : node_eq p (get_or ks i q) ≡ false = fails_before_first (node_eq p) ks i q (omega (arith, all, inside)) in
         let is : node_eq p q ≡ false = ap (node_eq p) (sym (get_or_from_slice_get ks i q q f)) ∙ fails in
         true≢false (sym (equal_pattern p q same) ∙ is)
 

@@ -53,7 +53,7 @@ impl PatternTable {
         }
         let mut alternatives = self.alternatives(alloc, members)?;
         self.remove_absorbed(alloc, &mut alternatives)?;
-        put_in_order(&mut alternatives);
+        put_in_order(&mut alternatives)?;
         self.choice_of(alternatives)
     }
 
@@ -201,11 +201,12 @@ impl PatternTable {
     }
 }
 
-/// Puts the numbers in rising order, each once.
-fn put_in_order(numbers: &mut Vec<PatternNumber>)
-    ensures same { (m : PatternNumber) → Contains numbers.new.items m ↔ Contains numbers.old.items m }
-    ensures rising { IsStrictlyIncreasing (map (λ m. m.0) numbers.new.items) }
+/// Puts the numbers in rising order, each once. Takes one pass over each run of rising numbers.
+fn put_in_order(numbers: &mut Vec<PatternNumber>) -> Result<(), OutOfMemory>
+    ensures same { OnOk result ((m : PatternNumber) → Contains numbers.new.items m ↔ Contains numbers.old.items m) }
+    ensures rising { OnOk result (IsStrictlyIncreasing (map (λ m. m.0) numbers.new.items)) }
 {
-    numbers.sort_unstable();
+    numbers.sort()?;
     numbers.dedup();
+    Ok(())
 }

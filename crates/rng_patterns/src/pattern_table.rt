@@ -161,10 +161,9 @@ impl PatternTable {
         ensures longer { Longer self.old self.new }
         ensures adds { IfOk result (λ n. Adds self.old self.new n.0 (λ t. tree_over t (tree_of t self.old) (node_of pattern))) }
     {
-        if let Some(number) = place_of(&self.rows, &pattern) {
-            return Ok(PatternNumber(number));
-        }
-        self.add(pattern)
+        let facts = self.facts_of(&pattern);
+        let (number, _) = self.rows.insert_full(pattern, facts)?;
+        Ok(PatternNumber(number))
     }
 
     /// The number of a pattern that no pattern of the table is equal to, and whose parts are there: a new one.
@@ -211,12 +210,4 @@ fn row_at(rows: &IndexMap<Pattern, Facts>, place: usize) -> (&Pattern, &Facts)
         Some(row) => row,
         None => unreachable!(),
     }
-}
-
-/// The place of a pattern among the rows.
-fn place_of(rows: &IndexMap<Pattern, Facts>, pattern: &Pattern) -> Option<usize>
-    ensures found { IfSome result (λ i. slice_get (nodes_of rows.now.entries) i ≡ Some (node_of pattern.now)) }
-    ensures none { IfNone result (IsNew (nodes_of rows.now.entries) (node_of pattern.now)) }
-{
-    rows.get_index_of(pattern)
 }

@@ -43,19 +43,19 @@ numbers_sorted ms h k d low inside =
 pub returns-clause-same : goal.returns-clause-same
 returns-clause-same c = λ m.
     let before = c.args.numbers.now.items in
-    let sorted = c.sort_unstable.new.self.items in
+    let sorted = c.sort.new.self.items in
     let kept = dedup_is same.ghosts.eq sorted c.dedup.new.self.items c.dedup.ensures.filtered in
     let Has : List PatternNumber → Type 0 = λ ms. Contains ms m in (
-      λ h. Contains-permutation sorted before m (IsPermutation-sym before sorted c.sort_unstable.ensures.permutation)
+      λ h. Contains-permutation sorted before m (IsPermutation-sym before sorted c.in_ok-sort.ensures.permutation)
           (Contains-from_dedup same.ghosts.eq sorted m (subst Has kept h)),
       λ h. subst Has (sym kept) (Contains-dedup (decided same.ghosts.eq decides) (λ x y e. (decides x y).0 e) sorted m
-          (Contains-permutation before sorted m c.sort_unstable.ensures.permutation h)),
+          (Contains-permutation before sorted m c.in_ok-sort.ensures.permutation h)),
     )
 
 pub returns-clause-rising : goal.returns-clause-rising
 returns-clause-rising c =
-    let sorted = c.sort_unstable.new.self.items in
+    let sorted = c.sort.new.self.items in
     let kept = dedup_is same.ghosts.eq sorted c.dedup.new.self.items c.dedup.ensures.filtered in
     subst (λ ms. IsStrictlyIncreasing (map (λ (m : PatternNumber). m.0) ms)) (sym kept)
     (subst IsStrictlyIncreasing (sym (numbers_once sorted))
-    (IsStrictlyIncreasing-dedup (map (λ (m : PatternNumber). m.0) sorted) (numbers_sorted sorted c.sort_unstable.ensures.sorted)))
+    (IsStrictlyIncreasing-dedup (map (λ (m : PatternNumber). m.0) sorted) (numbers_sorted sorted c.in_ok-sort.ensures.sorted)))

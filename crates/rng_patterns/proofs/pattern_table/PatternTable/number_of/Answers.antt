@@ -1,27 +1,37 @@
-use Rattle.std.proofs.Common.{◌≡◌, slice_get, Some, List, subst}
+use Rattle.std.proofs.Common.{List, length, subst, sym, ap, ◌∙◌}
+use Rattle.rng_model.specs.Table.{Table}
+use Rattle.rng_model.specs.Tree.{s_not_allowed, s_empty}
 use Rattle.rng_patterns.specs.Node.{Node, node_of}
-use Rattle.rng_patterns.specs.PatternTable.{Adds, IsNew, IsPatternTable}
+use Rattle.rng_patterns.specs.PatternTable.{Adds, ArePartsBelow, Longer, facts_of, nodes_of}
+use Rattle.rng_patterns.specs.Reduced.{AreReduced}
 use Rattle.rng_patterns.specs.Trees.{tree_of, tree_over}
-use Rattle.rng_patterns.proofs.Choices.{if_ok}
-use Rattle.rng_patterns.proofs.Rows.{found_adds, new_adds}
+use Rattle.rng_patterns.proofs.Putting.{IsPut, put_is}
+use Rattle.rng_patterns.proofs.Rows.{known_stays}
 use Rattle.rng_patterns.proofs.pattern_table.PatternTable.number_of.Goals as goal
 
-pub returns-in-Some-clause-adds : goal.returns-in-Some-clause-adds
-returns-in-Some-clause-adds c =
-    let Found : List Node → Type 0 = λ ns. slice_get ns c.in-Some.number ≡ Some (node_of c.args.pattern) in
-    found_adds c.args.self.now c.in-Some.number (node_of c.args.pattern) (subst IsPatternTable c.self.view_is c.self.invariant.0)
-    (subst Found c.self.view_is c.in-Some.ensures.found)
+put : (c : goal.In_ok-number) → IsPut c.self.inside.rows.entries c.insert_full.new.self.entries c.args.pattern c.in_ok-number.number
+put c =
+    let rows = c.self.inside.rows.entries in
+    let n = node_of c.args.pattern in
+    put_is rows c.args.pattern c.facts_of-facts.result c.self.invariant.0 c.self.invariant.1
+    (subst (λ (ns : List Node). ArePartsBelow (length ns) n) (sym c.self.view_is) c.requires.below)
+    (subst (λ (ns : List Node). (t : Table) → AreReduced (tree_of t ns) n) (sym c.self.view_is) c.requires.reduced)
+    (λ t. c.facts_of-facts.ensures t ∙ ap (λ (ns : List Node). facts_of (tree_over t (tree_of t ns) n)) (sym c.self.view_is))
+    c.insert_full.new.self.entries c.in_ok-number.number c.in_ok-number.ensures.entries c.in_ok-number.ensures.index
 
-pub add-requires : goal.add-requires
-add-requires c = record {
-  below = c.requires.below;
-  reduced = c.requires.reduced;
-  new = subst (λ ns. IsNew ns (node_of c.args.pattern)) c.self.view_is c.in_default.ensures.none;
-}
+pub invariant_of-self-2 : goal.invariant_of-self-2
+invariant_of-self-2 c =
+    let made = put c in (
+      made.table,
+      made.exact,
+      known_stays _ _ c.self.inside.not_allowed s_not_allowed made.longer c.self.invariant.2,
+      known_stays _ _ c.self.inside.empty s_empty made.longer c.self.invariant.3,
+    )
+
+pub returns-clause-longer : goal.returns-clause-longer
+returns-clause-longer c = subst (λ (ns : List Node). Longer ns (nodes_of c.insert_full.new.self.entries)) c.self.view_is (put c).longer
 
 pub returns-clause-adds : goal.returns-clause-adds
 returns-clause-adds c =
-    let old = c.args.self.now in
-    let new = c.add.new.self in
-    let n = node_of c.args.pattern in
-    if_ok c.add.result _ (λ k. Adds old new k.0 (λ t. tree_over t (tree_of t old) n)) (λ k added. new_adds old new n k.0 added.1 added.0) c.add.ensures.added
+    let new = nodes_of c.insert_full.new.self.entries in
+    subst (λ (ns : List Node). Adds ns new c.in_ok-number.number (λ t. tree_over t (tree_of t ns) (node_of c.args.pattern))) c.self.view_is (put c).adds
