@@ -57,20 +57,21 @@ fn resolved(alloc: Global, file: &File<'_>) -> Result<FileTree, ParseFault>
 /// `Memory` answers that there was no memory for the tree, and says nothing about the tokens.
 ///
 /// Takes time and memory in proportion to the tokens and their texts, but that each name, mention and datatype holds a
-/// copy of its uri. Prefixes are looked up by a hash whose seed is fixed: of n that are chosen to share one, each look-up
-/// takes n steps. Recurses as deep as the brackets nest.
+/// copy of its uri; the tokens are let go before the tree is made. Prefixes are looked up by a hash whose seed is fixed: of n
+/// that are chosen to share one, each look-up takes n steps. Recurses as deep as the brackets nest.
 ///
 /// RELAX NG Compact Syntax, "Syntax".
-pub fn parse(alloc: Global, tokens: &[Token<'_>]) -> Result<FileTree, ParseFault>
-    ensures tree { IfOk result (λ t. IsFileTree (lexemes (tokens_of tokens.now)) (file_of t)) }
+pub fn parse(alloc: Global, tokens: Vec<Token<'_>>) -> Result<FileTree, ParseFault>
+    ensures tree { IfOk result (λ t. IsFileTree (lexemes (tokens_of tokens.entry.items)) (file_of t)) }
     ensures mentions { IfOk result (λ t. IsStrictlyIncreasing (map (λ m. (mention_of m).token) (mentions_of (file_of t)))) }
-    ensures fault { IfErr result (IsFaultOf (lexemes (tokens_of tokens.now))) }
-    ensures only { (t : tree.FileTree) → IsFileTree (lexemes (tokens_of tokens.now)) t → Gives unless_memory file_of result (Ok t) }
-    ensures nesting { BreaksNesting (lexemes (tokens_of tokens.now)) → Gives unless_memory file_of result (Err (faults.Clause 7)) }
-    ensures grammar { BreaksGrammar (lexemes (tokens_of tokens.now)) → (number : ℕ) × Gives unless_memory file_of result (Err (faults.At 6 number)) }
-    ensures declarations { BreaksDeclarations (lexemes (tokens_of tokens.now)) → Gives unless_memory file_of result (Err (faults.Clause 8)) }
-    ensures one { (t u : tree.FileTree) → IsFileTree (lexemes (tokens_of tokens.now)) t → IsFileTree (lexemes (tokens_of tokens.now)) u → t ≡ u }
+    ensures fault { IfErr result (IsFaultOf (lexemes (tokens_of tokens.entry.items))) }
+    ensures only { (t : tree.FileTree) → IsFileTree (lexemes (tokens_of tokens.entry.items)) t → Gives unless_memory file_of result (Ok t) }
+    ensures nesting { BreaksNesting (lexemes (tokens_of tokens.entry.items)) → Gives unless_memory file_of result (Err (faults.Clause 7)) }
+    ensures grammar { BreaksGrammar (lexemes (tokens_of tokens.entry.items)) → (number : ℕ) × Gives unless_memory file_of result (Err (faults.At 6 number)) }
+    ensures declarations { BreaksDeclarations (lexemes (tokens_of tokens.entry.items)) → Gives unless_memory file_of result (Err (faults.Clause 8)) }
+    ensures one { (t u : tree.FileTree) → IsFileTree (lexemes (tokens_of tokens.entry.items)) t → IsFileTree (lexemes (tokens_of tokens.entry.items)) u → t ≡ u }
 {
-    let file = read_syntax(alloc, tokens)?;
+    let file = read_syntax(alloc, tokens.as_slice())?;
+    drop(tokens);
     resolved(alloc, &file)
 }

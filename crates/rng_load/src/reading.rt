@@ -79,5 +79,5 @@ fn tree_of_content(alloc: Global, bytes: &[u8]) -> Result<FileTree, FileFault>
 {
     let text = read_text(alloc, bytes)?;
     let tokens = tokens(alloc, &text)?;
-    Ok(parse(alloc, &tokens)?)
+    Ok(parse(alloc, tokens)?)
 }
