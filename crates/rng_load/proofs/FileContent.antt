@@ -3,9 +3,8 @@ use Rattle.std.proofs.Common.{◌≡◌, ℕ, List, Ok, Err, IfSome, refl, sym, 
 use Rattle.rnc_text.specs.declared.character.Character.{Character}
 use Rattle.rnc_text.specs.declared.fault.TextFault.{TextFault}
 use Rattle.rnc_text.specs.declared.fault.TextFault.TheVariants as texts
-use Rattle.rnc_text.specs.declared.token.Token as declared_tokens
 use Rattle.rnc_text.specs.Answers.{GivesOk, GivesFault, IfBroken}
-use Rattle.rnc_text.specs.Cut.{Token, tokens_of, HasTokens, BreaksTokensAt}
+use Rattle.rnc_text.specs.Cut.{Token, HasTokens, BreaksTokensAt}
 use Rattle.rnc_text.specs.Decoding.{IsDecoded, BreaksTextAt}
 use Rattle.rnc_grammar.specs.declared.fault.ParseFault.{ParseFault}
 use Rattle.rnc_grammar.specs.declared.fault.ParseFault.TheVariants as parses
@@ -127,11 +126,6 @@ lexed bytes cs ts d t = record { is = record { characters = cs; decoded = d.is; 
   sound k (no_sentence us at are b e) = grammar at (subst (λ ts. BreaksGrammarAt (lexemes ts) at) (sym (one us are)) b) e
   sound k (too_deep us are b e) = nesting (subst (λ ts. BreaksNesting (lexemes ts)) (sym (one us are)) b) e
   sound k (bad_declarations us are b e) = declarations (subst (λ ts. BreaksDeclarations (lexemes ts)) (sym (one us are)) b) e
-
--- what is known of the tokens of the code
-pub tokens_known : (bytes : List ℕ) (cs : List Character) (ts slice : List declared_tokens.Token) → slice ≡ ts → Decoded bytes cs →
-    Tokenized cs (tokens_of ts) → Lexed bytes (tokens_of slice)
-tokens_known bytes cs ts slice e d t = subst (Lexed bytes) (sym (ap tokens_of e)) (lexed bytes cs (tokens_of ts) d t)
 
 -- the tokens do not nest both within the limit and beyond it
 not_both : (ts : List Lexeme) → NestsWithin nesting_limit ts → BreaksNesting ts → ⊥
