@@ -1,5 +1,5 @@
 // Rows, with new numbers, in the tables of a grammar.
-ghost use Rattle.std.specs.Prelude.{◌≡◌, ◌<◌, ◌^◌, ◌++◌, ℕ, length, slice_get, true, IfOk, OnOk, Some};
+ghost use Rattle.std.specs.Prelude.{◌≡◌, ◌<◌, ◌^◌, ◌++◌, ℕ, filter, length, slice_get, true, IfOk, OnOk, Some};
 ghost use Rattle.rng_model.specs.Table.{IsPaired};
 ghost use Rattle.rng_model.specs.Types.{datatype_of};
 ghost use Rattle.rng_model.specs.View.{class_of};
@@ -93,7 +93,7 @@ fn datatype_copy(
 fn same_datatype(alloc: Global, datatype: &Datatype) -> Result<Datatype, AllocError>
     ensures { IfOk result (λ copy. datatype_of copy ≡ datatype_of datatype.now) }
 {
-    let mut parameters = Vec::new(alloc);
+    let mut parameters = Vec::with_capacity(alloc, datatype.parameters.len())?;
     'parameters: for (name, value) in &datatype.parameters {
         let name = String::from_str(alloc, name.as_str())?;
         let value = String::from_str(alloc, value.as_str())?;
@@ -130,8 +130,8 @@ pub fn copied_rows(
         copied.places.items copied.patterns.items copied.listed.items) }
     ensures few { IfOk result (λ copied. length copied.patterns.items < 2 ^ 64) }
 {
-    let mut places = Vec::new(alloc);
-    let mut patterns = Vec::new(alloc);
+    let mut places = Vec::with_capacity(alloc, reached.len())?;
+    let mut patterns = Vec::with_capacity(alloc, reached_count(reached))?;
     let mut listed = Vec::new(alloc);
     'rows: for i in 0..table.rows.len() {
         if reached[i] {
@@ -148,4 +148,11 @@ pub fn copied_rows(
         patterns,
         listed,
     })
+}
+
+/// How many rows are reached.
+fn reached_count(reached: &[bool]) -> usize
+    ensures { result ≡ length (filter (λ b. b) reached.now) }
+{
+    reached.iter().filter(|is_reached| **is_reached).count()
 }

@@ -83,7 +83,7 @@ fn grammar_elements(
 ) -> Result<Vec<(NameClass, PatternId)>, AllocError>
     ensures { IfOk result (λ elements. AreElementCopies (classes_of graph.now) contents.now places.now listed.now elements.items) }
 {
-    let mut elements = Vec::new(alloc);
+    let mut elements = Vec::with_capacity(alloc, listed.len())?;
     'listed: for element in listed {
         let class = element_class(alloc, graph, *element)?;
         let body = PatternId(row_of(places, row_of(contents, *element)));

@@ -2,7 +2,7 @@ use Rattle.std.proofs.Common.{◌≡◌, ◌<◌, [], ◌∷◌, ◌++◌, lengt
 use Rattle.std.proofs.lemmas.Option.{slice_get-get_or}
 use Rattle.rng_graph.proofs.Parts.{read_at}
 use Rattle.rng_model.proofs.Unfolding.{some_is}
-use Rattle.rng_simple.specs.Copying.{own_elements, IsRowCopy}
+use Rattle.rng_simple.specs.Copying.{AreCopied, own_elements, IsRowCopy}
 use Rattle.rng_simple.specs.RowTable.{labels_of}
 use Rattle.rng_simple.proofs.RowCopies.{copied_as, copied_next, skipped, both_children, index_apart}
 use Rattle.rng_simple.proofs.copying.copied_rows.Goals as goal
@@ -45,3 +45,10 @@ rows-preserved c =
           copied_as l rs reached _ _ _ _ _ _ _ e f g
           (skipped l rs reached i places listed ps c.rows.invariant (λ h. true_is_not_false (some_is h is)))
     ]
+
+pub returns-clause-copied : goal.returns-clause-copied
+returns-clause-copied c =
+    let rs = c.args.table.now.rows.items in
+    let all : c.rows.i ≡ length rs = omega (arith, c.rows-test.false, c.rows.auto.i-end, c.len-i-end.ensures) in
+    subst (λ n. AreCopied (labels_of c.args.table.now) rs c.args.reached.now n c.rows.places.items c.rows.patterns.items c.rows.listed.items) all
+    c.rows.invariant
