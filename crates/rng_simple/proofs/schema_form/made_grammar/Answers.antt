@@ -1,6 +1,8 @@
-use Rattle.std.proofs.Common.{◌≡◌, ◌↔◌, ◌<◌, ◌∷◌, [], ap, sym, ◌∙◌, subst, ℕ, length, slice_get, slice_index_or, Some, true}
+use Rattle.std.proofs.Common.{◌≡◌, ◌↔◌, ◌<◌, ◌∷◌, [], ap, sym, ◌∙◌, subst, ℕ, length, map, slice_get, slice_index_or, Some, true}
+use Rattle.rng_model.specs.View.{class_of}
+use Rattle.rng_graph.specs.Graph.{IsFilledBy}
 use Rattle.rng_graph.specs.GraphView.{classes_of, graph_of}
-use Rattle.rng_simple.specs.GrammarBy.{content_simple}
+use Rattle.rng_simple.specs.GrammarBy.{content_simple, spot_simple}
 use Rattle.rng_simple.specs.RowReach.{row_next, content_of}
 use Rattle.rng_simple.specs.RowTable.{labels_of, tree_of}
 use Rattle.rng_simple.specs.SimpleParts.{AreRowsBelow, values_in}
@@ -19,17 +21,17 @@ copied_rows-requires-clause-closed c =
     let u = c.content_rows.new.table in
     let rs = u.rows.items in
     let definitions = c.in_ok-definitions.definitions.items in
-    let contents = c.as_slice-3.result.now in
-    let reached = c.as_slice-4.result.now in
+    let contents = c.as_slice-4.result.now in
+    let reached = c.as_slice-5.result.now in
     let first = c.row_of-first.result in
     let grown = c.in_ok-contents.ensures.grown in
     let below : AreRowsBelow (length rs) contents =
-    subst (AreRowsBelow (length rs)) (sym c.as_slice-3.ensures.value) c.in_ok-contents.ensures.below in
-    let is_first : first ≡ slice_index_or definitions 0 0 = c.row_of-first.ensures ∙ ap (λ xs. slice_index_or xs 0 0) c.as_slice-2.ensures.value in
+    subst (AreRowsBelow (length rs)) (sym c.as_slice-4.ensures.value) c.in_ok-contents.ensures.below in
+    let is_first : first ≡ slice_index_or definitions 0 0 = c.row_of-first.ensures ∙ ap (λ xs. slice_index_or xs 0 0) c.as_slice-3.ensures.value in
     let first_below : first < length rs =
     subst (λ n. n < length rs) (sym is_first) (stay_below t u definitions grown c.in_ok-definitions.ensures.below 0) in
     let marks : (i : ℕ) → IsReachedBy (row_next rs (content_of contents)) (first ∷ []) i ↔ (slice_get reached i ≡ Some true) =
-    subst (λ xs. (i : ℕ) → IsReachedBy (row_next rs (content_of contents)) (first ∷ []) i ↔ (slice_get xs i ≡ Some true)) (sym c.as_slice-4.ensures.value)
+    subst (λ xs. (i : ℕ) → IsReachedBy (row_next rs (content_of contents)) (first ∷ []) i ↔ (slice_get xs i ≡ Some true)) (sym c.as_slice-5.ensures.value)
     c.in_ok-reached.ensures.reached in
     closed (labels_of u) rs grown.table.rows contents below first first_below reached marks
 
@@ -39,25 +41,27 @@ new-requires-2 c =
     let u = c.content_rows.new.table in
     let rs = u.rows.items in
     let definitions = c.in_ok-definitions.definitions.items in
-    let contents = c.as_slice-3.result.now in
-    let reached = c.as_slice-4.result.now in
+    let contents = c.as_slice-4.result.now in
+    let reached = c.as_slice-5.result.now in
     let first = c.row_of-first.result in
     let grown = c.in_ok-contents.ensures.grown in
     let below : AreRowsBelow (length rs) contents =
-    subst (AreRowsBelow (length rs)) (sym c.as_slice-3.ensures.value) c.in_ok-contents.ensures.below in
-    let is_first : first ≡ slice_index_or definitions 0 0 = c.row_of-first.ensures ∙ ap (λ xs. slice_index_or xs 0 0) c.as_slice-2.ensures.value in
+    subst (AreRowsBelow (length rs)) (sym c.as_slice-4.ensures.value) c.in_ok-contents.ensures.below in
+    let is_first : first ≡ slice_index_or definitions 0 0 = c.row_of-first.ensures ∙ ap (λ xs. slice_index_or xs 0 0) c.as_slice-3.ensures.value in
     let first_below : first < length rs =
     subst (λ n. n < length rs) (sym is_first) (stay_below t u definitions grown c.in_ok-definitions.ensures.below 0) in
     let marks : (i : ℕ) → IsReachedBy (row_next rs (content_of contents)) (first ∷ []) i ↔ (slice_get reached i ≡ Some true) =
-    subst (λ xs. (i : ℕ) → IsReachedBy (row_next rs (content_of contents)) (first ∷ []) i ↔ (slice_get xs i ≡ Some true)) (sym c.as_slice-4.ensures.value)
+    subst (λ xs. (i : ℕ) → IsReachedBy (row_next rs (content_of contents)) (first ∷ []) i ↔ (slice_get xs i ≡ Some true)) (sym c.as_slice-5.ensures.value)
     c.in_ok-reached.ensures.reached in
     let places = c.in_ok-copied.copied.places.items in
     let listed = c.in_ok-copied.copied.listed.items in
     let ps = c.in_ok-copied.copied.patterns.items in
-    let classes = classes_of c.args.graph.now in
+    let classes = classes_of c.args.graph in
     let es = c.in_ok-elements.elements.items in
-    let copies = copies_as classes c.as_slice-5.result.now contents c.as_slice-places.result.now places c.as_slice-6.result.now listed es
-    (c.as_slice-5.ensures.value ∙ sym c.as_slice-3.ensures.value) c.as_slice-places.ensures.value c.as_slice-6.ensures.value c.in_ok-elements.ensures in
+    let all : map (λ k. class_of k.now) c.as_slice-6.result.now ≡ classes =
+    ap (map (λ k. class_of k.now)) c.as_slice-6.ensures.value ∙ c.in_ok-classes.ensures in
+    let copies = copies_as (map (λ k. class_of k.now) c.as_slice-6.result.now) classes c.as_slice-7.result.now contents c.as_slice-places.result.now places c.as_slice-8.result.now listed es
+    all (c.as_slice-7.ensures.value ∙ sym c.as_slice-4.ensures.value) c.as_slice-places.ensures.value c.as_slice-8.ensures.value c.in_ok-elements.ensures in
     let is_start = c.row_of.ensures ∙ ap (λ xs. slice_index_or xs first 0) c.as_slice-places.ensures.value in
     is_table (labels_of u) rs grown.table.rows contents below first first_below reached marks
     places listed ps c.in_ok-copied.ensures.copied classes es copies _ is_start
@@ -68,37 +72,39 @@ returns c =
     let u = c.content_rows.new.table in
     let rs = u.rows.items in
     let definitions = c.in_ok-definitions.definitions.items in
-    let contents = c.as_slice-3.result.now in
-    let reached = c.as_slice-4.result.now in
+    let contents = c.as_slice-4.result.now in
+    let reached = c.as_slice-5.result.now in
     let first = c.row_of-first.result in
     let grown = c.in_ok-contents.ensures.grown in
     let below : AreRowsBelow (length rs) contents =
-    subst (AreRowsBelow (length rs)) (sym c.as_slice-3.ensures.value) c.in_ok-contents.ensures.below in
-    let is_first : first ≡ slice_index_or definitions 0 0 = c.row_of-first.ensures ∙ ap (λ xs. slice_index_or xs 0 0) c.as_slice-2.ensures.value in
+    subst (AreRowsBelow (length rs)) (sym c.as_slice-4.ensures.value) c.in_ok-contents.ensures.below in
+    let is_first : first ≡ slice_index_or definitions 0 0 = c.row_of-first.ensures ∙ ap (λ xs. slice_index_or xs 0 0) c.as_slice-3.ensures.value in
     let first_below : first < length rs =
     subst (λ n. n < length rs) (sym is_first) (stay_below t u definitions grown c.in_ok-definitions.ensures.below 0) in
     let marks : (i : ℕ) → IsReachedBy (row_next rs (content_of contents)) (first ∷ []) i ↔ (slice_get reached i ≡ Some true) =
-    subst (λ xs. (i : ℕ) → IsReachedBy (row_next rs (content_of contents)) (first ∷ []) i ↔ (slice_get xs i ≡ Some true)) (sym c.as_slice-4.ensures.value)
+    subst (λ xs. (i : ℕ) → IsReachedBy (row_next rs (content_of contents)) (first ∷ []) i ↔ (slice_get xs i ≡ Some true)) (sym c.as_slice-5.ensures.value)
     c.in_ok-reached.ensures.reached in
     let places = c.in_ok-copied.copied.places.items in
     let listed = c.in_ok-copied.copied.listed.items in
     let ps = c.in_ok-copied.copied.patterns.items in
-    let classes = classes_of c.args.graph.now in
+    let classes = classes_of c.args.graph in
     let es = c.in_ok-elements.elements.items in
-    let copies = copies_as classes c.as_slice-5.result.now contents c.as_slice-places.result.now places c.as_slice-6.result.now listed es
-    (c.as_slice-5.ensures.value ∙ sym c.as_slice-3.ensures.value) c.as_slice-places.ensures.value c.as_slice-6.ensures.value c.in_ok-elements.ensures in
+    let all : map (λ k. class_of k.now) c.as_slice-6.result.now ≡ classes =
+    ap (map (λ k. class_of k.now)) c.as_slice-6.ensures.value ∙ c.in_ok-classes.ensures in
+    let copies = copies_as (map (λ k. class_of k.now) c.as_slice-6.result.now) classes c.as_slice-7.result.now contents c.as_slice-places.result.now places c.as_slice-8.result.now listed es
+    all (c.as_slice-7.ensures.value ∙ sym c.as_slice-4.ensures.value) c.as_slice-places.ensures.value c.as_slice-8.ensures.value c.in_ok-elements.ensures in
     let is_start = c.row_of.ensures ∙ ap (λ xs. slice_index_or xs first 0) c.as_slice-places.ensures.value in
-    let g = graph_of c.args.graph.now in
+    let g = graph_of c.args.graph in
     let values = values_in t definitions in
     let start_tree : tree_of u first ≡ values 0 =
     ap (tree_of u) is_first ∙ grown.stays (slice_index_or definitions 0 0) (c.in_ok-definitions.ensures.below 0) in
     let bodies : (k : ℕ) → tree_of u (content_of contents k) ≡ content_simple g values k = λ k.
-    ap (λ xs. tree_of u (slice_index_or xs k 0)) c.as_slice-3.ensures.value ∙ c.in_ok-contents.ensures.contents k
-    ∙ ap (λ ds. content_simple g (values_in t ds) k) c.as_slice.ensures.value in
-    subst (IsMadeTable classes g c.args.order.now) (sym c.new-2.ensures) (record {
+    ap (λ xs. tree_of u (slice_index_or xs k 0)) c.as_slice-4.ensures.value ∙ c.in_ok-contents.ensures.contents k
+    ∙ ap (λ ds. content_simple g (values_in t ds) k) c.as_slice-2.ensures.value in
+    subst (IsMadeTable classes g c.args.order.items) (sym c.new-2.ensures) (record {
       made = record {
         values = values;
-        filled = c.in_ok-definitions.ensures.filled;
+        filled = subst (IsFilledBy g (spot_simple values) values) c.as_slice.ensures.value c.in_ok-definitions.ensures.filled;
         seen = listed;
         grammar = is_made (labels_of u) rs grown.table.rows contents below first first_below reached marks
             places listed ps c.in_ok-copied.ensures.copied classes es copies _ is_start g values start_tree bodies;
