@@ -78,10 +78,7 @@ fn made_grammar(
 }
 
 /// The name class of each element of a graph.
-fn element_classes<'a>(
-    alloc: Global,
-    graph: &Graph<'a>,
-) -> Result<Vec<&'a NameClass>, AllocError>
+fn element_classes<'a>(alloc: Global, graph: &Graph<'a>) -> Result<Vec<&'a NameClass>, AllocError>
     ensures { IfOk result (λ classes. map (λ k. class_of k.now) classes.items ≡ classes_of graph.now) }
 {
     let mut classes = Vec::with_capacity(alloc, graph.elements.len())?;
