@@ -64,7 +64,8 @@ fn made_grammar(
     drop(graph);
     let first = row_of(definitions.as_slice(), 0);
     let reached = reached_rows(alloc, &table, contents.as_slice(), first)?;
-    let copied = copied_rows(alloc, &table, reached.as_slice())?;
+    let rows = table.finished();
+    let copied = copied_rows(alloc, &rows, reached.as_slice())?;
     let places = copied.places.as_slice();
     let elements = grammar_elements(
         alloc,

@@ -2,14 +2,17 @@ use Rattle.std.proofs.Common.{◌≡◌, ◌↔◌, ◌<◌, ◌∷◌, [], ap, 
 use Rattle.rng_model.specs.View.{class_of}
 use Rattle.rng_graph.specs.Graph.{IsFilledBy}
 use Rattle.rng_graph.specs.GraphView.{classes_of, graph_of}
+use Rattle.rng_simple.specs.Copying.{AreCopied}
 use Rattle.rng_simple.specs.GrammarBy.{content_simple, spot_simple}
 use Rattle.rng_simple.specs.RowReach.{row_next, content_of}
-use Rattle.rng_simple.specs.RowTable.{labels_of, tree_of}
+use Rattle.rng_simple.specs.RowTable.{finished_labels, labels_of, tree_of}
+use Rattle.rng_simple.specs.Rows.{AreDistinctRows, AreRows}
 use Rattle.rng_simple.specs.SimpleParts.{AreRowsBelow, values_in}
 use Rattle.rng_simple.specs.SimplifiedSchema.{IsMadeTable}
 use Rattle.rng_simple.specs.Worklist.{IsReachedBy}
 use Rattle.rng_simple.proofs.GrammarElements.{copies_as}
 use Rattle.rng_simple.proofs.MadeGrammar.{closed, is_table, is_simple, is_made}
+use Rattle.rng_simple.proofs.RowCopies.{index_apart}
 use Rattle.rng_simple.proofs.SimpleParts.{stay_below}
 use Rattle.rng_simple.proofs.ToldApart.{patterns_apart}
 use Rattle.rng_simple.proofs.UsedPatterns.{all_used}
@@ -33,7 +36,20 @@ copied_rows-requires-clause-closed c =
     let marks : (i : ℕ) → IsReachedBy (row_next rs (content_of contents)) (first ∷ []) i ↔ (slice_get reached i ≡ Some true) =
     subst (λ xs. (i : ℕ) → IsReachedBy (row_next rs (content_of contents)) (first ∷ []) i ↔ (slice_get xs i ≡ Some true)) (sym c.as_slice-5.ensures.value)
     c.in_ok-reached.ensures.reached in
-    closed (labels_of u) rs grown.table.rows contents below first first_below reached marks
+    λ i r there.
+    closed (labels_of u) rs grown.table.rows contents below first first_below reached marks i r
+    (subst (λ xs. slice_get xs i ≡ Some r) c.finished-rows.ensures.rows there)
+
+pub copied_rows-requires-clause-rows : goal.copied_rows-requires-clause-rows
+copied_rows-requires-clause-rows c =
+    let u = c.content_rows.new.table in
+    subst (AreRows (finished_labels c.finished-rows.result)) (sym c.finished-rows.ensures.rows)
+    (subst (λ l. AreRows l u.rows.items) (sym c.finished-rows.ensures.labels) c.in_ok-contents.ensures.grown.table.rows)
+
+pub copied_rows-requires-clause-apart : goal.copied_rows-requires-clause-apart
+copied_rows-requires-clause-apart c =
+    let u = c.content_rows.new.table in
+    subst AreDistinctRows (sym c.finished-rows.ensures.rows) (index_apart u.rows.items u.numbers c.in_ok-contents.ensures.grown.table.index)
 
 pub new-requires-2 : goal.new-requires-2
 new-requires-2 c =
@@ -56,6 +72,10 @@ new-requires-2 c =
     let places = c.in_ok-copied.copied.places.items in
     let listed = c.in_ok-copied.copied.listed.items in
     let ps = c.in_ok-copied.copied.patterns.items in
+    let copied =
+    subst (λ l. AreCopied l rs reached (length rs) places ps listed) c.finished-rows.ensures.labels
+    (subst (λ xs. AreCopied (finished_labels c.finished-rows.result) xs reached (length xs) places ps listed) c.finished-rows.ensures.rows
+    c.in_ok-copied.ensures.copied) in
     let classes = classes_of c.args.graph in
     let es = c.in_ok-elements.elements.items in
     let all : map (λ k. class_of k.now) c.as_slice-6.result.now ≡ classes =
@@ -64,7 +84,7 @@ new-requires-2 c =
     all (c.as_slice-7.ensures.value ∙ sym c.as_slice-4.ensures.value) c.as_slice-places.ensures.value c.as_slice-8.ensures.value c.in_ok-elements.ensures in
     let is_start = c.row_of.ensures ∙ ap (λ xs. slice_index_or xs first 0) c.as_slice-places.ensures.value in
     is_table (labels_of u) rs grown.table.rows contents below first first_below reached marks
-    places listed ps c.in_ok-copied.ensures.copied classes es copies _ is_start
+    places listed ps copied classes es copies _ is_start
 
 pub returns : goal.returns
 returns c =
@@ -87,6 +107,10 @@ returns c =
     let places = c.in_ok-copied.copied.places.items in
     let listed = c.in_ok-copied.copied.listed.items in
     let ps = c.in_ok-copied.copied.patterns.items in
+    let copied =
+    subst (λ l. AreCopied l rs reached (length rs) places ps listed) c.finished-rows.ensures.labels
+    (subst (λ xs. AreCopied (finished_labels c.finished-rows.result) xs reached (length xs) places ps listed) c.finished-rows.ensures.rows
+    c.in_ok-copied.ensures.copied) in
     let classes = classes_of c.args.graph in
     let es = c.in_ok-elements.elements.items in
     let all : map (λ k. class_of k.now) c.as_slice-6.result.now ≡ classes =
@@ -107,12 +131,12 @@ returns c =
         filled = subst (IsFilledBy g (spot_simple values) values) c.as_slice.ensures.value c.in_ok-definitions.ensures.filled;
         seen = listed;
         grammar = is_made (labels_of u) rs grown.table.rows contents below first first_below reached marks
-            places listed ps c.in_ok-copied.ensures.copied classes es copies _ is_start g values start_tree bodies;
+            places listed ps copied classes es copies _ is_start g values start_tree bodies;
       };
       syntax = is_simple (labels_of u) rs grown.table.rows contents below first first_below reached marks
-          places listed ps c.in_ok-copied.ensures.copied classes es copies _ is_start;
+          places listed ps copied classes es copies _ is_start;
       used = all_used (labels_of u) rs grown.table.rows contents below first first_below reached marks
-          places listed ps c.in_ok-copied.ensures.copied classes es copies _ is_start;
-      apart = patterns_apart u grown.table reached places ps listed c.in_ok-copied.ensures.copied;
+          places listed ps copied classes es copies _ is_start;
+      apart = patterns_apart u grown.table reached places ps listed copied;
       few = c.in_ok-copied.ensures.few;
     })
