@@ -60,20 +60,20 @@ seen_second (e ∷ es) = ap (λ ps. graph_pattern_of e.content ∷ ps) (seen_sec
 -- all have a body
 pub built : (s : Schema) → IsReady s → (n : numberings.Numbering) (bodies : List (Tree Spot)) → IsGraphSoFar s (numbering_of n) bodies
     → length (numbering_of n).definitions ≤ length bodies
-    → (g : graphs.Graph) → map graph_body_of g.bodies.items ≡ bodies → g.elements ≡ n.elements → IsGraphOfSchema s g
+    → (g : graphs.Graph) → map graph_body_of g.bodies.items ≡ bodies → g.elements.items ≡ n.elements.items → IsGraphOfSchema s g
 built s ready n bodies is all g same elements =
     let v = numbering_of n in
     let apart = elements_apart s v.definitions is.numbering.apart in
     let graph : record { bodies = bodies; contents = map (λ (e : NameClass × Tree Spot). e.1) v.elements } ≡ graph_of g =
     ap₂ (λ bs cs. record { bodies = bs; contents = cs }) (sym same)
-    (seen_second n.elements.items ∙ ap (λ es. map (λ e. graph_pattern_of e.content) es.items) (sym elements)) in
+    (seen_second n.elements.items ∙ ap (map (λ e. graph_pattern_of e.content)) (sym elements)) in
     let leaves : elements_of s (take (length bodies) v.definitions) ≡ elements_of s v.definitions =
     ap (elements_of s) (take_all (length bodies) v.definitions all) in record {
       definitions = v.definitions;
       elements = elements_of s v.definitions;
       is = subst (IsGraphOf s v.definitions (elements_of s v.definitions)) graph (whole s ready v bodies is all apart);
       classes = ap (map (λ m. m.class)) (sym leaves) ∙ same_classes s (elements_of s (take (length bodies) v.definitions)) v is.numbering
-          ∙ seen_first n.elements.items ∙ ap (λ es. map (λ e. class_of e.class.now) es.items) (sym elements);
+          ∙ seen_first n.elements.items ∙ ap (map (λ e. class_of e.class.now)) (sym elements);
     }
 
 -- one more body in the code

@@ -46,7 +46,7 @@ impl<'a> Scope<'a> {
         ensures numbering { OnOk result (numbering_of numbering.new
             ≡ (resolve_each (place_of self.entry.place.now) (option_map (λ z. place_of z.now) self.entry.outer) (map (λ c. (schema_component_of c.now).pattern) components.now) (numbering_of numbering.old)).1) }
     {
-        let mut patterns = Vec::new(self.alloc);
+        let mut patterns = Vec::with_capacity(self.alloc, components.len())?;
         for component in components {
             patterns.push(self.pattern(&component.pattern, numbering)?)?;
         }

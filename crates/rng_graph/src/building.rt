@@ -35,6 +35,8 @@ pub fn schema_graph<'a>(alloc: Global, schema: &'a Schema) -> Result<Graph<'a>, 
         let definition = *definition;
         bodies.push(body(alloc, schema, &table, definition, &mut numbering)?)?;
     }
+    bodies.shrink_to_fit();
+    numbering.elements.shrink_to_fit();
     Ok(Graph {
         bodies,
         elements: numbering.elements,

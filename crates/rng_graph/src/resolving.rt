@@ -183,7 +183,7 @@ impl<'a> Scope<'a> {
             ≡ (resolve (place_of self.now.place.now) (option_map (λ z. place_of z.now) self.now.outer)
             (schema.members (connector_of connector) (map schema_pattern_of patterns.now)) (numbering_of numbering.old)).1) }
     {
-        let mut members = Vec::new(self.alloc);
+        let mut members = Vec::with_capacity(self.alloc, patterns.len())?;
         for pattern in patterns {
             members.push(self.pattern(pattern, numbering)?)?;
         }

@@ -31,9 +31,10 @@ module _ (classes : List names.NameClass) (contents places : List ℕ) where
       }))
 
 -- the same by other names
-pub copies_as : (classes : List names.NameClass) (contents more_contents places more_places listed more_listed : List ℕ) (es : List (NameClass × PatternId))
-    → contents ≡ more_contents → places ≡ more_places → listed ≡ more_listed → AreElementCopies classes contents places listed es
-    → AreElementCopies classes more_contents more_places more_listed es
-copies_as classes contents more_contents places more_places listed more_listed es e f g are =
-    subst (λ xs. AreElementCopies classes more_contents more_places xs es) g
-    (subst (λ xs. AreElementCopies classes more_contents xs listed es) f (subst (λ xs. AreElementCopies classes xs places listed es) e are))
+pub copies_as : (classes more_classes : List names.NameClass) (contents more_contents places more_places listed more_listed : List ℕ)
+    (es : List (NameClass × PatternId)) → classes ≡ more_classes → contents ≡ more_contents → places ≡ more_places → listed ≡ more_listed
+    → AreElementCopies classes contents places listed es → AreElementCopies more_classes more_contents more_places more_listed es
+copies_as classes more_classes contents more_contents places more_places listed more_listed es d e f g are =
+    subst (λ xs. AreElementCopies more_classes more_contents more_places xs es) g
+    (subst (λ xs. AreElementCopies more_classes more_contents xs listed es) f
+    (subst (λ xs. AreElementCopies more_classes xs places listed es) e (subst (λ xs. AreElementCopies xs contents places listed es) d are)))

@@ -9,6 +9,7 @@ use Rattle.rng_simple.specs.LabelCodes.{Part, AreApart, class_code, codes_of, da
 use Rattle.rng_simple.specs.RowIndex.{IsIndex}
 use Rattle.rng_simple.specs.Rows.{Labels, tree_at, AreRows}
 use Rattle.rng_simple.specs.SimpleOf as sorts
+use Rattle.rng_simple.specs.declared.row_table.FinishedRows.{FinishedRows}
 use Rattle.rng_simple.specs.declared.row_table.RowTable.{RowTable}
 use Rattle.rng_simple.specs.declared.row_table.ValueLabel.{ValueLabel}
 use Rattle.rng_simple.specs.declared.row_table.Sort.{Sort}
@@ -24,6 +25,13 @@ value_of v = (without_parameters v.library.now v.name.now, v.text.now)
 
 abbrev pub labels_of : RowTable → Labels
 labels_of t = record {
+  classes = map (λ c. nested (class_of c.now)) t.classes.items;
+  datatypes = map (λ d. datatype_of d.now) t.datatypes.items;
+  values = map value_of t.values.items;
+}
+
+abbrev pub finished_labels : FinishedRows → Labels
+finished_labels t = record {
   classes = map (λ c. nested (class_of c.now)) t.classes.items;
   datatypes = map (λ d. datatype_of d.now) t.datatypes.items;
   values = map value_of t.values.items;

@@ -1,14 +1,14 @@
 // Rows, with new numbers, in the tables of a grammar.
-ghost use Rattle.std.specs.Prelude.{◌≡◌, ◌<◌, ◌^◌, ◌++◌, ℕ, length, slice_get, true, IfOk, OnOk, Some};
+ghost use Rattle.std.specs.Prelude.{◌≡◌, ◌<◌, ◌^◌, ◌++◌, ℕ, filter, length, slice_get, true, IfOk, OnOk, Some};
 ghost use Rattle.rng_model.specs.Table.{IsPaired};
 ghost use Rattle.rng_model.specs.Types.{datatype_of};
 ghost use Rattle.rng_model.specs.View.{class_of};
 ghost use Rattle.rng_simple.specs.Copying.{AllChildren, AreCopied, IsRowCopy, own_elements};
-ghost use Rattle.rng_simple.specs.RowTable.{IsRowTable, labels_of, row_count};
-ghost use Rattle.rng_simple.specs.Rows.{IsLabelled, class_at, datatype_at};
+ghost use Rattle.rng_simple.specs.RowTable.{finished_labels};
+ghost use Rattle.rng_simple.specs.Rows.{AreDistinctRows, AreRows, IsLabelled, class_at, datatype_at};
 
 use crate::name_class::nested;
-use crate::row_table::RowTable;
+use crate::row_table::FinishedRows;
 use crate::rows::Row;
 use crate::simple_parts::row_of;
 use rng_model::{Datatype, ElementId, NameClass, PatternId, Simple};
@@ -17,14 +17,14 @@ use std::alloc::{AllocError, Global};
 /// A row as a pattern: its children by the places that they have, its element by its place in the list, where it is put.
 pub fn copied_row(
     alloc: Global,
-    table: &RowTable<'_>,
+    table: &FinishedRows<'_>,
     places: &[usize],
     listed: &mut Vec<usize>,
     row: Row,
 ) -> Result<Simple, AllocError>
-    requires { IsLabelled (labels_of table.now) row }
+    requires { IsLabelled (finished_labels table.now) row }
     ensures listed { OnOk result (listed.new.items ≡ listed.old.items ++ own_elements row) }
-    ensures copy { IfOk result (IsRowCopy (labels_of table.now) places.now listed.old.items row) }
+    ensures copy { IfOk result (IsRowCopy (finished_labels table.now) places.now listed.old.items row) }
 {
     match row {
         Row::NotAllowed => Ok(Simple::NotAllowed),
@@ -70,9 +70,13 @@ pub fn copied_row(
 }
 
 /// A copy of a name class, in simple form.
-fn class_copy(alloc: Global, table: &RowTable<'_>, class: usize) -> Result<NameClass, AllocError>
-    requires { class < length (labels_of table.now).classes }
-    ensures copy { IfOk result (λ copy. class_of copy ≡ class_at (labels_of table.now) class) }
+fn class_copy(
+    alloc: Global,
+    table: &FinishedRows<'_>,
+    class: usize,
+) -> Result<NameClass, AllocError>
+    requires { class < length (finished_labels table.now).classes }
+    ensures copy { IfOk result (λ copy. class_of copy ≡ class_at (finished_labels table.now) class) }
     ensures paired { IfOk result IsPaired }
 {
     nested(alloc, table.classes[class])
@@ -81,11 +85,11 @@ fn class_copy(alloc: Global, table: &RowTable<'_>, class: usize) -> Result<NameC
 /// A copy of a datatype.
 fn datatype_copy(
     alloc: Global,
-    table: &RowTable<'_>,
+    table: &FinishedRows<'_>,
     datatype: usize,
 ) -> Result<Datatype, AllocError>
-    requires { datatype < length (labels_of table.now).datatypes }
-    ensures { IfOk result (λ copy. datatype_of copy ≡ datatype_at (labels_of table.now) datatype) }
+    requires { datatype < length (finished_labels table.now).datatypes }
+    ensures { IfOk result (λ copy. datatype_of copy ≡ datatype_at (finished_labels table.now) datatype) }
 {
     same_datatype(alloc, table.datatypes[datatype])
 }
@@ -93,7 +97,7 @@ fn datatype_copy(
 fn same_datatype(alloc: Global, datatype: &Datatype) -> Result<Datatype, AllocError>
     ensures { IfOk result (λ copy. datatype_of copy ≡ datatype_of datatype.now) }
 {
-    let mut parameters = Vec::new(alloc);
+    let mut parameters = Vec::with_capacity(alloc, datatype.parameters.len())?;
     'parameters: for (name, value) in &datatype.parameters {
         let name = String::from_str(alloc, name.as_str())?;
         let value = String::from_str(alloc, value.as_str())?;
@@ -119,19 +123,20 @@ pub struct CopiedRows {
 /// The rows that are reached, in their order.
 pub fn copied_rows(
     alloc: Global,
-    table: &RowTable<'_>,
+    table: &FinishedRows<'_>,
     reached: &[bool],
 ) -> Result<CopiedRows, AllocError>
-    requires table { IsRowTable table.now }
-    requires long { length reached.now ≡ row_count table.now }
+    requires rows { AreRows (finished_labels table.now) table.now.rows.items }
+    requires apart { AreDistinctRows table.now.rows.items }
+    requires long { length reached.now ≡ length table.now.rows.items }
     requires closed { (i : ℕ) (r : Row) → slice_get table.now.rows.items i ≡ Some r → slice_get reached.now i ≡ Some true →
         AllChildren (λ a. slice_get reached.now a ≡ Some true) r }
-    ensures copied { IfOk result (λ copied. AreCopied (labels_of table.now) table.now.rows.items reached.now (row_count table.now)
+    ensures copied { IfOk result (λ copied. AreCopied (finished_labels table.now) table.now.rows.items reached.now (length table.now.rows.items)
         copied.places.items copied.patterns.items copied.listed.items) }
     ensures few { IfOk result (λ copied. length copied.patterns.items < 2 ^ 64) }
 {
-    let mut places = Vec::new(alloc);
-    let mut patterns = Vec::new(alloc);
+    let mut places = Vec::with_capacity(alloc, reached.len())?;
+    let mut patterns = Vec::with_capacity(alloc, reached_count(reached))?;
     let mut listed = Vec::new(alloc);
     'rows: for i in 0..table.rows.len() {
         if reached[i] {
@@ -148,4 +153,11 @@ pub fn copied_rows(
         patterns,
         listed,
     })
+}
+
+/// How many rows are reached.
+fn reached_count(reached: &[bool]) -> usize
+    ensures { result ≡ length (filter (λ b. b) reached.now) }
+{
+    reached.iter().filter(|is_reached| **is_reached).count()
 }

@@ -17,6 +17,7 @@ ghost use Rattle.rng_simple.specs.RowTable.{
   IsGrown,
   IsRelabelled,
   IsRowTable,
+  finished_labels,
   labels_of,
   row_count,
   sort_seen,
@@ -55,6 +56,15 @@ pub struct RowTable<'a> {
     pub class_codes: IndexSet<Vec<LabelPart<'a>>>,
     pub datatype_codes: IndexSet<Vec<LabelPart<'a>>>,
     pub value_codes: IndexSet<Vec<LabelPart<'a>>>,
+}
+
+/// The rows of a table and their labels, to which no more are added.
+#[derive(Drop)]
+pub struct FinishedRows<'a> {
+    pub rows: Vec<Row>,
+    pub classes: Vec<&'a NameClass>,
+    pub datatypes: Vec<&'a Datatype>,
+    pub values: Vec<ValueLabel<'a>>,
 }
 
 /// What the rules of simplification ask of a side.
@@ -98,6 +108,19 @@ impl<'a> RowTable<'a> {
     {
         let id = number(&mut self.rows, &mut self.numbers, row)?;
         Ok(id)
+    }
+
+    /// The rows and their labels, without what finds the number of a row.
+    pub fn finished(self) -> FinishedRows<'a>
+        ensures rows { result.rows.items ≡ self.entry.rows.items }
+        ensures labels { finished_labels result ≡ labels_of self.entry }
+    {
+        FinishedRows {
+            rows: self.rows,
+            classes: self.classes,
+            datatypes: self.datatypes,
+            values: self.values,
+        }
     }
 
     /// What a row is as a side.

@@ -1,5 +1,5 @@
 // The simple form of a graph.
-ghost use Rattle.std.specs.Prelude.{◌≡◌, ◌<◌, ◌^◌, length, take, slice_get, All, IfOk, Some};
+ghost use Rattle.std.specs.Prelude.{◌≡◌, ◌<◌, ◌^◌, length, map, take, slice_get, All, IfOk, Some};
 ghost use Rattle.rng_model.specs.Names as names;
 ghost use Rattle.rng_model.specs.Table.{AreToldApart, IsInSimpleSyntax, IsPaired, grammar_of};
 ghost use Rattle.rng_model.specs.View.{class_of};
@@ -28,43 +28,48 @@ use std::alloc::{AllocError, Global};
 /// The answer is in the simple syntax of section 5, and it is the only simple form of the schema, up to the numbers of its
 /// elements. Each definition and each element is simplified once, equal patterns have one number, and elements that the start
 /// does not reach are not in it. The only fault is want of memory. Takes time and memory in proportion to the graph, but for
-/// hashing, and recurses as deep as a single body nests.
+/// hashing, and recurses as deep as a single body nests. The graph and the order are let go of before the grammar is made.
 pub fn simple_grammar(
     alloc: Global,
-    graph: &Graph<'_>,
-    order: &[usize],
+    graph: Graph<'_>,
+    order: Vec<usize>,
 ) -> Result<SimpleGrammar, OutOfMemory>
-    requires { IsWholeOrder (graph_of graph.now) order.now }
+    requires { IsWholeOrder (graph_of graph) order.items }
     ensures syntax { IfOk result (λ h. IsInSimpleSyntax (grammar_of h)) }
     ensures used { IfOk result AreAllUsed }
     ensures apart { IfOk result AreToldApart }
     ensures few { IfOk result (λ h. length h.patterns < 2 ^ 64) }
-    ensures simple_form { IfOk result (λ h. (s : Schema) → IsGraphOfSchema s graph.now → IsSimpleGrammarOf s (grammar_of h)) }
-    ensures only { IfOk result (λ h. (s : Schema) → IsGraphOfSchema s graph.now → IsOnlySimpleGrammarOf s (grammar_of h)) }
+    ensures simple_form { IfOk result (λ h. (s : Schema) → IsGraphOfSchema s graph.entry → IsSimpleGrammarOf s (grammar_of h)) }
+    ensures only { IfOk result (λ h. (s : Schema) → IsGraphOfSchema s graph.entry → IsOnlySimpleGrammarOf s (grammar_of h)) }
 {
     Ok(made_grammar(alloc, graph, order)?)
 }
 
-/// The grammar of a graph whose definitions are taken in this order.
+/// The grammar of a graph whose definitions are taken in this order. Once all is in rows, of the graph only the name classes of
+/// its elements are kept.
 fn made_grammar(
     alloc: Global,
-    graph: &Graph<'_>,
-    order: &[usize],
+    graph: Graph<'_>,
+    order: Vec<usize>,
 ) -> Result<SimpleGrammar, AllocError>
-    requires order { IsOrderBy (Mentions (graph_of graph.now)) order.now }
-    requires within { All (λ j. j < length (graph_of graph.now).bodies) order.now }
-    ensures { IfOk result (IsMadeTable (classes_of graph.now) (graph_of graph.now) order.now) }
+    requires order { IsOrderBy (Mentions (graph_of graph)) order.items }
+    requires within { All (λ j. j < length (graph_of graph).bodies) order.items }
+    ensures { IfOk result (IsMadeTable (classes_of graph.entry) (graph_of graph.entry) order.items) }
 {
     let mut table = RowTable::new(alloc)?;
-    let definitions = definition_rows(alloc, &mut table, graph, order)?;
-    let contents = content_rows(alloc, &mut table, graph, definitions.as_slice())?;
+    let definitions = definition_rows(alloc, &mut table, &graph, order.as_slice())?;
+    drop(order);
+    let contents = content_rows(alloc, &mut table, &graph, definitions.as_slice())?;
+    let classes = element_classes(alloc, &graph)?;
+    drop(graph);
     let first = row_of(definitions.as_slice(), 0);
     let reached = reached_rows(alloc, &table, contents.as_slice(), first)?;
-    let copied = copied_rows(alloc, &table, reached.as_slice())?;
+    let rows = table.finished();
+    let copied = copied_rows(alloc, &rows, reached.as_slice())?;
     let places = copied.places.as_slice();
     let elements = grammar_elements(
         alloc,
-        graph,
+        classes.as_slice(),
         contents.as_slice(),
         places,
         copied.listed.as_slice(),
@@ -73,33 +78,48 @@ fn made_grammar(
     Ok(SimpleGrammar::new(copied.patterns, elements, start))
 }
 
-/// The elements that are listed, the rows of the bodies being `contents`, and their places `places`.
+/// The name class of each element of a graph.
+fn element_classes<'a>(alloc: Global, graph: &Graph<'a>) -> Result<Vec<&'a NameClass>, AllocError>
+    ensures { IfOk result (λ classes. map (λ k. class_of k.now) classes.items ≡ classes_of graph.now) }
+{
+    let mut classes = Vec::with_capacity(alloc, graph.elements.len())?;
+    'elements: for element in &graph.elements {
+        classes.push(element.class)?;
+    }
+    Ok(classes)
+}
+
+/// The elements that are listed, the name classes of all being `classes`, the rows of their bodies `contents`, and the places of
+/// the rows `places`.
 fn grammar_elements(
     alloc: Global,
-    graph: &Graph<'_>,
+    classes: &[&NameClass],
     contents: &[usize],
     places: &[usize],
     listed: &[usize],
 ) -> Result<Vec<(NameClass, PatternId)>, AllocError>
-    ensures { IfOk result (λ elements. AreElementCopies (classes_of graph.now) contents.now places.now listed.now elements.items) }
+    ensures { IfOk result (λ elements. AreElementCopies (map (λ k. class_of k.now) classes.now) contents.now places.now listed.now elements.items) }
 {
-    let mut elements = Vec::new(alloc);
+    let mut elements = Vec::with_capacity(alloc, listed.len())?;
     'listed: for element in listed {
-        let class = element_class(alloc, graph, *element)?;
+        let class = element_class(alloc, classes, *element)?;
         let body = PatternId(row_of(places, row_of(contents, *element)));
         elements.push((class, body))?;
     }
     Ok(elements)
 }
 
-/// The name class of an element in simple form. A number past the graph's elements, which no body of a graph has, has any
-/// name.
-fn element_class(alloc: Global, graph: &Graph<'_>, element: usize) -> Result<NameClass, AllocError>
-    ensures class { IfOk result (λ copy. (c : names.NameClass) → slice_get (classes_of graph.now) element ≡ Some c → class_of copy ≡ nested_tree c) }
+/// The name class of an element in simple form. A number past the elements, which no body of a graph has, has any name.
+fn element_class(
+    alloc: Global,
+    classes: &[&NameClass],
+    element: usize,
+) -> Result<NameClass, AllocError>
+    ensures class { IfOk result (λ copy. (c : names.NameClass) → slice_get (map (λ k. class_of k.now) classes.now) element ≡ Some c → class_of copy ≡ nested_tree c) }
     ensures paired { IfOk result IsPaired }
 {
-    match graph.elements.get(element) {
-        Some(element) => nested(alloc, element.class),
+    match classes.get(element) {
+        Some(class) => nested(alloc, *class),
         None => Ok(NameClass::Any),
     }
 }

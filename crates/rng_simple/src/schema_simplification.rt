@@ -43,5 +43,5 @@ pub fn simplify_schema(alloc: Global, schema: &Schema) -> Result<SimpleGrammar, 
     check_components(alloc, schema)?;
     let graph = schema_graph(alloc, schema)?;
     let order = expansion_order(alloc, &graph)?;
-    Ok(simple_grammar(alloc, &graph, order.as_slice())?)
+    Ok(simple_grammar(alloc, graph, order)?)
 }

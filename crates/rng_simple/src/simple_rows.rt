@@ -52,7 +52,7 @@ pub fn content_rows<'a>(
     ensures contents { IfOk result (λ rows. (k : ℕ) →
         tree_of table.new (slice_index_or rows.items k 0) ≡ content_simple (graph_of graph.now) (values_in table.old definitions.now) k) }
 {
-    let mut rows = Vec::new(alloc);
+    let mut rows = Vec::with_capacity(alloc, graph.elements.len())?;
     'elements: for element in &graph.elements {
         rows.push(simple_part(table, definitions, &element.content)?)?;
     }

@@ -1,4 +1,4 @@
-use Rattle.std.proofs.Common.{◌≡◌, ◌∙◌, refl, ap, sym, subst, arith, rules, [], ◌∷◌, ◌+◌, length, length-append, map, slice_get, Some, None}
+use Rattle.std.proofs.Common.{◌≡◌, ◌∙◌, ap, sym, subst, arith, rules, [], ◌∷◌, ◌+◌, length, length-append, map, slice_get, Some, None}
 use Rattle.std.proofs.lemmas.List.{length-map}
 use Rattle.rng_load.specs.PlacedGrammars.{schema_of}
 use Rattle.rng_graph.specs.ComponentTable.{table_of}
@@ -40,4 +40,5 @@ returns c =
       length-map c.definitions.bodies.items graph_body_of,
       length-map c.definitions.numbering.definitions.keys definition_of,
     ))
-    (record { bodies = c.definitions.bodies; elements = c.definitions.numbering.elements }) refl refl
+    (record { bodies = c.shrink_to_fit.new.self; elements = c.shrink_to_fit-2.new.self })
+    (ap (map graph_body_of) c.shrink_to_fit.ensures.items) c.shrink_to_fit-2.ensures.items

@@ -2,9 +2,9 @@ use Rattle.std.proofs.Common.{◌≡◌, ◌<◌, [], ◌∷◌, ◌++◌, lengt
 use Rattle.std.proofs.lemmas.Option.{slice_get-get_or}
 use Rattle.rng_graph.proofs.Parts.{read_at}
 use Rattle.rng_model.proofs.Unfolding.{some_is}
-use Rattle.rng_simple.specs.Copying.{own_elements, IsRowCopy}
-use Rattle.rng_simple.specs.RowTable.{labels_of}
-use Rattle.rng_simple.proofs.RowCopies.{copied_as, copied_next, skipped, both_children, index_apart}
+use Rattle.rng_simple.specs.Copying.{AreCopied, own_elements, IsRowCopy}
+use Rattle.rng_simple.specs.RowTable.{finished_labels}
+use Rattle.rng_simple.proofs.RowCopies.{copied_as, copied_next, skipped, both_children}
 use Rattle.rng_simple.proofs.copying.copied_rows.Goals as goal
 use Rattle.rng_simple.proofs.copying.copied_rows.Goals.{then-reached-i+in_ok-pattern+in_ok-push+in_ok-push-2, else-reached-i+in_ok-push-3}
 
@@ -13,7 +13,7 @@ true_is_not_false e = cc
 
 pub rows-preserved : goal.rows-preserved
 rows-preserved c =
-    let l = labels_of c.args.table.now in
+    let l = finished_labels c.args.table.now in
     let rs = c.args.table.now.rows.items in
     let reached = c.args.reached.now in
     let i = c.rows.i in
@@ -31,11 +31,11 @@ rows-preserved c =
           let g : c.if-reached-i.listed.items ≡ listed ++ own_elements r = search rules in
           let is : slice_get reached i ≡ Some true = slice_get-get_or reached i false inside ∙ ap (λ b. Some b) w.if-reached-i.true in
           let found : slice_get rs i ≡ Some r = read_at rs i r r within w.index-row.ensures refl in
-          let falls = c.requires.table.rows.falls in
+          let falls = c.requires.rows.falls in
           let children = both_children (λ a. slice_get reached a ≡ Some true) i r (falls i r found) (c.requires.closed i r found is) in
           let copy = subst (λ xs. IsRowCopy l xs listed r p) w.as_slice.ensures.value w.in_ok-pattern.ensures.copy in
           copied_as l rs reached _ _ _ _ _ _ _ e f g
-          (copied_next l rs reached i places listed ps c.rows.invariant r p falls (index_apart rs c.args.table.now.numbers c.requires.table.index) found is
+          (copied_next l rs reached i places listed ps c.rows.invariant r p falls c.requires.apart found is
           children copy)
       | else-reached-i+in_ok-push-3 w ↦
           let e : c.if-reached-i.places.items ≡ places ++ 0 ∷ [] = search rules in
@@ -45,3 +45,10 @@ rows-preserved c =
           copied_as l rs reached _ _ _ _ _ _ _ e f g
           (skipped l rs reached i places listed ps c.rows.invariant (λ h. true_is_not_false (some_is h is)))
     ]
+
+pub returns-clause-copied : goal.returns-clause-copied
+returns-clause-copied c =
+    let rs = c.args.table.now.rows.items in
+    let all : c.rows.i ≡ length rs = omega (arith, c.rows-test.false, c.rows.auto.i-end, c.len-i-end.ensures) in
+    subst (λ n. AreCopied (finished_labels c.args.table.now) rs c.args.reached.now n c.rows.places.items c.rows.patterns.items c.rows.listed.items) all
+    c.rows.invariant

@@ -1,6 +1,6 @@
 use Rattle.rng_simple.specs.Copying.{AreCopied}
-use Rattle.rng_simple.specs.RowTable.{labels_of}
+use Rattle.rng_simple.specs.RowTable.{finished_labels}
 use Rattle.rng_simple.proofs.copying.copied_rows.Given as goal
 
 abbrev pub invariant-rows : goal.invariant-rows
-invariant-rows l = AreCopied (labels_of l.table) l.table.rows.items l.reached l.i l.places.items l.patterns.items l.listed.items
+invariant-rows l = AreCopied (finished_labels l.table) l.table.rows.items l.reached l.i l.places.items l.patterns.items l.listed.items

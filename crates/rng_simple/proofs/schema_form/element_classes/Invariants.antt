@@ -1,0 +1,7 @@
+use Rattle.std.proofs.Common.{◌≡◌, map, take}
+use Rattle.rng_model.specs.View.{class_of}
+use Rattle.rng_graph.specs.GraphView.{classes_of}
+use Rattle.rng_simple.proofs.schema_form.element_classes.Given as goal
+
+abbrev pub invariant-elements : goal.invariant-elements
+invariant-elements l = map (λ k. class_of k.now) l.classes.items ≡ take l.element-index (classes_of l.graph)
