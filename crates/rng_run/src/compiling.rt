@@ -34,10 +34,10 @@ pub enum Compiled {
 pub(crate) fn compile(
     alloc: Global,
     command: Command,
-    schema: &Schema,
+    schema: Schema,
 ) -> Result<Compiled, OutOfMemory>
-    requires { IsWellPlaced (schema_of schema.now) }
-    ensures { IfOk result (IsCompiled command (schema_of schema.now)) }
+    requires { IsWellPlaced (schema_of schema) }
+    ensures { IfOk result (IsCompiled command (schema_of schema)) }
 {
     let grammar = match good_grammar(alloc, schema) {
         Ok(grammar) => grammar,
@@ -53,17 +53,18 @@ pub(crate) fn compile(
 }
 
 /// The simple form of a schema that breaks no clause, or the least clause that it breaks, 11 to 27.
-fn good_grammar(alloc: Global, schema: &Schema) -> Result<SimpleGrammar, SchemaFault>
-    requires { IsWellPlaced (schema_of schema.now) }
-    ensures form { IfOk result (λ g. IsSimpleGrammarOf (schema_of schema.now) (grammar_of g)) }
-    ensures only { IfOk result (λ g. IsOnlySimpleGrammarOf (schema_of schema.now) (grammar_of g)) }
+fn good_grammar(alloc: Global, schema: Schema) -> Result<SimpleGrammar, SchemaFault>
+    requires { IsWellPlaced (schema_of schema) }
+    ensures form { IfOk result (λ g. IsSimpleGrammarOf (schema_of schema) (grammar_of g)) }
+    ensures only { IfOk result (λ g. IsOnlySimpleGrammarOf (schema_of schema) (grammar_of g)) }
     ensures apart { IfOk result AreToldApart }
-    ensures documents { IfOk result (λ g. AreSameDocuments (schema_of schema.now) (grammar_of g)) }
+    ensures documents { IfOk result (λ g. AreSameDocuments (schema_of schema) (grammar_of g)) }
     ensures restricted { IfOk result (λ g. BreaksNone (grammar_of g)) }
-    ensures kept { OnOk result (BreaksNoClause (schema_of schema.now)) }
-    ensures broken { IfErr result (IsLeastFault (schema_of schema.now)) }
+    ensures kept { OnOk result (BreaksNoClause (schema_of schema)) }
+    ensures broken { IfErr result (IsLeastFault (schema_of schema)) }
 {
-    let grammar = simplify_schema(alloc, schema)?;
+    let grammar = simplify_schema(alloc, &schema)?;
+    drop(schema);
     restrict(alloc, &grammar)?;
     Ok(grammar)
 }

@@ -126,7 +126,7 @@ fn answer_for<R: Read>(
     ensures answer { IfOk result (λ answer. IsAnswer command (named_files files.now) main.now (R.remaining (device_inner input.old)) (R.remaining (device_inner input.new)) (answer_of answer)) }
 {
     match load(alloc, files, main) {
-        Ok(schema) => answer_by(alloc, command, &schema, input),
+        Ok(schema) => answer_by(alloc, command, schema, input),
         Err(SchemaFault::File { clause, name }) => Ok(Answer::RefusedFile { clause, name }),
         Err(SchemaFault::Clause(clause)) => Ok(Answer::Refused(clause)),
         Err(SchemaFault::Memory) => Err(RunFault::Memory),
@@ -137,17 +137,17 @@ fn answer_for<R: Read>(
 fn answer_by<R: Read>(
     alloc: Global,
     command: Command,
-    schema: &Schema,
+    schema: Schema,
     input: &mut Device<R>,
 ) -> Result<Answer, RunFault>
-    requires placed { IsWellPlaced (schema_of schema.now) }
+    requires placed { IsWellPlaced (schema_of schema) }
     requires input { device_failures input.old < 2 ^ 64 - 1 }
     ensures calm { OnOk result (device_failures input.new ≡ device_failures input.old) }
-    ensures unread { ¬ (JudgesDocuments command (schema_of schema.now)) → input.new ≡ input.old }
+    ensures unread { ¬ (JudgesDocuments command (schema_of schema)) → input.new ≡ input.old }
     ensures read { IsErrOf result RunFault.Read → device_failures input.old < device_failures input.new }
     ensures memory { IsErrOf result RunFault.Memory → device_failures input.new ≡ device_failures input.old }
     ensures no_write { IsErrOf result RunFault.Write → ⊥ }
-    ensures answer { IfOk result (λ answer. IsAnswerBy command (schema_of schema.now) (R.remaining (device_inner input.old)) (R.remaining (device_inner input.new)) (answer_of answer)) }
+    ensures answer { IfOk result (λ answer. IsAnswerBy command (schema_of schema) (R.remaining (device_inner input.old)) (R.remaining (device_inner input.new)) (answer_of answer)) }
 {
     let grammar = match compile(alloc, command, schema) {
         Ok(Compiled::Grammar(grammar)) => grammar,

@@ -24,17 +24,17 @@ judged_by command s g old new verdict for is =
 
 pub returns-in-Ok-clause-answer : goal.returns-in-Ok-clause-answer
 returns-in-Ok-clause-answer g c =
-    let is = subst (IsCompiled c.args.command (schema_of c.args.schema.now)) c.in-Ok-Grammar.field-0-is c.in-Ok-Grammar.ensures in
+    let is = subst (IsCompiled c.args.command (schema_of c.args.schema)) c.in-Ok-Grammar.field-0-is c.in-Ok-Grammar.ensures in
     judged_by _ _ _ _ _ _ is c.in-Ok.ensures.judged
 
 pub returns-in-Ok-Refused-clause-answer : goal.returns-in-Ok-Refused-clause-answer
 returns-in-Ok-Refused-clause-answer g c =
-    schema_is_told (subst (IsCompiled c.args.command (schema_of c.args.schema.now)) c.in-Ok-Refused.field-0-is c.in-Ok-Refused.ensures)
+    schema_is_told (subst (IsCompiled c.args.command (schema_of c.args.schema)) c.in-Ok-Refused.field-0-is c.in-Ok-Refused.ensures)
 
 pub returns-in-Ok-Printed-clause-answer : goal.returns-in-Ok-Printed-clause-answer
 returns-in-Ok-Printed-clause-answer g c =
-    schema_is_told (subst (IsCompiled c.args.command (schema_of c.args.schema.now)) c.in-Ok-Printed.field-0-is c.in-Ok-Printed.ensures)
+    schema_is_told (subst (IsCompiled c.args.command (schema_of c.args.schema)) c.in-Ok-Printed.field-0-is c.in-Ok-Printed.ensures)
 
 pub returns-in-Ok-Good-clause-answer : goal.returns-in-Ok-Good-clause-answer
 returns-in-Ok-Good-clause-answer g c =
-    schema_is_told (subst (IsCompiled c.args.command (schema_of c.args.schema.now)) c.in-Ok-Good.field-0-is c.in-Ok-Good.ensures)
+    schema_is_told (subst (IsCompiled c.args.command (schema_of c.args.schema)) c.in-Ok-Good.field-0-is c.in-Ok-Good.ensures)
