@@ -87,7 +87,7 @@ impl<'s, 'a> Resolver<'s, 'a> {
     ) -> Result<Vec<NameClass>, ScopeFault>
         ensures { Resolves (λ classes. map tree.class_of classes.items) result (each (rules.class_in (scope_view self.entry.scope.now) (namespace_at (scope_view self.entry.scope.now) place)) (map syntax.class_of all.now)) }
     {
-        let mut classes = Vec::new(self.alloc);
+        let mut classes = Vec::with_capacity(self.alloc, all.len())?;
         for class in all {
             classes.push(self.class(place, class)?)?;
         }
@@ -124,7 +124,7 @@ impl<'s, 'a> Resolver<'s, 'a> {
     ) -> Result<Vec<(String, String)>, ScopeFault>
         ensures { Resolves (λ parameters. map (λ p. (string_bytes p.0, string_bytes p.1)) parameters.items) result (Some (map syntax.parameter_of all.now)) }
     {
-        let mut parameters = Vec::new(self.alloc);
+        let mut parameters = Vec::with_capacity(self.alloc, all.len())?;
         for parameter in all {
             let name = String::from_str(self.alloc, parameter.name)?;
             let value = literal_text(self.alloc, &parameter.value)?;
@@ -217,7 +217,7 @@ impl<'s, 'a> Resolver<'s, 'a> {
     fn patterns(self, all: &[rnc_syntax::Pattern<'a>]) -> Result<Vec<Pattern>, ScopeFault>
         ensures { Resolves (λ patterns. map tree.pattern_of patterns.items) result (each (rules.pattern_in (scope_view self.entry.scope.now)) (map syntax.pattern_of all.now)) }
     {
-        let mut patterns = Vec::new(self.alloc);
+        let mut patterns = Vec::with_capacity(self.alloc, all.len())?;
         for pattern in all {
             patterns.push(self.pattern(pattern)?)?;
         }
@@ -248,7 +248,7 @@ impl<'s, 'a> Resolver<'s, 'a> {
     fn components(self, all: &[rnc_syntax::Component<'a>]) -> Result<Vec<Component>, ScopeFault>
         ensures { Resolves (λ components. components_of (map tree.component_of components.items)) result (rules.components_in (scope_view self.entry.scope.now) (written.components_of (map syntax.component_of all.now))) }
     {
-        let mut components = Vec::new(self.alloc);
+        let mut components = Vec::with_capacity(self.alloc, all.len())?;
         for component in all {
             components.push(self.component(component)?)?;
         }

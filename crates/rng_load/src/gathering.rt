@@ -127,7 +127,7 @@ impl<'a> TreeReader<'a> {
         ensures way { OnOk result (way.new.items ≡ way.old.items) }
     {
         let included = self.included(levels, uri, way, mention)?;
-        let mut replacing = Vec::new(self.alloc);
+        let mut replacing = Vec::with_capacity(self.alloc, overriding.len())?;
         self.gather_under(levels, uri, way, 1, overriding, &mut replacing)?;
         replace(self.alloc, all, included, replacing)
     }
@@ -149,13 +149,13 @@ impl<'a> TreeReader<'a> {
         ensures way { OnOk result (way.new.items ≡ way.old.items) }
     {
         let uri = namespace_uri(&mention.namespace, uri);
-        let mut all = Vec::new(self.alloc);
         let Some(components) = grammar_of(self.trees, mention.href.as_str()) else {
-            return Ok(all);
+            return Ok(Vec::new(self.alloc));
         };
         if levels == 0 {
-            return Ok(all);
+            return Ok(Vec::new(self.alloc));
         }
+        let mut all = Vec::with_capacity(self.alloc, components.len())?;
         self.gather_under(levels - 1, uri, way, 0, components, &mut all)?;
         Ok(all)
     }

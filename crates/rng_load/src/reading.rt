@@ -73,11 +73,12 @@ fn bytes_of<'a>(files: &'a [(String, Vec<u8>)], name: &str) -> Option<&'a [u8]>
     found
 }
 
-/// The tree of bytes of any number.
+/// The tree of bytes of any number. The tokens give their spare room back before their syntax tree is made beside them.
 fn tree_of_content(alloc: Global, bytes: &[u8]) -> Result<FileTree, FileFault>
     ensures { IfSome (verdict_of result) (IsTheContentVerdict bytes.now) }
 {
     let text = read_text(alloc, bytes)?;
-    let tokens = tokens(alloc, &text)?;
+    let mut tokens = tokens(alloc, &text)?;
+    tokens.shrink_to_fit();
     Ok(parse(alloc, tokens)?)
 }

@@ -76,7 +76,7 @@ fn name_classes(
 ) -> Result<Vec<NameClass>, OutOfMemory>
     ensures { IfOk result (λ classes. map class_of classes.items ≡ classes_in inherited.now (classes_of (map file.class_of all.now))) }
 {
-    let mut classes = Vec::new(alloc);
+    let mut classes = Vec::with_capacity(alloc, all.len())?;
     for class in all {
         classes.push(name_class(alloc, class, inherited)?)?;
     }

@@ -191,7 +191,7 @@ impl<'a> TreeReader<'a> {
         ensures nested { OnOk result (map nested_of grammars.new.items ≡ map nested_of grammars.old.items ++ (read_all_at (files_in self.entry) levels uri.now (reverse way.old.items) 0 (patterns_of (map pattern_of patterns.now))).1) }
         ensures way { OnOk result (way.new.items ≡ way.old.items) }
     {
-        let mut members = Vec::new(self.alloc);
+        let mut members = Vec::with_capacity(self.alloc, patterns.len())?;
         for (number, pattern) in patterns.iter().enumerate() {
             members.push(self.child(levels, uri, way, number, pattern, grammars)?)?;
         }
@@ -384,7 +384,7 @@ fn copied(
 ) -> Result<Vec<(String, String)>, OutOfMemory>
     ensures { IfOk result (λ ps. map parameter_of ps.items ≡ map parameter_of parameters.now) }
 {
-    let mut all = Vec::new(alloc);
+    let mut all = Vec::with_capacity(alloc, parameters.len())?;
     for (name, value) in parameters {
         let name = String::from_str(alloc, name.as_str())?;
         all.push((name, String::from_str(alloc, value.as_str())?))?;

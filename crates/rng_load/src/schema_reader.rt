@@ -80,7 +80,7 @@ impl<'a> SchemaReader<'a> {
     ) -> Result<Vec<GatheredComponent<'a>>, OutOfMemory>
         ensures { IfOk result (λ all. map gathered_of all.items ≡ gathered_at (files_in self.entry.trees) uri.now (reverse way.items) (components_of (map component_of components.now))) }
     {
-        let mut all = Vec::new(self.trees.alloc);
+        let mut all = Vec::with_capacity(self.trees.alloc, components.len())?;
         self.trees
             .gather_all(MENTION_LIMIT, uri, &mut way, components, &mut all)?;
         Ok(all)
@@ -155,7 +155,7 @@ fn parted<'a>(
     ensures components { IfOk result (λ r. map schema_component_of r.0.items ≡ map (λ g. g.component) (map gathered_of all.entry.items)) }
     ensures nested { IfOk result (λ r. map nested_of r.1.items ≡ nested_in (map gathered_of all.entry.items)) }
 {
-    let mut components = Vec::new(alloc);
+    let mut components = Vec::with_capacity(alloc, all.len())?;
     let mut nested = Vec::new(alloc);
     for gathered in all {
         let mut grammars = gathered.grammars;

@@ -2,7 +2,7 @@ use Rattle.std.proofs.Common.{Vec, Global}
 use Rattle.std.proofs.lemmas.Result.{err_from_is_err_and}
 use Rattle.rnc_text.specs.Cut.{tokens_of}
 use Rattle.rnc_text.specs.declared.token.Token.{Token}
-use Rattle.rng_load.proofs.FileContent.{decoded, text_fault, tokenized, tokens_fault, lexed, parse_fault, parsed}
+use Rattle.rng_load.proofs.FileContent.{Lexed, decoded, text_fault, tokenized, tokens_fault, lexed, parse_fault, parsed}
 use Rattle.rng_load.proofs.reading.tree_of_content.Goals as goal
 
 pub returns-in_err-text : goal.returns-in_err-text
@@ -24,18 +24,18 @@ returns-in_err-parse c =
     let p = err_from_is_err_and c.from_residual-in_err-parse.result c.from_residual-in_err-parse.ensures.1 in
     let t = c.in_ok-text.ensures in
     let k = c.in_ok-tokens.ensures in
-    let known = lexed c.args.bytes.now c.in_ok-text.text (tokens_of c.in_ok-tokens.tokens.items)
-    (decoded c.args.bytes.now c.in_ok-text.text t.found t.only t.broken)
-    (tokenized (λ (v : Vec Token Global). tokens_of v.items) c.in_ok-text.text c.in_ok-tokens.tokens k.found k.only k.broken) in
+    let known : Lexed c.args.bytes.now (tokens_of c.shrink_to_fit.new.self.items) = rw c.shrink_to_fit.ensures.items (
+    lexed c.args.bytes.now c.in_ok-text.text (tokens_of c.in_ok-tokens.tokens.items) (decoded c.args.bytes.now c.in_ok-text.text t.found t.only t.broken)
+    (tokenized (λ (v : Vec Token Global). tokens_of v.items) c.in_ok-text.text c.in_ok-tokens.tokens k.found k.only k.broken)) in
     let e = c.in_err-parse.ensures in
-    rw (p.1, p.2) (parse_fault c.args.bytes.now (tokens_of c.in_ok-tokens.tokens.items) c.in_err-parse.field-0.0 known e.fault e.only)
+    rw (p.1, p.2) (parse_fault c.args.bytes.now (tokens_of c.shrink_to_fit.new.self.items) c.in_err-parse.field-0.0 known e.fault e.only)
 
 pub returns : goal.returns
 returns c =
     let t = c.in_ok-text.ensures in
     let k = c.in_ok-tokens.ensures in
-    let known = lexed c.args.bytes.now c.in_ok-text.text (tokens_of c.in_ok-tokens.tokens.items)
-    (decoded c.args.bytes.now c.in_ok-text.text t.found t.only t.broken)
-    (tokenized (λ (v : Vec Token Global). tokens_of v.items) c.in_ok-text.text c.in_ok-tokens.tokens k.found k.only k.broken) in
+    let known : Lexed c.args.bytes.now (tokens_of c.shrink_to_fit.new.self.items) = rw c.shrink_to_fit.ensures.items (
+    lexed c.args.bytes.now c.in_ok-text.text (tokens_of c.in_ok-tokens.tokens.items) (decoded c.args.bytes.now c.in_ok-text.text t.found t.only t.broken)
+    (tokenized (λ (v : Vec Token Global). tokens_of v.items) c.in_ok-text.text c.in_ok-tokens.tokens k.found k.only k.broken)) in
     let e = c.in_ok-parse.ensures in
-    parsed c.args.bytes.now (tokens_of c.in_ok-tokens.tokens.items) c.in_ok-parse.field-0 known e.tree e.only e.declarations
+    parsed c.args.bytes.now (tokens_of c.shrink_to_fit.new.self.items) c.in_ok-parse.field-0 known e.tree e.only e.declarations

@@ -86,7 +86,7 @@ pattern-returns-in_ok-child-in-DataExcept t c =
 pub components-returns-in_err-component : goal.components-returns-in_err-component
 components-returns-in_err-component t c =
     let s = scope_view c.args.self.scope.now in
-    let p = err_from_is_err_and c.from_residual.result c.from_residual.ensures.1 in
+    let p = err_from_is_err_and c.from_residual-in_err-component.result c.from_residual-in_err-component.ensures.1 in
     let stops : Resolves (λ (all : Vec Component Global). map tree.component_of all.items) (Err c.in_err-component.field-0.0)
     (each (component_in s) (map syntax.component_of c.args.all.now)) = stops_at (component_in s) syntax.component_of tree.component_of
     (λ (all : Vec Component Global). map tree.component_of all.items) c.args.all.now c.loop-component.component-index c.component-item.result

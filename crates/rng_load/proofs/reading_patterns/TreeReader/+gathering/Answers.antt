@@ -48,7 +48,7 @@ pub included-returns-clause-gathered : goal.included-returns-clause-gathered
 included-returns-clause-gathered t c =
     let some : 0 < c.args.levels = search rules in
     let is = c.in-Some.ensures ∙ ap (λ f. grammar_if (files_in c.args.self f)) c.as_str.ensures.value in
-    let none : map gathered_of c.new-all.result.items ≡ [] = search rules in
+    let none : map gathered_of c.in_ok-all.all.items ≡ [] = search rules in
     let all = file_gathered (files_in c.args.self) c.args.levels c.namespace_uri-uri.result.now _ (reverse c.args.way.now.items) _
     (components_of (map component_of c.in-Some.components.now)) some is c.namespace_uri-uri.ensures in
     let rest = gather_at (files_in c.args.self) (c.args.levels - 1) c.namespace_uri-uri.result.now (0 ∷ reverse c.args.way.now.items) 0
