@@ -1,6 +1,6 @@
 -- What is known of a pattern, from what is known of its parts.
 use Rattle.std.proofs.Common.{◌≡◌, ℕ, ◌+◌, ◌<◌, ◌≤◌, All, length, take, get_or, arith, subst, refl, ap, ap₂, sym, ◌∙◌, Bool, true, false, ◌||◌, List}
-use Rattle.std.proofs.Common.{◌^◌, cond, nat_lt, [], ◌∷◌, ◌++◌, map, Option, Some, None, inl, inr}
+use Rattle.std.proofs.Common.{◌^◌, [], ◌∷◌, ◌++◌, map, Option, Some, None, inl, inr}
 use Rattle.std.specs.List.{list_any}
 use Rattle.std.proofs.lemmas.List.{get_or-map, length-map, take_all, take_more}
 use Rattle.std.proofs.lemmas.List.Folds.{list_any_more}
@@ -9,12 +9,11 @@ use Rattle.rng_model.specs.Table.{Table}
 use Rattle.rng_model.specs.declared.simple.Simple.{Simple}
 use Rattle.rng_model.specs.declared.simple.Simple.TheVariants as simple
 use Rattle.rng_matching.specs.Derivatives.{is_nullable}
-use Rattle.rng_patterns.specs.Facts.{HasElement, IsWithin, elements_of, joined_elements, members_of, one_element}
+use Rattle.rng_patterns.specs.Facts.{HasElement, IsWithin, elements_of, joined_spans, members_of, no_span, one_span}
 use Rattle.rng_patterns.specs.PatternTable.{facts_of}
 use Rattle.rng_patterns.specs.Reduced.{has_attribute}
 use Rattle.rng_patterns.specs.Trees.{attribute_found, data_found, choice_over}
-use Rattle.rng_patterns.specs.declared.pattern.Elements.{Elements}
-use Rattle.rng_patterns.specs.declared.pattern.Elements.TheVariants as elements
+use Rattle.rng_patterns.specs.declared.pattern.Span.{Span}
 use Rattle.rng_patterns.specs.declared.pattern.Facts.{Facts}
 use Rattle.rng_patterns.specs.declared.pattern.PatternNumber.{PatternNumber}
 
@@ -40,41 +39,49 @@ pub member_more : (test : PatternNumber → Bool) (ms : List PatternNumber) (i :
 member_more test ms i d known fact inside e f = ap₂ (λ a b. a || b) e f ∙ sym (list_any_more test ms i d inside)
 
 -- the elements of the members
-abbrev pub elements_among : (ℕ → tree.Simple ℕ) → List PatternNumber → Elements
-elements_among f [] = elements.None
-elements_among f (m ∷ ms) = joined_elements (elements_of (f m.0)) (elements_among f ms)
+abbrev pub elements_among : (ℕ → tree.Simple ℕ) → List PatternNumber → Span
+elements_among f [] = no_span
+elements_among f (m ∷ ms) = joined_spans (elements_of (f m.0)) (elements_among f ms)
 
-joined_none : (e : Elements) → joined_elements e elements.None ≡ e
-joined_none elements.None = refl
-joined_none (elements.Within first last) = refl
-joined_none elements.Any = refl
+joined_none : (e : Span) → e.least < 2 ^ 32 → joined_spans e no_span ≡ e
+joined_none e low = ap₂ (λ a b. record { least = a; greatest = b }) (omega (arith, low)) (omega arith)
 
-joined_associative : (a b c : Elements) → joined_elements (joined_elements a b) c ≡ joined_elements a (joined_elements b c)
-joined_associative elements.None b c = refl
-joined_associative (elements.Within first last) elements.None c = refl
-joined_associative (elements.Within first last) (elements.Within least greatest) elements.None = refl
-joined_associative (elements.Within first last) (elements.Within least greatest) (elements.Within low high) =
-    ap₂ elements.Within (omega arith) (omega arith)
-joined_associative (elements.Within first last) (elements.Within least greatest) elements.Any = refl
-joined_associative (elements.Within first last) elements.Any c = refl
-joined_associative elements.Any b c = refl
+joined_either : (a b : Span) → joined_spans a b ≡ joined_spans b a
+joined_either a b = ap₂ (λ x y. record { least = x; greatest = y }) (omega arith) (omega arith)
+
+joined_associative : (a b c : Span) → joined_spans (joined_spans a b) c ≡ joined_spans a (joined_spans b c)
+joined_associative a b c = ap₂ (λ x y. record { least = x; greatest = y }) (omega arith) (omega arith)
+
+-- numbers are kept in 32 bits
+elements_low : (p : tree.Simple ℕ) → (elements_of p).least < 2 ^ 32
+elements_low tree.s_not_allowed = omega arith
+elements_low tree.s_empty = omega arith
+elements_low tree.s_text = omega arith
+elements_low (tree.s_leaf k) = omega arith
+elements_low (tree.s_attribute c p) = omega arith
+elements_low (tree.s_list p) = omega arith
+elements_low (tree.s_data d) = omega arith
+elements_low (tree.s_data_except d p) = omega arith
+elements_low (tree.s_value d v) = omega arith
+elements_low (tree.s_one_or_more p) = elements_low p
+elements_low (tree.s_joined c p q) = let a = elements_low p in omega (arith, a)
 
 choice_elements : (f : ℕ → tree.Simple ℕ) (ms : List PatternNumber) → elements_among f ms ≡ elements_of (choice_over f (map (λ m. m.0) ms))
 choice_elements f [] = refl
-choice_elements f (m ∷ []) = joined_none (elements_of (f m.0))
-choice_elements f (m ∷ n ∷ ms) = ap (joined_elements (elements_of (f m.0))) (choice_elements f (n ∷ ms))
+choice_elements f (m ∷ []) = joined_none (elements_of (f m.0)) (elements_low (f m.0))
+choice_elements f (m ∷ n ∷ ms) = ap (joined_spans (elements_of (f m.0))) (choice_elements f (n ∷ ms))
 
 elements_pushed : (f : ℕ → tree.Simple ℕ) (ms : List PatternNumber) (m : PatternNumber)
-    → elements_among f (ms ++ m ∷ []) ≡ joined_elements (elements_among f ms) (elements_of (f m.0))
-elements_pushed f [] m = joined_none (elements_of (f m.0))
+    → elements_among f (ms ++ m ∷ []) ≡ joined_spans (elements_among f ms) (elements_of (f m.0))
+elements_pushed f [] m = joined_either (elements_of (f m.0)) no_span
 elements_pushed f (n ∷ ms) m =
-    ap (joined_elements (elements_of (f n.0))) (elements_pushed f ms m) ∙ sym (joined_associative (elements_of (f n.0)) _ _)
+    ap (joined_spans (elements_of (f n.0))) (elements_pushed f ms m) ∙ sym (joined_associative (elements_of (f n.0)) _ _)
 
-pub elements_more : (f : ℕ → tree.Simple ℕ) (ms : List PatternNumber) (i : ℕ) (d : PatternNumber) (known fact : Elements) → i < length ms
+pub elements_more : (f : ℕ → tree.Simple ℕ) (ms : List PatternNumber) (i : ℕ) (d : PatternNumber) (known fact : Span) → i < length ms
     → known ≡ elements_among f (take i ms) → fact ≡ elements_of (f (get_or ms i d).0)
-    → joined_elements known fact ≡ elements_among f (take (i + 1) ms)
+    → joined_spans known fact ≡ elements_among f (take (i + 1) ms)
 elements_more f ms i d known fact inside e g =
-    ap₂ joined_elements e g ∙ sym (ap (elements_among f) (take_more ms i d inside) ∙ elements_pushed f (take i ms) (get_or ms i d))
+    ap₂ joined_spans e g ∙ sym (ap (elements_among f) (take_more ms i d inside) ∙ elements_pushed f (take i ms) (get_or ms i d))
 
 -- a choice is no interleave
 choice_members : (f : ℕ → tree.Simple ℕ) (ms : List PatternNumber) → 2 ≤ length ms → members_of (choice_over f (map (λ m. m.0) ms)) ≡ 1
@@ -98,32 +105,20 @@ all_members f ms i known two over n a e o =
         ∙ ap₂ (λ x y. record { nullable = b.nullable; attributes = b.attributes; elements = x; members = y }) e m
 
 -- an element that stands in the tree is within those that are known
-pub one_within : (k : ℕ) → IsWithin (one_element k) k
-one_within k = by (nat_lt k (2 ^ 32))
-  where
-    by : (b : Bool) → IsWithin (cond b (elements.Within k k) elements.Any) k
-    by true = (omega arith, omega arith)
-    by false = tt
+pub one_within : (k : ℕ) → IsWithin (one_span k) k
+one_within k = (omega arith, omega arith)
 
-pub joined_first : (a b : Elements) (k : ℕ) → IsWithin a k → IsWithin (joined_elements a b) k
-joined_first elements.None b k h = absurd h
-joined_first (elements.Within first last) elements.None k h = h
-joined_first (elements.Within first last) (elements.Within least greatest) k h = let low = h.0 in let high = h.1 in (omega (arith, low), omega (arith, high))
-joined_first (elements.Within first last) elements.Any k h = tt
-joined_first elements.Any b k h = tt
+pub joined_first : (a b : Span) (k : ℕ) → IsWithin a k → IsWithin (joined_spans a b) k
+joined_first a b k h = let low = h.0 in let high = h.1 in (omega (arith, low), omega (arith, high))
 
-pub joined_second : (a b : Elements) (k : ℕ) → IsWithin b k → IsWithin (joined_elements a b) k
-joined_second elements.None b k h = h
-joined_second (elements.Within first last) elements.None k h = absurd h
-joined_second (elements.Within first last) (elements.Within least greatest) k h = let low = h.0 in let high = h.1 in (omega (arith, low), omega (arith, high))
-joined_second (elements.Within first last) elements.Any k h = tt
-joined_second elements.Any b k h = tt
+pub joined_second : (a b : Span) (k : ℕ) → IsWithin b k → IsWithin (joined_spans a b) k
+joined_second a b k h = let low = h.0 in let high = h.1 in (omega (arith, low), omega (arith, high))
 
 pub elements_within : (p : tree.Simple ℕ) (k : ℕ) → HasElement k p → IsWithin (elements_of p) k
 elements_within tree.s_not_allowed k h = absurd h
 elements_within tree.s_empty k h = absurd h
 elements_within tree.s_text k h = absurd h
-elements_within (tree.s_leaf e) k h = subst (IsWithin (one_element e)) (sym h) (one_within e)
+elements_within (tree.s_leaf e) k h = subst (IsWithin (one_span e)) (sym h) (one_within e)
 elements_within (tree.s_attribute c p) k h = absurd h
 elements_within (tree.s_list p) k h = absurd h
 elements_within (tree.s_data d) k h = absurd h
@@ -142,7 +137,7 @@ of_members P ms all k d inside =
 pub attribute_known : (t : Table) (o : Option Simple) → facts_of (attribute_found t o) ≡ record {
   nullable = false;
   attributes = true;
-  elements = elements.None;
+  elements = no_span;
   members = 1;
 }
 attribute_known t None = refl
@@ -163,7 +158,7 @@ attribute_known t (Some (simple.Choice a b)) = refl
 pub data_known : (t : Table) (o : Option Simple) → facts_of (data_found t o) ≡ record {
   nullable = false;
   attributes = false;
-  elements = elements.None;
+  elements = no_span;
   members = 1;
 }
 data_known t None = refl

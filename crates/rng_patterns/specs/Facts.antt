@@ -1,9 +1,8 @@
 -- What is known of a tree: which elements stand in it, and how many patterns an interleave joins.
-use Rattle.std.specs.Prelude.{◌≡◌, ◌⊎◌, ◌≤◌, ⊤, ℕ, ◌+◌, ◌-◌, ◌^◌, cond, min, max, nat_lt}
+use Rattle.std.specs.Prelude.{◌≡◌, ◌⊎◌, ◌≤◌, ℕ, ◌+◌, ◌-◌, ◌^◌, min, max}
 use Rattle.rng_model.specs.Tree.{Simple, choice, group, interleave, s_not_allowed, s_empty, s_text, s_leaf, s_attribute, s_list, s_data}
 use Rattle.rng_model.specs.Tree.{s_data_except, s_value, s_one_or_more, s_joined}
-use Rattle.rng_patterns.specs.declared.pattern.Elements.{Elements}
-use Rattle.rng_patterns.specs.declared.pattern.Elements.TheVariants as elements
+use Rattle.rng_patterns.specs.declared.pattern.Span.{Span}
 
 -- the element of this number stands in the tree, outside attributes, lists and excepts
 abbrev pub HasElement : ℕ → Simple ℕ → Type 0
@@ -19,36 +18,37 @@ HasElement e (s_value d v) = ⊥
 HasElement e (s_one_or_more p) = HasElement e p
 HasElement e (s_joined k p q) = HasElement e p ⊎ HasElement e q
 
--- an element of this number may be there
-abbrev pub IsWithin : Elements → ℕ → Type 0
-IsWithin elements.None k = ⊥
-IsWithin (elements.Within first last) k = (first ≤ k) × (k ≤ last)
-IsWithin elements.Any k = ⊤
+-- the number as it is kept
+abbrev pub kept_number : ℕ → ℕ
+kept_number k = min k (2 ^ 32 - 1)
+
+-- the number may be there
+abbrev pub IsWithin : Span → ℕ → Type 0
+IsWithin some k = (some.least ≤ kept_number k) × (kept_number k ≤ some.greatest)
+
+abbrev pub no_span : Span
+no_span = record { least = 2 ^ 32 - 1; greatest = 0 }
 
 -- what is kept of one number
-abbrev pub one_element : ℕ → Elements
-one_element k = cond (nat_lt k (2 ^ 32)) (elements.Within k k) elements.Any
+abbrev pub one_span : ℕ → Span
+one_span k = record { least = kept_number k; greatest = kept_number k }
 
-abbrev pub joined_elements : Elements → Elements → Elements
-joined_elements elements.None others = others
-joined_elements (elements.Within first last) elements.None = elements.Within first last
-joined_elements (elements.Within first last) (elements.Within least greatest) = elements.Within (min first least) (max last greatest)
-joined_elements (elements.Within first last) elements.Any = elements.Any
-joined_elements elements.Any others = elements.Any
+abbrev pub joined_spans : Span → Span → Span
+joined_spans some others = record { least = min some.least others.least; greatest = max some.greatest others.greatest }
 
 -- the least and the greatest number of an element in the tree
-abbrev pub elements_of : Simple ℕ → Elements
-elements_of s_not_allowed = elements.None
-elements_of s_empty = elements.None
-elements_of s_text = elements.None
-elements_of (s_leaf k) = one_element k
-elements_of (s_attribute c p) = elements.None
-elements_of (s_list p) = elements.None
-elements_of (s_data d) = elements.None
-elements_of (s_data_except d p) = elements.None
-elements_of (s_value d v) = elements.None
+abbrev pub elements_of : Simple ℕ → Span
+elements_of s_not_allowed = no_span
+elements_of s_empty = no_span
+elements_of s_text = no_span
+elements_of (s_leaf k) = one_span k
+elements_of (s_attribute c p) = no_span
+elements_of (s_list p) = no_span
+elements_of (s_data d) = no_span
+elements_of (s_data_except d p) = no_span
+elements_of (s_value d v) = no_span
 elements_of (s_one_or_more p) = elements_of p
-elements_of (s_joined k p q) = joined_elements (elements_of p) (elements_of q)
+elements_of (s_joined k p q) = joined_spans (elements_of p) (elements_of q)
 
 -- how many patterns an interleave joins that are no interleaves, up to 65,535
 abbrev pub members_of : Simple ℕ → ℕ

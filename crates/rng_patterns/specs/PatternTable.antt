@@ -6,7 +6,7 @@ use Rattle.rng_model.specs.Tree.{Simple}
 use Rattle.rng_patterns.specs.Node.{Node, node_of}
 use Rattle.rng_patterns.specs.Node as node
 use Rattle.rng_matching.specs.Derivatives.{is_nullable}
-use Rattle.rng_patterns.specs.Facts.{elements_of, joined_elements, members_of}
+use Rattle.rng_patterns.specs.Facts.{elements_of, joined_spans, members_of}
 use Rattle.rng_patterns.specs.Reduced.{AreReduced, has_attribute}
 use Rattle.rng_patterns.specs.Trees.{trees, tree_of}
 use Rattle.rng_patterns.specs.declared.pattern.Facts.{Facts}
@@ -51,7 +51,7 @@ abbrev pub both_facts : Facts → Facts → ℕ → Facts
 both_facts a b members = record {
   nullable = a.nullable && b.nullable;
   attributes = a.attributes || b.attributes;
-  elements = joined_elements a.elements b.elements;
+  elements = joined_spans a.elements b.elements;
   members = members;
 }
 

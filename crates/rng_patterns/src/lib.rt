@@ -13,5 +13,5 @@ mod pattern;
 mod pattern_table;
 mod selecting;
 
-pub use pattern::{Elements, Facts, Pattern, PatternNumber};
+pub use pattern::{Facts, Pattern, PatternNumber, Span};
 pub use pattern_table::PatternTable;

@@ -1,6 +1,6 @@
 // Patterns by number.
 ghost use Rattle.std.specs.Prelude.{◌≡◌, ◌≤◌, ℕ, IsTrue};
-ghost use Rattle.rng_patterns.specs.Facts.{IsWithin, joined_elements, one_element};
+ghost use Rattle.rng_patterns.specs.Facts.{IsWithin, joined_spans, one_span};
 
 use rng_model::{ElementId, PatternId};
 
@@ -39,57 +39,55 @@ pub struct Facts {
     /// How many patterns an interleave joins that are no interleaves themselves, or 65,535 where they are more; 1 for another
     /// pattern.
     pub members: u16,
-    /// The elements that stand in it, outside its attributes, lists and excepts.
-    pub elements: Elements,
+    /// Between which numbers the elements are that stand in it, outside its attributes, lists and excepts.
+    pub elements: Span,
 }
 
-/// Between which numbers those of some elements are.
+/// Between which numbers some are, where a number of 2^32 - 1 or more counts as 2^32 - 1.
 #[derive(Clone, Copy, PartialEq, Eq)]
-pub enum Elements {
-    /// There is no element.
-    None,
-    /// The least number, and the greatest.
-    Within(u32, u32),
-    /// Nothing is known: there is a number of 2^32 or more.
-    Any,
+pub struct Span {
+    least: u32,
+    greatest: u32,
 }
 
-impl Elements {
-    /// Whether an element may be there that has a number from `first` to `last`. Takes no memory.
-    pub fn may_have(self, first: usize, last: usize) -> bool
-        ensures { (k : ℕ) → first ≤ k → k ≤ last → IsWithin self k → IsTrue result }
-    {
-        match self {
-            Elements::None => false,
-            Elements::Within(least, greatest) => {
-                least as usize <= last && first <= greatest as usize
-            }
-            Elements::Any => true,
-        }
-    }
+impl Span {
+    /// There is none.
+    pub const NONE: Span = Span {
+        least: u32::MAX,
+        greatest: 0,
+    };
 
-    /// The element of this number alone. Takes no memory.
-    pub fn one(number: usize) -> Elements
-        ensures { result ≡ one_element number }
+    /// All numbers.
+    pub const ALL: Span = Span {
+        least: 0,
+        greatest: u32::MAX,
+    };
+
+    /// This number alone. Takes no memory.
+    pub fn one(number: usize) -> Span
+        ensures { result ≡ one_span number }
     {
-        if number < 1 << 32 {
-            Elements::Within(number as u32, number as u32)
-        } else {
-            Elements::Any
+        let number = number.min(u32::MAX as usize) as u32;
+        Span {
+            least: number,
+            greatest: number,
         }
     }
 
     /// These and others. Takes no memory.
-    pub fn joined(self, others: Elements) -> Elements
-        ensures { result ≡ joined_elements self others }
+    pub fn joined(self, others: Span) -> Span
+        ensures { result ≡ joined_spans self others }
     {
-        match (self, others) {
-            (Elements::None, _) => others,
-            (_, Elements::None) => self,
-            (Elements::Within(first, last), Elements::Within(least, greatest)) => {
-                Elements::Within(first.min(least), last.max(greatest))
-            }
-            _ => Elements::Any,
+        Span {
+            least: self.least.min(others.least),
+            greatest: self.greatest.max(others.greatest),
         }
+    }
+
+    /// Whether a number may be among these and among others. Takes no memory.
+    pub fn may_meet(self, others: Span) -> bool
+        ensures { (k : ℕ) → IsWithin self k → IsWithin others k → IsTrue result }
+    {
+        self.least <= others.greatest && others.least <= self.greatest
     }
 }

@@ -11,7 +11,7 @@ ghost use Rattle.rng_patterns.specs.PatternTable.{Adds, ArePartsBelow, IsNew, Is
 ghost use Rattle.rng_patterns.specs.Reduced.{AreReduced};
 ghost use Rattle.rng_patterns.specs.Trees.{choice_over, tree_of, tree_over};
 
-use crate::pattern::{Elements, Facts, Pattern, PatternNumber};
+use crate::pattern::{Facts, Pattern, PatternNumber, Span};
 use indexmap::IndexMap;
 use rng_model::OutOfMemory;
 use std::alloc::Global;
@@ -128,7 +128,7 @@ impl PatternTable {
             },
             Pattern::NotAllowed | Pattern::Data(_) => NOTHING_KNOWN,
             Pattern::Element(element) => Facts {
-                elements: Elements::one(element.0),
+                elements: Span::one(element.0),
                 ..NOTHING_KNOWN
             },
             Pattern::Attribute(_) => Facts {
@@ -186,7 +186,7 @@ const NOTHING_KNOWN: Facts = Facts {
     nullable: false,
     attributes: false,
     members: 1,
-    elements: Elements::None,
+    elements: Span::NONE,
 };
 
 /// What is known of a group or an interleave of two patterns of which this is known, with so many members.

@@ -61,16 +61,14 @@ ways_of_same t ns kind p q numbers e hands h = record {
   kept = λ place o. h.kept place (hands (Obeys place) (Obeys-hereditary place) o);
 }
 
-pub opened_hands_on : (p q r : Simple ℕ) → HandsOn (s_joined group (s_joined group p q) r) (group_of p (group_of q r))
+pub opened_hands_on : (p q r : Simple ℕ) → HandsOn (s_joined group (s_joined group p q) r) (s_joined group p (group_of q r))
 opened_hands_on p q r = λ Q hereditary h.
     let outer = hereditary.sides group (s_joined group p q) r h in
     let inner = hereditary.sides group p q outer.0 in
-    group_of-keeps Q hereditary p (group_of q r) inner.0 (group_of-keeps Q hereditary q r inner.1 outer.1)
+    hereditary.of_both group p (group_of q r) inner.0 (group_of-keeps Q hereditary q r inner.1 outer.1)
 
-pub opened_same : (g : Reading) (p q r : Simple ℕ) → Same g (group_of p (group_of q r)) (s_joined group (s_joined group p q) r)
-opened_same g p q r =
-    same_through g (group_of-same g p (group_of q r))
-    (same_through g (same_group g (same g p) (group_of-same g q r)) (same_back g (group_associative g p q r)))
+pub opened_same : (g : Reading) (p q r : Simple ℕ) → Same g (s_joined group p (group_of q r)) (s_joined group (s_joined group p q) r)
+opened_same g p q r = same_through g (same_group g (same g p) (group_of-same g q r)) (same_back g (group_associative g p q r))
 
 -- ---- two sides
 

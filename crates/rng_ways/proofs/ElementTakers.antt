@@ -16,14 +16,13 @@ use Rattle.rng_names.specs.Holding.{holds}
 use Rattle.rng_matching.specs.Reading.{Reading, has_name}
 use Rattle.rng_matching.specs.Taking.{Takes}
 use Rattle.rng_matching.specs.Taking as t
-use Rattle.rng_patterns.specs.Facts.{HasElement, IsWithin, joined_elements, one_element}
+use Rattle.rng_patterns.specs.Facts.{HasElement, IsWithin, joined_spans, one_span}
 use Rattle.rng_patterns.specs.Node.{Node}
-use Rattle.rng_patterns.specs.declared.pattern.Elements.{Elements}
-use Rattle.rng_patterns.specs.declared.pattern.Elements.TheVariants as elements
+use Rattle.rng_patterns.specs.declared.pattern.Span.{Span}
 use Rattle.rng_patterns.proofs.KnownFacts.{joined_first, joined_second, one_within}
 use Rattle.rng_ways.specs.Kinds.{IsElementNamed, reading_of}
 use Rattle.rng_ways.specs.KnownWays.{IsElementKind}
-use Rattle.rng_ways.specs.Takers.{AreAllTold, AreAmong, AreOfKey, AreTakers, IsIdle, IsTold}
+use Rattle.rng_ways.specs.Takers.{AreAllTold, AreElements, AreOfKey, IsTold}
 use Rattle.rng_ways.specs.Ways.{AreWaysOf}
 use Rattle.rng_ways.specs.declared.takers.Takers.{Takers}
 use Rattle.rng_ways.specs.declared.way.Kind.{Kind}
@@ -117,9 +116,10 @@ module _ (q : Name) where
     first_stands p n ns named d = stands d (inl named)
 
 module _ (t : Table) (ns : List Node) (p : Simple ℕ) where
-  no_ways : (kind : Kind) (takers : Elements) → AreAmong t kind takers → ((e : ℕ) → HasElement e p → IsWithin takers e → ⊥)
+  -- a pattern in which none of the elements stands has no ways
+  pub idle_elements : (kind : Kind) (takers : Span) → AreElements t kind takers → ((e : ℕ) → HasElement e p → IsWithin takers e → ⊥)
       → AreWaysOf t ns kind p []
-  no_ways (kinds.Element q) takers among idle = record {
+  idle_elements (kinds.Element q) takers among idle = record {
     inside = λ i d h. absurd (omega (arith, h));
     law = record {
       to = λ n ms named bare d.
@@ -129,28 +129,17 @@ module _ (t : Table) (ns : List Node) (p : Simple ℕ) where
     };
     kept = λ place o. tt;
   }
-  no_ways (kinds.Attribute q) takers among idle = absurd among.element
-  no_ways kinds.Text takers among idle = absurd among.element
-
-  -- an idle pattern has no ways
-  pub idle_ways : (kind : Kind) (takers : Elements) → AreTakers t kind takers → IsIdle takers p → AreWaysOf t ns kind p []
-  idle_ways kind elements.None among idle = no_ways kind elements.None among idle
-  idle_ways kind (elements.Within first last) among idle = no_ways kind (elements.Within first last) among idle
-  idle_ways kind elements.Any among idle = absurd idle
+  idle_elements (kinds.Attribute q) takers among idle = absurd among.element
+  idle_elements kinds.Text takers among idle = absurd among.element
 
 -- ---- by key
 
 module _ (t : Table) (keys : Keys) (k : ℕ) (q : Name) (own : key_of keys q ≡ k) where
-  among : (kind : Kind) (takers : Elements) → IsElementKind q kind → AreOfKey t keys k takers → AreAmong t kind takers
-  among (kinds.Element r) takers named h =
+  pub element_takers : (kind : Kind) (takers : Span) → IsElementKind q kind → AreOfKey t keys k takers → AreElements t kind takers
+  element_takers (kinds.Element r) takers named h =
       record { element = tt; within = λ e has. h e q own (subst (λ q. has_name (reading_of t) e q ≡ true) named has) }
-  among (kinds.Attribute r) takers named h = absurd named
-  among kinds.Text takers named h = absurd named
-
-  pub element_takers : (kind : Kind) (takers : Elements) → IsElementKind q kind → AreOfKey t keys k takers → AreTakers t kind takers
-  element_takers kind elements.None named h = among kind elements.None named h
-  element_takers kind (elements.Within first last) named h = among kind (elements.Within first last) named h
-  element_takers kind elements.Any named h = tt
+  element_takers (kinds.Attribute r) takers named h = absurd named
+  element_takers kinds.Text takers named h = absurd named
 
 set_same : {A : Type 0} (xs : List A) (k : ℕ) (y m : A) → slice_get (slice_set xs k y) k ≡ Some m → m ≡ y
 set_same [] k y m e = absurd (cc)
@@ -158,14 +147,17 @@ set_same (x ∷ xs) zero y m e = sym (some_is e)
 set_same (x ∷ xs) (suc k) y m e = set_same xs k y m e
 
 -- what `IsTold` says of the lists
-abbrev pub Tells : List Elements → Elements → ℕ → ℕ → Type 0
-Tells all others k e = (m : Elements) → slice_get all k ≡ Some m → IsWithin (joined_elements m others) e
+abbrev pub Tells : List Span → Span → ℕ → ℕ → Type 0
+Tells all others k e = (m : Span) → slice_get all k ≡ Some m → IsWithin (joined_spans m others) e
 
-module _ (all : List Elements) (others : Elements) where
+module _ (all : List Span) (others : Span) where
   -- the element of this number has one name, of this key
-  pub named_told : (k : ℕ) (m : Elements) (e : ℕ) → Tells (slice_set all k (joined_elements m (one_element e))) others k e
-  named_told k m e = λ n at. subst (λ n. IsWithin (joined_elements n others) e) (sym (set_same all k (joined_elements m (one_element e)) n at))
-      (joined_first (joined_elements m (one_element e)) others e (joined_second m (one_element e) e (one_within e)))
+  pub named_told : (k : ℕ) (m : Span) (e : ℕ) → Tells (slice_set all k (joined_spans m (one_span e))) others k e
+  named_told k m e = λ n at. subst (λ n. IsWithin (joined_spans n others) e) (sym (set_same all k (joined_spans m (one_span e)) n at))
+      (joined_first (joined_spans m (one_span e)) others e (joined_second m (one_span e) e (one_within e)))
+
+pub wider_still : (m others own : Span) (n : ℕ) → IsWithin (joined_spans m others) n → IsWithin (joined_spans m (joined_spans others own)) n
+wider_still m others own n h = let low = h.0 in let high = h.1 in (omega (arith, low), omega (arith, high))
 
 -- all below this number are told of
 abbrev pub AreToldBelow : Table → Keys → Takers → ℕ → Type 0

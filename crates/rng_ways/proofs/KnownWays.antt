@@ -28,6 +28,7 @@ use Rattle.rng_ways.specs.declared.way.Kind.{Kind}
 use Rattle.rng_ways.specs.declared.way.Kind.TheVariants as kinds
 use Rattle.rng_ways.specs.declared.way.Place.{Place}
 use Rattle.rng_ways.specs.declared.way.Way.{Way}
+use Rattle.rng_ways.proofs.AttributeTakers.{spans_longer}
 use Rattle.rng_ways.proofs.Composing.{side_law}
 use Rattle.rng_ways.proofs.KnownRests.{rests_longer}
 
@@ -147,6 +148,8 @@ all_longer t keys old new longer known all = record {
   attributes = by_key_longer IsAttributeKind t keys old new longer known.attributes all.attributes;
   rests = rests_longer old new longer known.rests all.rests;
   takers = all.takers;
+  attribute_takers = all.attribute_takers;
+  spans = spans_longer t old new longer known.spans.items all.spans;
   datatypes = all.datatypes;
 }
 

@@ -8,6 +8,7 @@ mod WaysOfLeaves
 mod Composing
 mod Weights
 mod KnownRests
+mod AttributeTakers
 pub mod KnownWays
 mod ElementTakers
 mod Bareness

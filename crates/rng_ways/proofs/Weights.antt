@@ -26,16 +26,6 @@ group_of_weight p q =
     chosen_weight (is_not_allowed p) s_not_allowed _ _ (omega arith) (chosen_weight (is_not_allowed q) s_not_allowed _ _ (omega arith)
     (chosen_weight (is_empty p) q _ _ (omega arith) (chosen_weight (is_empty q) p (s_joined group p q) _ (omega arith) (omega arith))))
 
--- a list nested to the left is heavier than the one opened to the right
-pub opened_less : (p q r : Simple ℕ) → weight (group_of p (group_of q r)) + 1 ≤ weight (s_joined group (s_joined group p q) r)
-opened_less p q r = let a = group_of_weight p (group_of q r) in let b = group_of_weight q r in omega (arith, a, b)
-
-from_weight : (f : ℕ → Simple ℕ) (m : ℕ) (ms : List ℕ) (i d : ℕ) → i < length (m ∷ ms) → weight (f (get_or (m ∷ ms) i d)) ≤ weight (choice_from f m ms)
-from_weight f m [] (zero) d h = omega arith
-from_weight f m [] (suc i) d h = absurd (omega (arith, h))
-from_weight f m (n ∷ ms) (zero) d h = omega arith
-from_weight f m (n ∷ ms) (suc i) d h = let a = from_weight f n ms i d (omega (arith, h)) in omega (arith, a)
-
 pub positive : (p : Simple ℕ) → 1 ≤ weight p
 positive s_not_allowed = omega arith
 positive s_empty = omega arith
@@ -50,6 +40,16 @@ positive (s_one_or_more p) = omega arith
 positive (s_joined choice p q) = omega arith
 positive (s_joined group p q) = omega arith
 positive (s_joined interleave p q) = omega arith
+
+-- a list nested to the left is heavier than the one opened to the right
+pub opened_less : (p q r : Simple ℕ) → weight (s_joined group p (group_of q r)) + 1 ≤ weight (s_joined group (s_joined group p q) r)
+opened_less p q r = let a = positive p in let b = group_of_weight q r in omega (arith, a, b)
+
+from_weight : (f : ℕ → Simple ℕ) (m : ℕ) (ms : List ℕ) (i d : ℕ) → i < length (m ∷ ms) → weight (f (get_or (m ∷ ms) i d)) ≤ weight (choice_from f m ms)
+from_weight f m [] (zero) d h = omega arith
+from_weight f m [] (suc i) d h = absurd (omega (arith, h))
+from_weight f m (n ∷ ms) (zero) d h = omega arith
+from_weight f m (n ∷ ms) (suc i) d h = let a = from_weight f n ms i d (omega (arith, h)) in omega (arith, a)
 
 pub member_less : (f : ℕ → Simple ℕ) (ms : List ℕ) (i d : ℕ) → i < length ms → 2 ≤ length ms → weight (f (get_or ms i d)) + 1 ≤ weight (choice_over f ms)
 member_less f [] i d h two = absurd (omega (arith, h))

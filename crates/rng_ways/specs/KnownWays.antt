@@ -14,7 +14,7 @@ use Rattle.rng_patterns.specs.declared.pattern.PatternNumber.{PatternNumber}
 use Rattle.rng_patterns.specs.contracts.pattern.PatternNumberPartialEq.TheImpl as same
 use Rattle.rng_ways.specs.Datatypes.{AreDatatypesOf}
 use Rattle.rng_ways.specs.KnownRests.{AreRestsOf}
-use Rattle.rng_ways.specs.Takers.{AreAllTold}
+use Rattle.rng_ways.specs.Takers.{AreAllTold, AreAttributesTold, AreSpansOf}
 use Rattle.rng_ways.specs.Ways.{AreWaysOf}
 use Rattle.rng_ways.specs.declared.known.Known.{Known}
 use Rattle.rng_ways.specs.declared.way.Kind.{Kind}
@@ -64,12 +64,14 @@ abbrev pub AreKnownByKey : {Y Z : Type 0} → (Name → Kind → Type 0) → Tab
     → HashMap NameKey (HashMap PatternNumber (SmallVec Way) Z) Y → Type 0
 AreKnownByKey Are t keys ns known = (k : NameKey) (kind : Kind) → Are (name_at keys k.0) kind → AreKnownFor t ns kind k known
 
--- and all that are known of strings, of elements and of attributes, what is left once a tag is closed, the elements that may
--- have a name, and the datatypes
+-- and all that are known of strings, of elements and of attributes, what is left once a tag is closed, the elements and the
+-- attributes that may have a name, where the attributes of patterns stand, and the datatypes
 pub record AreAllKnown (t : Table) (keys : Keys) (ns : List Node) (known : Known) : Type 0 where
   pub texts : AreKnown t ns kinds.Text known.texts
   pub elements : AreKnownByKey IsElementKind t keys ns known.elements
   pub attributes : AreKnownByKey IsAttributeKind t keys ns known.attributes
   pub rests : AreRestsOf ns known.rests
   pub takers : AreAllTold t keys known.takers
+  pub attribute_takers : AreAttributesTold t keys known.attribute_takers
+  pub spans : AreSpansOf t ns known.spans.items
   pub datatypes : AreDatatypesOf t known.datatypes

@@ -1,15 +1,21 @@
--- The elements of a grammar that may take what comes first, by their numbers.
-use Rattle.std.specs.Prelude.{◌≡◌, ℕ, Some, slice_get, true}
+-- What may take what comes first: elements of a grammar, by their numbers, and attributes, by their positions.
+use Rattle.std.specs.Prelude.{◌≡◌, ◌⊎◌, ◌<◌, ℕ, List, Some, length, slice_get, true}
 use Rattle.rng_keys.specs.Keys.{Keys, key_of}
 use Rattle.rng_model.specs.Names.{Name}
 use Rattle.rng_model.specs.Table.{Table}
-use Rattle.rng_model.specs.Tree.{Simple, s_leaf}
+use Rattle.rng_model.specs.Tree.{Simple, s_not_allowed, s_empty, s_text, s_leaf, s_attribute, s_list, s_data, s_data_except, s_value, s_one_or_more}
+use Rattle.rng_model.specs.Tree.{s_joined}
+use Rattle.rng_model.specs.View.{name_of}
+use Rattle.rng_names.specs.Holding.{holds}
 use Rattle.rng_matching.specs.Reading.{has_name}
-use Rattle.rng_patterns.specs.Facts.{HasElement, IsWithin, joined_elements}
-use Rattle.rng_patterns.specs.declared.pattern.Elements.{Elements}
-use Rattle.rng_patterns.specs.declared.pattern.Elements.TheVariants as elements
+use Rattle.rng_patterns.specs.Facts.{IsWithin, joined_spans}
+use Rattle.rng_patterns.specs.Node.{Node}
+use Rattle.rng_patterns.specs.Trees.{attribute_found, tree_of}
+use Rattle.rng_patterns.specs.declared.pattern.Span.{Span}
 use Rattle.rng_ways.specs.Kinds.{reading_of, takes_kind}
 use Rattle.rng_ways.specs.declared.takers.Takers.{Takers}
+use Rattle.rng_ways.specs.declared.way.Candidates.{Candidates}
+use Rattle.rng_ways.specs.declared.way.Candidates.TheVariants as candidates
 use Rattle.rng_ways.specs.declared.way.Kind.{Kind}
 use Rattle.rng_ways.specs.declared.way.Kind.TheVariants as kinds
 
@@ -20,32 +26,62 @@ IsElementFirst (kinds.Attribute q) = ⊥
 IsElementFirst kinds.Text = ⊥
 
 -- an element comes first, and those that may take it by their names are among these
-pub record AreAmong (t : Table) (kind : Kind) (takers : Elements) : Type 0 where
+pub record AreElements (t : Table) (kind : Kind) (takers : Span) : Type 0 where
   pub element : IsElementFirst kind
   pub within : (k : ℕ) → takes_kind (reading_of t) kind (s_leaf k) ≡ true → IsWithin takers k
 
--- so it is where anything is known
-abbrev pub AreTakers : Table → Kind → Elements → Type 0
-AreTakers t kind elements.None = AreAmong t kind elements.None
-AreTakers t kind (elements.Within first last) = AreAmong t kind (elements.Within first last)
-AreTakers t kind elements.Any = Unit {0}
+-- an attribute that may have the name stands in the tree, outside elements, lists and excepts
+abbrev pub HasAttribute : Name → Simple ℕ → Type 0
+HasAttribute q s_not_allowed = ⊥
+HasAttribute q s_empty = ⊥
+HasAttribute q s_text = ⊥
+HasAttribute q (s_leaf k) = ⊥
+HasAttribute q (s_attribute c p) = holds c q ≡ true
+HasAttribute q (s_list p) = ⊥
+HasAttribute q (s_data d) = ⊥
+HasAttribute q (s_data_except d p) = ⊥
+HasAttribute q (s_value d v) = ⊥
+HasAttribute q (s_one_or_more p) = HasAttribute q p
+HasAttribute q (s_joined k a b) = HasAttribute q a ⊎ HasAttribute q b
 
--- something is known of them, and none stands in the pattern
-abbrev pub IsIdle : Elements → Simple ℕ → Type 0
-IsIdle elements.None p = (e : ℕ) → HasElement e p → IsWithin elements.None e → ⊥
-IsIdle (elements.Within first last) p = (e : ℕ) → HasElement e p → IsWithin (elements.Within first last) e → ⊥
-IsIdle elements.Any p = ⊥
+-- one that may have the name stands at this position of the grammar
+abbrev pub IsAttributeAt : Table → Name → ℕ → Type 0
+IsAttributeAt t q k = HasAttribute q (attribute_found t (slice_get t.patterns k))
+
+-- the attributes of the tree stand at positions of the grammar within these
+abbrev pub IsSpanOf : Table → Simple ℕ → Span → Type 0
+IsSpanOf t p span = (q : Name) → HasAttribute q p → (k : ℕ) × IsWithin span k × IsAttributeAt t q k
+
+-- so it is for the first patterns of a table, by their numbers
+abbrev pub AreSpansOf : Table → List Node → List Span → Type 0
+AreSpansOf t ns spans = (n : ℕ) (span : Span) → slice_get spans n ≡ Some span → (n < length ns) × IsSpanOf t (tree_of t ns n) span
+
+-- an attribute comes first, and those that may take it by their names are among these
+abbrev pub AreAttributes : Table → Kind → Span → Type 0
+AreAttributes t (kinds.Element q) takers = ⊥
+AreAttributes t (kinds.Attribute q) takers = (k : ℕ) → IsAttributeAt t (name_of q.now) k → IsWithin takers k
+AreAttributes t kinds.Text takers = ⊥
+
+-- so it is where anything is known
+abbrev pub AreCandidates : Table → List Node → Kind → Candidates → Type 0
+AreCandidates t ns kind candidates.Any = Unit {0}
+AreCandidates t ns kind (candidates.Elements takers) = AreElements t kind takers
+AreCandidates t ns kind (candidates.Attributes takers spans) = AreAttributes t kind takers × AreSpansOf t ns spans.now
 
 -- ---- by key
 
--- it is told of this key that the element of this number may have a name of it
+-- it is told of this key that the one of this number may have a name of it
 abbrev pub IsTold : Takers → ℕ → ℕ → Type 0
-IsTold takers k e = (m : Elements) → slice_get takers.by_key.items k ≡ Some m → IsWithin (joined_elements m takers.others) e
+IsTold takers k n = (m : Span) → slice_get takers.by_key.items k ≡ Some m → IsWithin (joined_spans m takers.others) n
 
 -- so it is of each element of the grammar, for the key of each name that it may have (RELAX NG Specification, section 6.1)
 abbrev pub AreAllTold : Table → Keys → Takers → Type 0
 AreAllTold t keys takers = (e : ℕ) (q : Name) → has_name (reading_of t) e q ≡ true → IsTold takers (key_of keys q) e
 
+-- and so it is of each attribute
+abbrev pub AreAttributesTold : Table → Keys → Takers → Type 0
+AreAttributesTold t keys takers = (k : ℕ) (q : Name) → IsAttributeAt t q k → IsTold takers (key_of keys q) k
+
 -- the elements that may have a name of this key are among these
-abbrev pub AreOfKey : Table → Keys → ℕ → Elements → Type 0
+abbrev pub AreOfKey : Table → Keys → ℕ → Span → Type 0
 AreOfKey t keys k takers = (e : ℕ) (q : Name) → key_of keys q ≡ k → has_name (reading_of t) e q ≡ true → IsWithin takers e

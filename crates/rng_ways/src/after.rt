@@ -13,22 +13,24 @@ ghost use Rattle.rng_patterns.specs.Trees.{attribute_found, data_found, tree_of}
 ghost use Rattle.rng_ways.specs.After.{AreRests, AreWaysFor, IsLeft, IsLeftOfTag, TellsTaken};
 ghost use Rattle.rng_ways.specs.Kinds.{reading_of};
 ghost use Rattle.rng_ways.specs.Starting.{IsReady};
-ghost use Rattle.rng_ways.specs.KnownWays.{AreAllKnown, AreKnownByKey, IsAttributeKind};
+ghost use Rattle.rng_ways.specs.KnownWays.{AreAllKnown};
 ghost use Rattle.rng_ways.specs.Ways.{AreInside, AreWaysOf};
 ghost use Rattle.rng_ways.specs.declared.way.Kind.TheVariants as kinds;
 ghost use Rattle.rng_ways.specs.declared.way.First.TheVariants as firsts;
 
 use crate::by_key::ways_by_key;
-use crate::known::{Known, KnownByKey, is_same_name};
+use crate::known::{Known, is_same_name};
 use crate::rests::rest_of_tag;
 use crate::starting::number_at;
 use crate::texts::is_excepted;
-use crate::way::{First, Kind, Place, Way, Ways};
+use crate::spans::add_spans;
+use crate::way::{Candidates, First, Kind, Place, Rests, Way, Ways};
 use crate::ways::ways;
 use rng_keys::NameKeys;
 use rng_model::{Attr, Name, OutOfMemory, PatternId, Simple, SimpleGrammar, split_blanks};
 use rng_names::contains;
-use rng_patterns::{Elements, Pattern, PatternNumber, PatternTable};
+use rng_patterns::{Pattern, PatternNumber, PatternTable};
+use smallvec::SmallVec;
 use std::alloc::Global;
 use std::collections::HashMap;
 
@@ -47,17 +49,20 @@ fn attribute_ways(
     grammar: &SimpleGrammar,
     keys: &NameKeys,
     table: &mut PatternTable,
-    known: &mut KnownByKey,
+    known: &mut Known,
     name: &Name,
     number: PatternNumber,
 ) -> Result<Ways, OutOfMemory>
     requires inside { number.0 < length table.old }
-    requires known { AreKnownByKey IsAttributeKind grammar.now keys.now table.old known.old }
+    requires known { AreAllKnown grammar.now keys.now table.old known.old }
     ensures longer { OnOk result (Longer table.old table.new) }
-    ensures known { OnOk result (AreKnownByKey IsAttributeKind grammar.now keys.now table.new known.new) }
+    ensures known { OnOk result (AreAllKnown grammar.now keys.now table.new known.new) }
     ensures ways { IfOk result (λ ws. AreWaysOf grammar.now table.new (kinds.Attribute name.entry) (tree_of grammar.now table.old number.0) ws.items) }
 {
+    add_spans(table, &mut known.spans)?;
     let key = keys.key(name);
+    let takers = known.attribute_takers.of(key);
+    let candidates = Candidates::Attributes(takers, known.spans.as_slice());
     if !is_same_name(name, keys.name(key)) {
         let mut none = HashMap::new(alloc);
         return ways(
@@ -65,7 +70,7 @@ fn attribute_ways(
             grammar,
             table,
             &mut none,
-            Elements::Any,
+            candidates,
             Kind::Attribute(name),
             number,
         );
@@ -74,9 +79,9 @@ fn attribute_ways(
         alloc,
         grammar,
         table,
-        known,
+        &mut known.attributes,
         key,
-        Elements::Any,
+        candidates,
         Kind::Attribute(name),
         number,
     )
@@ -104,7 +109,7 @@ fn ways_for(
             grammar,
             table,
             &mut known.texts,
-            Elements::Any,
+            Candidates::Any,
             Kind::Text,
             number,
         ),
@@ -113,7 +118,7 @@ fn ways_for(
             grammar,
             keys,
             table,
-            &mut known.attributes,
+            known,
             &attr.name,
             number,
         ),
@@ -238,7 +243,7 @@ fn rests(
     numbers: &[PatternNumber],
     first: First,
     ways: &[Way],
-) -> Result<Vec<PatternNumber>, OutOfMemory>
+) -> Result<Rests, OutOfMemory>
     requires inside { AreInside table.old ways.now }
     requires ready { IsReady grammar.now table.old numbers.now }
     requires known { AreAllKnown grammar.now keys.now table.old known.old }
@@ -246,7 +251,7 @@ fn rests(
     ensures known { OnOk result (AreAllKnown grammar.now keys.now table.new known.new) }
     ensures rests { IfOk result (λ rests. AreRests grammar.now table.old table.new first.entry ways.now rests.items) }
 {
-    let mut rests = Vec::new(alloc);
+    let mut rests = SmallVec::new(alloc);
     'ways: for way in ways {
         if takes(alloc, grammar, keys, table, known, numbers, first, way.leaf)? {
             rests.push(way.rest)?;

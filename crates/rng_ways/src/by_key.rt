@@ -3,15 +3,15 @@ ghost use Rattle.std.specs.Prelude.{◌≡◌, ◌<◌, IfOk, OnOk, length};
 ghost use Rattle.rng_patterns.specs.PatternTable.{Longer};
 ghost use Rattle.rng_patterns.specs.Trees.{tree_of};
 ghost use Rattle.rng_ways.specs.KnownWays.{AreKnownFor, KeepsOtherKeys};
-ghost use Rattle.rng_ways.specs.Takers.{AreTakers};
+ghost use Rattle.rng_ways.specs.Takers.{AreCandidates};
 ghost use Rattle.rng_ways.specs.Ways.{AreWaysOf};
 
 use crate::known::KnownByKey;
-use crate::way::{Kind, Ways};
+use crate::way::{Candidates, Kind, Ways};
 use crate::ways::ways;
 use rng_keys::NameKey;
 use rng_model::{OutOfMemory, SimpleGrammar};
-use rng_patterns::{Elements, PatternNumber, PatternTable};
+use rng_patterns::{PatternNumber, PatternTable};
 use std::alloc::Global;
 use std::collections::HashMap;
 
@@ -23,23 +23,23 @@ pub fn ways_by_key(
     table: &mut PatternTable,
     known: &mut KnownByKey,
     key: NameKey,
-    takers: Elements,
+    candidates: Candidates,
     kind: Kind,
     number: PatternNumber,
 ) -> Result<Ways, OutOfMemory>
     requires inside { number.0 < length table.old }
     requires known { AreKnownFor grammar.now table.old kind key known.old }
-    requires takers { AreTakers grammar.now kind takers }
+    requires candidates { AreCandidates grammar.now table.old kind candidates }
     ensures longer { OnOk result (Longer table.old table.new) }
     ensures known { OnOk result (AreKnownFor grammar.now table.new kind.entry key known.new) }
     ensures others { OnOk result (KeepsOtherKeys key known.old known.new) }
     ensures ways { IfOk result (λ ws. AreWaysOf grammar.now table.new kind.entry (tree_of grammar.now table.old number.0) ws.items) }
 {
     if let Some(own) = known.get_mut(&key) {
-        return ways(alloc, grammar, table, own, takers, kind, number);
+        return ways(alloc, grammar, table, own, candidates, kind, number);
     }
     let mut own = HashMap::new(alloc);
-    let ways = ways(alloc, grammar, table, &mut own, takers, kind, number)?;
+    let ways = ways(alloc, grammar, table, &mut own, candidates, kind, number)?;
     known.insert(key, own)?;
     Ok(ways)
 }

@@ -14,7 +14,7 @@ use crate::takers::Takers;
 use crate::way::{Way, Ways};
 use rng_keys::{NameKey, NameKeys};
 use rng_model::{Name, OutOfMemory, SimpleGrammar};
-use rng_patterns::PatternNumber;
+use rng_patterns::{PatternNumber, Span};
 use smallvec::SmallVec;
 use std::alloc::Global;
 use std::collections::HashMap;
@@ -37,17 +37,22 @@ pub struct Known {
     pub(crate) rests: KnownRests,
     /// The elements that may have a name, by its key.
     pub(crate) takers: Takers,
+    /// The attributes that may have a name, by its key.
+    pub(crate) attribute_takers: Takers,
+    /// Between which positions the attributes of patterns are, of the first patterns.
+    pub(crate) spans: Vec<Span>,
     /// The datatypes that the grammar names, by positions.
     pub(crate) datatypes: Datatypes,
 }
 
 impl Known {
     /// No ways are known, for a grammar with these keys of names. The error is want of memory. Costs a look-up for each element
-    /// whose name class is one name, and a search for each data and each value.
+    /// and each attribute whose name class is one name, and a search for each data and each value.
     pub fn new(alloc: Global, grammar: &SimpleGrammar, keys: &NameKeys) -> Result<Self, OutOfMemory>
         ensures { IfOk result (λ known. (ns : List Node) → AreAllKnown grammar.now keys.now ns known) }
     {
-        let takers = Takers::new(alloc, grammar, keys)?;
+        let takers = Takers::of_elements(alloc, grammar, keys)?;
+        let attribute_takers = Takers::of_attributes(alloc, grammar, keys)?;
         let datatypes = Datatypes::new(alloc, grammar)?;
         Ok(Known {
             texts: HashMap::new(alloc),
@@ -55,6 +60,8 @@ impl Known {
             attributes: HashMap::new(alloc),
             rests: HashMap::new(alloc),
             takers,
+            attribute_takers,
+            spans: Vec::new(alloc),
             datatypes,
         })
     }
@@ -68,6 +75,7 @@ impl Known {
         self.elements = HashMap::new(alloc);
         self.attributes = HashMap::new(alloc);
         self.rests = HashMap::new(alloc);
+        self.spans = Vec::new(alloc);
     }
 }
 

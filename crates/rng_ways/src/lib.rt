@@ -13,6 +13,7 @@ mod filling;
 mod known;
 mod leaves;
 mod rests;
+mod spans;
 mod starting;
 mod takers;
 mod texts;

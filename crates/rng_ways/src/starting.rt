@@ -13,10 +13,10 @@ ghost use Rattle.rng_ways.specs.Takers.{AreOfKey};
 use crate::by_key::ways_by_key;
 use crate::known::{Known, KnownByKey};
 use crate::leaves::element_takes;
-use crate::way::{Kind, Way, Ways};
+use crate::way::{Candidates, Kind, Way, Ways};
 use rng_keys::{NameKey, NameKeys};
 use rng_model::{Name, OutOfMemory, PatternId, SimpleGrammar};
-use rng_patterns::{Elements, Pattern, PatternNumber, PatternTable};
+use rng_patterns::{Pattern, PatternNumber, PatternTable, Span};
 use smallvec::SmallVec;
 use std::alloc::Global;
 
@@ -67,7 +67,7 @@ fn element_ways(
     keys: &NameKeys,
     table: &mut PatternTable,
     known: &mut KnownByKey,
-    takers: Elements,
+    takers: Span,
     key: NameKey,
     number: PatternNumber,
 ) -> Result<Ways, OutOfMemory>
@@ -87,7 +87,7 @@ fn element_ways(
         table,
         known,
         key,
-        takers,
+        Candidates::Elements(takers),
         Kind::Element(name),
         number,
     )

@@ -1,6 +1,6 @@
 // Ways to begin.
 use rng_model::{Attr, Name};
-use rng_patterns::PatternNumber;
+use rng_patterns::{PatternNumber, Span};
 use smallvec::SmallVec;
 
 /// A leaf of a pattern that may take what comes first, and the pattern of what may follow then.
@@ -23,6 +23,9 @@ impl Default for Way {
 /// The ways of a pattern: two at most for nearly all, which take no memory of their own.
 pub type Ways = SmallVec<Way, 2>;
 
+/// What is left by some ways of a pattern.
+pub type Rests = SmallVec<PatternNumber, 2>;
+
 /// What comes first, as far as ways are told apart by it.
 #[derive(Clone, Copy)]
 pub enum Kind<'a> {
@@ -31,6 +34,18 @@ pub enum Kind<'a> {
     /// An attribute of this name.
     Attribute(&'a Name),
     Text,
+}
+
+/// Which parts of a pattern may take what comes first, as far as it is known.
+#[derive(Clone, Copy)]
+pub enum Candidates<'a> {
+    /// Nothing is known.
+    Any,
+    /// An element comes first: elements of the grammar with these numbers.
+    Elements(Span),
+    /// An attribute comes first: attributes at these positions of the grammar. Where those of a pattern are is told by its
+    /// number, of the first patterns of the table.
+    Attributes(Span, &'a [Span]),
 }
 
 /// Where a pattern is asked: among the children of an element or the values of attributes, or in a list, where no list

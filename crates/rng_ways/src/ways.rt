@@ -1,20 +1,21 @@
 // The ways of a pattern: the leaves by which it may begin, each with what is left then.
-ghost use Rattle.std.specs.Prelude.{◌≡◌, ◌<◌, ◌≤◌, All, IfOk, OnOk, length, map, true};
+ghost use Rattle.std.specs.Prelude.{◌≡◌, ◌<◌, ◌≤◌, [], All, IfOk, OnOk, length, map, true};
 ghost use Rattle.rng_model.specs.Table.{Table};
 ghost use Rattle.rng_model.specs.Tree.{group, s_joined, s_one_or_more};
 ghost use Rattle.rng_patterns.specs.PatternTable.{Longer};
 ghost use Rattle.rng_patterns.specs.Trees.{choice_over, tree_of};
 ghost use Rattle.rng_ways.specs.Kinds.{HasNoOrder, IsOfItems, connector_of};
 ghost use Rattle.rng_ways.specs.KnownWays.{AreKnown};
-ghost use Rattle.rng_ways.specs.Takers.{AreTakers, IsIdle};
+ghost use Rattle.rng_ways.specs.Takers.{AreCandidates};
 ghost use Rattle.rng_ways.specs.Ways.{AreWaysOf, IsHoleInside, filled};
+ghost use Rattle.rng_ways.specs.declared.way.Kind as kinds;
 
 use crate::filling::add_filled;
 use crate::known::{KnownWays, copied_ways, keep, known_ways};
 use crate::leaves::{opened, ways_of_leaf};
-use crate::way::{Hole, Joint, Kind, Ways};
+use crate::way::{Candidates, Hole, Joint, Kind, Ways};
 use rng_model::{OutOfMemory, SimpleGrammar};
-use rng_patterns::{Elements, Pattern, PatternNumber, PatternTable};
+use rng_patterns::{Pattern, PatternNumber, PatternTable};
 use smallvec::SmallVec;
 use std::alloc::Global;
 
@@ -22,8 +23,7 @@ use std::alloc::Global;
 ///
 /// A list nested to the left is opened to the right, so that its ways are those of its first member.
 ///
-/// There are none where no element that may take it stands in the pattern: the takers tell between which numbers those of the
-/// grammar are that may, where something of this kind is an element.
+/// There are none where none of the candidates stands in the pattern.
 ///
 /// Those of choices, groups and repetitions are kept, so that they are worked out once for each pattern; an interleave of
 /// many members leads to too many others for that.
@@ -33,43 +33,44 @@ pub fn ways(
     grammar: &SimpleGrammar,
     table: &mut PatternTable,
     known: &mut KnownWays,
-    takers: Elements,
+    candidates: Candidates,
     kind: Kind,
     number: PatternNumber,
 ) -> Result<Ways, OutOfMemory>
     requires inside { number.0 < length table.old }
     requires known { AreKnown grammar.now table.old kind known.old }
-    requires takers { AreTakers grammar.now kind takers }
+    requires candidates { AreCandidates grammar.now table.old kind candidates }
     ensures longer { OnOk result (Longer table.old table.new) }
     ensures known { OnOk result (AreKnown grammar.now table.new kind.entry known.new) }
     ensures ways { IfOk result (λ ws. AreWaysOf grammar.now table.new kind.entry (tree_of grammar.now table.old number.0) ws.items) }
 {
-    if is_idle(table, takers, number) {
+    if is_idle(table, candidates, number) {
         return Ok(SmallVec::new(alloc));
     }
     if !is_kept(table, number) {
-        return new_ways(alloc, grammar, table, known, takers, kind, number);
+        return new_ways(alloc, grammar, table, known, candidates, kind, number);
     }
     if let Some(ways) = known_ways(known, number) {
         return copied_ways(alloc, ways);
     }
-    let ways = new_ways(alloc, grammar, table, known, takers, kind, number)?;
+    let ways = new_ways(alloc, grammar, table, known, candidates, kind, number)?;
     keep(alloc, known, number, ways.as_slice())?;
     Ok(ways)
 }
 
-/// Whether no element between these numbers stands in a pattern.
-fn is_idle(table: &PatternTable, takers: Elements, number: PatternNumber) -> bool
+/// Whether none of the candidates stands in a pattern. Then it has no ways.
+fn is_idle(table: &PatternTable, candidates: Candidates, number: PatternNumber) -> bool
     requires { number.0 < length table.now }
-    ensures { result ≡ true → (t : Table) → IsIdle takers (tree_of t table.now number.0) }
+    ensures { result ≡ true → (t : Table) (kind : kinds.Kind) → AreCandidates t table.now kind candidates.entry
+        → AreWaysOf t table.now kind (tree_of t table.now number.0) [] }
 {
-    match takers {
-        Elements::None => true,
-        Elements::Within(first, last) => {
-            let elements = table.facts(number).elements;
-            !elements.may_have(first as usize, last as usize)
-        }
-        Elements::Any => false,
+    match candidates {
+        Candidates::Any => false,
+        Candidates::Elements(own) => !own.may_meet(table.facts(number).elements),
+        Candidates::Attributes(own, spans) => match spans.get(number.0) {
+            Some(span) => !own.may_meet(*span),
+            None => false,
+        },
     }
 }
 
@@ -90,13 +91,13 @@ fn new_ways(
     grammar: &SimpleGrammar,
     table: &mut PatternTable,
     known: &mut KnownWays,
-    takers: Elements,
+    candidates: Candidates,
     kind: Kind,
     number: PatternNumber,
 ) -> Result<Ways, OutOfMemory>
     requires inside { number.0 < length table.old }
     requires known { AreKnown grammar.now table.old kind known.old }
-    requires takers { AreTakers grammar.now kind takers }
+    requires candidates { AreCandidates grammar.now table.old kind candidates }
     ensures longer { OnOk result (Longer table.old table.new) }
     ensures known { OnOk result (AreKnown grammar.now table.new kind.entry known.new) }
     ensures ways { IfOk result (λ ws. AreWaysOf grammar.now table.new kind.entry (tree_of grammar.now table.old number.0) ws.items) }
@@ -109,14 +110,14 @@ fn new_ways(
                 grammar,
                 table,
                 known,
-                takers,
+                candidates,
                 kind,
                 members.as_slice(),
             )
         }
         Pattern::Group(first, second) => {
             let (first, second) = (*first, *second);
-            ways_of_group(alloc, grammar, table, known, takers, kind, first, second)
+            ways_of_group(alloc, grammar, table, known, candidates, kind, first, second)
         }
         Pattern::Interleave(first, second) => {
             let (first, second) = (*first, *second);
@@ -125,7 +126,7 @@ fn new_ways(
                 grammar,
                 table,
                 known,
-                takers,
+                candidates,
                 kind,
                 Joint::Interleave,
                 first,
@@ -134,7 +135,7 @@ fn new_ways(
         }
         Pattern::OneOrMore(body) => {
             let body = *body;
-            ways_of_copies(alloc, grammar, table, known, takers, kind, number, body)
+            ways_of_copies(alloc, grammar, table, known, candidates, kind, number, body)
         }
         _ => ways_of_leaf(alloc, grammar, table, kind, number),
     }
@@ -156,14 +157,14 @@ fn ways_of_choice(
     grammar: &SimpleGrammar,
     table: &mut PatternTable,
     known: &mut KnownWays,
-    takers: Elements,
+    candidates: Candidates,
     kind: Kind,
     members: &[PatternNumber],
 ) -> Result<Ways, OutOfMemory>
     requires inside { All (λ m. m.0 < length table.old) members.now }
     requires two { 2 ≤ length members.now }
     requires known { AreKnown grammar.now table.old kind known.old }
-    requires takers { AreTakers grammar.now kind takers }
+    requires candidates { AreCandidates grammar.now table.old kind candidates }
     ensures longer { OnOk result (Longer table.old table.new) }
     ensures known { OnOk result (AreKnown grammar.now table.new kind.entry known.new) }
     ensures ways { IfOk result (λ ws. AreWaysOf grammar.now table.new kind.entry (choice_over (tree_of grammar.now table.old)
@@ -171,10 +172,10 @@ fn ways_of_choice(
 {
     let mut all = SmallVec::new(alloc);
     'members: for member in members {
-        if is_idle(table, takers, *member) {
+        if is_idle(table, candidates, *member) {
             continue;
         }
-        let ways = ways(alloc, grammar, table, known, takers, kind, *member)?;
+        let ways = ways(alloc, grammar, table, known, candidates, kind, *member)?;
         add_filled(alloc, table, Hole::Whole, ways.as_slice(), &mut all)?;
     }
     Ok(all)
@@ -187,7 +188,7 @@ fn ways_of_group(
     grammar: &SimpleGrammar,
     table: &mut PatternTable,
     known: &mut KnownWays,
-    takers: Elements,
+    candidates: Candidates,
     kind: Kind,
     first: PatternNumber,
     second: PatternNumber,
@@ -195,7 +196,7 @@ fn ways_of_group(
     requires first { first.0 < length table.old }
     requires second { second.0 < length table.old }
     requires known { AreKnown grammar.now table.old kind known.old }
-    requires takers { AreTakers grammar.now kind takers }
+    requires candidates { AreCandidates grammar.now table.old kind candidates }
     ensures longer { OnOk result (Longer table.old table.new) }
     ensures known { OnOk result (AreKnown grammar.now table.new kind.entry known.new) }
     ensures ways { IfOk result (λ ws. AreWaysOf grammar.now table.new kind.entry
@@ -207,7 +208,7 @@ fn ways_of_group(
             grammar,
             table,
             known,
-            takers,
+            candidates,
             kind,
             Joint::Group,
             first,
@@ -215,11 +216,12 @@ fn ways_of_group(
         );
     }
     let Some((outer, inner)) = opened(table, first) else {
-        return item_ways_of_group(alloc, grammar, table, known, takers, kind, first, second);
+        return item_ways_of_group(alloc, grammar, table, known, candidates, kind, first, second);
     };
     let rest = table.group(inner, second)?;
-    let whole = table.group(outer, rest)?;
-    ways(alloc, grammar, table, known, takers, kind, whole)
+    ways_of_group(
+        alloc, grammar, table, known, candidates, kind, outer, rest,
+    )
 }
 
 /// The ways of a group to take an item first: those of its first side, and of the second where the first is nullable.
@@ -229,7 +231,7 @@ fn item_ways_of_group(
     grammar: &SimpleGrammar,
     table: &mut PatternTable,
     known: &mut KnownWays,
-    takers: Elements,
+    candidates: Candidates,
     kind: Kind,
     first: PatternNumber,
     second: PatternNumber,
@@ -238,13 +240,13 @@ fn item_ways_of_group(
     requires first { first.0 < length table.old }
     requires second { second.0 < length table.old }
     requires known { AreKnown grammar.now table.old kind known.old }
-    requires takers { AreTakers grammar.now kind takers }
+    requires candidates { AreCandidates grammar.now table.old kind candidates }
     ensures longer { OnOk result (Longer table.old table.new) }
     ensures known { OnOk result (AreKnown grammar.now table.new kind.entry known.new) }
     ensures ways { IfOk result (λ ws. AreWaysOf grammar.now table.new kind.entry
         (s_joined group (tree_of grammar.now table.old first.0) (tree_of grammar.now table.old second.0)) ws.items) }
 {
-    let firsts = ways(alloc, grammar, table, known, takers, kind, first)?;
+    let firsts = ways(alloc, grammar, table, known, candidates, kind, first)?;
     let mut all = SmallVec::new(alloc);
     add_filled(
         alloc,
@@ -256,7 +258,7 @@ fn item_ways_of_group(
     if !table.facts(first).nullable {
         return Ok(all);
     }
-    let seconds = ways(alloc, grammar, table, known, takers, kind, second)?;
+    let seconds = ways(alloc, grammar, table, known, candidates, kind, second)?;
     add_filled(alloc, table, Hole::Whole, seconds.as_slice(), &mut all)?;
     Ok(all)
 }
@@ -268,7 +270,7 @@ fn ways_of_both(
     grammar: &SimpleGrammar,
     table: &mut PatternTable,
     known: &mut KnownWays,
-    takers: Elements,
+    candidates: Candidates,
     kind: Kind,
     joint: Joint,
     first: PatternNumber,
@@ -278,14 +280,14 @@ fn ways_of_both(
     requires first { first.0 < length table.old }
     requires second { second.0 < length table.old }
     requires known { AreKnown grammar.now table.old kind known.old }
-    requires takers { AreTakers grammar.now kind takers }
+    requires candidates { AreCandidates grammar.now table.old kind candidates }
     ensures longer { OnOk result (Longer table.old table.new) }
     ensures known { OnOk result (AreKnown grammar.now table.new kind.entry known.new) }
     ensures ways { IfOk result (λ ws. AreWaysOf grammar.now table.new kind.entry
         (s_joined (connector_of joint) (tree_of grammar.now table.old first.0) (tree_of grammar.now table.old second.0)) ws.items) }
 {
-    let firsts = ways(alloc, grammar, table, known, takers, kind, first)?;
-    let seconds = ways(alloc, grammar, table, known, takers, kind, second)?;
+    let firsts = ways(alloc, grammar, table, known, candidates, kind, first)?;
+    let seconds = ways(alloc, grammar, table, known, candidates, kind, second)?;
     let mut all = SmallVec::new(alloc);
     add_filled(
         alloc,
@@ -311,7 +313,7 @@ fn ways_of_copies(
     grammar: &SimpleGrammar,
     table: &mut PatternTable,
     known: &mut KnownWays,
-    takers: Elements,
+    candidates: Candidates,
     kind: Kind,
     number: PatternNumber,
     body: PatternNumber,
@@ -320,12 +322,12 @@ fn ways_of_copies(
     requires body { body.0 < length table.old }
     requires copies { tree_of grammar.now table.old number.0 ≡ s_one_or_more (tree_of grammar.now table.old body.0) }
     requires known { AreKnown grammar.now table.old kind known.old }
-    requires takers { AreTakers grammar.now kind takers }
+    requires candidates { AreCandidates grammar.now table.old kind candidates }
     ensures longer { OnOk result (Longer table.old table.new) }
     ensures known { OnOk result (AreKnown grammar.now table.new kind.entry known.new) }
     ensures ways { IfOk result (λ ws. AreWaysOf grammar.now table.new kind.entry (tree_of grammar.now table.old number.0) ws.items) }
 {
-    let copies = ways(alloc, grammar, table, known, takers, kind, body)?;
+    let copies = ways(alloc, grammar, table, known, candidates, kind, body)?;
     let empty = table.empty()?;
     let more = table.choice(alloc, &[number, empty])?;
     let mut all = SmallVec::new(alloc);

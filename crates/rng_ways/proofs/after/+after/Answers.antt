@@ -55,7 +55,7 @@ after-returns-clause-left t c =
     let n1 = c.ways_for.new.table in
     let n2 = c.rests.new.table in
     let slice : List PatternNumber = c.as_slice-2.result.now in
-    let some = subst (λ (rs : List PatternNumber). AreRests t0 n1 n2 c.args.first c.in_ok-ways.ways.items rs) (sym c.as_slice-2.ensures.value)
+    let some = subst (λ (rs : List PatternNumber). AreRests t0 n1 n2 c.args.first c.in_ok-ways.ways.items rs) (sym c.as_slice-2.ensures)
     (subst (λ (ws : List numbered.Way). AreRests t0 n1 n2 c.args.first ws c.in_ok-rests.rests.items) c.as_slice.ensures c.in_ok-rests.ensures.rests) in
     if_ok c.choice.result _ _ (λ n h. left_behind t0 old n1 n2 c.choice.new.self c.args.first c.args.number n c.in_ok-ways.ways.items slice
     c.in_ok-ways.ensures.ways some h.0 (h.1.0 t0) (h.1.1 t0 (reading_of t0)))

@@ -39,5 +39,7 @@ returns-clause-known c =
       attributes = more.attributes;
       rests = h.1;
       takers = more.takers;
+      attribute_takers = more.attribute_takers;
+      spans = more.spans;
       datatypes = more.datatypes;
     }) (both_ok c.rest_of_tag.result _ _ c.rest_of_tag.ensures.longer c.rest_of_tag.ensures.known)

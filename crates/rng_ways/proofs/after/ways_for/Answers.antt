@@ -5,8 +5,9 @@ use Rattle.rng_ways.specs.After.{AreWaysFor}
 use Rattle.rng_ways.specs.KnownWays.{IsAttributeKind, IsElementKind}
 use Rattle.rng_ways.specs.declared.way.Kind.TheVariants as kinds
 use Rattle.rng_ways.proofs.Closings.{both_ok}
+use Rattle.rng_ways.proofs.AttributeTakers.{spans_longer}
 use Rattle.rng_ways.proofs.KnownRests.{rests_longer}
-use Rattle.rng_ways.proofs.KnownWays.{by_key_longer, known_longer}
+use Rattle.rng_ways.proofs.KnownWays.{by_key_longer}
 use Rattle.rng_ways.proofs.Behind.{ways_for_attribute, ways_for_text}
 use Rattle.rng_ways.proofs.after.ways_for.Goals as goal
 
@@ -34,17 +35,7 @@ returns-in-Text-clause-known c =
           c.args.known.now.attributes c.requires.known.attributes;
       rests = rests_longer c.args.table.now c.ways.new.table h.0 c.args.known.now.rests c.requires.known.rests;
       takers = c.requires.known.takers;
+      attribute_takers = c.requires.known.attribute_takers;
+      spans = spans_longer c.args.grammar.now c.args.table.now c.ways.new.table h.0 c.args.known.now.spans.items c.requires.known.spans;
       datatypes = c.requires.known.datatypes;
     }) (both_ok c.ways.result _ _ c.ways.ensures.longer c.ways.ensures.known)
-
-pub returns-in-Attribute-clause-known : goal.returns-in-Attribute-clause-known
-returns-in-Attribute-clause-known c =
-    if_ok c.attribute_ways.result _ _ (λ ws h. record {
-      texts = known_longer c.args.grammar.now c.args.table.now c.attribute_ways.new.table kinds.Text h.0 c.args.known.now.texts c.requires.known.texts;
-      elements = by_key_longer IsElementKind c.args.grammar.now c.args.keys.now c.args.table.now c.attribute_ways.new.table h.0
-          c.args.known.now.elements c.requires.known.elements;
-      attributes = h.1;
-      rests = rests_longer c.args.table.now c.attribute_ways.new.table h.0 c.args.known.now.rests c.requires.known.rests;
-      takers = c.requires.known.takers;
-      datatypes = c.requires.known.datatypes;
-    }) (both_ok c.attribute_ways.result _ _ c.attribute_ways.ensures.longer c.attribute_ways.ensures.known)

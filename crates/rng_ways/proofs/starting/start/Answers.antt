@@ -8,6 +8,7 @@ use Rattle.rng_ways.specs.KnownWays.{IsAttributeKind}
 use Rattle.rng_ways.specs.declared.way.Kind.TheVariants as kinds
 use Rattle.rng_ways.specs.declared.way.Place.TheVariants as places
 use Rattle.rng_ways.specs.declared.way.Way as numbered
+use Rattle.rng_ways.proofs.AttributeTakers.{spans_longer}
 use Rattle.rng_ways.proofs.KnownRests.{rests_longer}
 use Rattle.rng_ways.proofs.KnownWays.{by_key_longer, element_kept, element_law, known_longer}
 use Rattle.rng_ways.proofs.Starts.{ready_longer, starts_made}
@@ -50,5 +51,7 @@ returns-clause-known c =
           c.requires.known.attributes;
       rests = rests_longer old new c.in_ok-ways.ensures.longer c.args.known.now.rests c.requires.known.rests;
       takers = c.requires.known.takers;
+      attribute_takers = c.requires.known.attribute_takers;
+      spans = spans_longer t old new c.in_ok-ways.ensures.longer c.args.known.now.spans.items c.requires.known.spans;
       datatypes = c.requires.known.datatypes;
     }

@@ -21,7 +21,7 @@ use Rattle.rng_ways.proofs.Composing.{map_numbers, no_order_between, none_more, 
 use Rattle.rng_ways.proofs.Kept.{Obeys-hereditary, choice_has}
 use Rattle.rng_ways.proofs.KnownWays.{known_longer, known_more, those_known}
 use Rattle.rng_ways.proofs.Nodes.{is_over, other_single, parts_there, single_alone}
-use Rattle.rng_ways.proofs.ElementTakers.{idle_ways}
+use Rattle.rng_ways.proofs.AttributeTakers.{candidates_longer}
 use Rattle.rng_ways.proofs.Weights.{member_less, opened_less, right_less}
 use Rattle.rng_ways.proofs.ways.+ways.Goals as goal
 
@@ -53,7 +53,7 @@ new_ways-ways_of_choice-requires t c =
     let at = get_or-map (λ (m : PatternNumber). m.0) ms k dm in
     omega (arith, one, at, inside) in
     let two_there = subst (λ (ms : List PatternNumber). 2 ≤ length ms) (sym e) two_members in
-    (omega (arith, w, v, d), (subst Inside (sym e) member, (two_there, (c.requires.known, c.requires.takers))))
+    (omega (arith, w, v, d), (subst Inside (sym e) member, (two_there, (c.requires.known, c.requires.candidates))))
 
 pub new_ways-ways_of_group-requires : goal.new_ways-ways_of_group-requires
 new_ways-ways_of_group-requires t c =
@@ -64,7 +64,7 @@ new_ways-ways_of_group-requires t c =
     let second = below.1 in
     let d = c.decreases in
     let inside = c.requires.inside in
-    (omega (arith, w, d), (omega (arith, first, inside), (omega (arith, second, inside), (c.requires.known, c.requires.takers))))
+    (omega (arith, w, d), (omega (arith, first, inside), (omega (arith, second, inside), (c.requires.known, c.requires.candidates))))
 
 pub new_ways-ways_of_both-requires : goal.new_ways-ways_of_both-requires
 new_ways-ways_of_both-requires t c =
@@ -76,7 +76,7 @@ new_ways-ways_of_both-requires t c =
     let d = c.decreases in
     let inside = c.requires.inside in (
       omega (arith, w, d),
-      (no_order_between c.args.kind, (omega (arith, first, inside), (omega (arith, second, inside), (c.requires.known, c.requires.takers)))),
+      (no_order_between c.args.kind, (omega (arith, first, inside), (omega (arith, second, inside), (c.requires.known, c.requires.candidates)))),
     )
 
 pub new_ways-ways_of_copies-requires : goal.new_ways-ways_of_copies-requires
@@ -93,7 +93,7 @@ new_ways-ways_of_copies-requires t c =
           (
             is_over t0 c.args.table.now c.args.number.0 c.pattern.result.now _ c.pattern.ensures.table
                 c.pattern.ensures.found c.in-OneOrMore.is,
-            (c.requires.known, c.requires.takers),
+            (c.requires.known, c.requires.candidates),
           ),
         ),
       ),
@@ -136,7 +136,8 @@ ways_of_both-ways-requires-2 t c =
     let d = c.decreases in
     let inside = c.requires.second in
     let long = Longer-length c.args.table.now c.ways.new.table c.in_ok-firsts.ensures.longer in
-    (omega (arith, stays, less, d), (omega (arith, inside, long), (c.in_ok-firsts.ensures.known, c.requires.takers)))
+    (omega (arith, stays, less, d), (omega (arith, inside, long), (c.in_ok-firsts.ensures.known,
+    candidates_longer t0 c.args.table.now c.ways.new.table c.in_ok-firsts.ensures.longer c.args.kind c.args.candidates c.requires.candidates)))
 
 pub ways_of_both-returns-clause-ways : goal.ways_of_both-returns-clause-ways
 ways_of_both-returns-clause-ways t c =
@@ -189,7 +190,7 @@ item_ways_of_group-ways-requires-2 t c =
         omega (arith, inside, long),
         (
           known_longer t0 c.ways.new.table c.add_filled.new.table c.args.kind c.in_ok-add_filled.ensures.longer c.ways.new.known c.in_ok-firsts.ensures.known,
-          c.requires.takers,
+          candidates_longer t0 c.args.table.now c.add_filled.new.table longer c.args.kind c.args.candidates c.requires.candidates,
         ),
       ),
     )
@@ -232,7 +233,8 @@ ways_of_choice-ways-requires t c =
     let less = member_less (tree_of t0 n0) (map (λ (m : PatternNumber). m.0) ms) i 0 (omega (arith, long, within)) (omega (arith, long, two)) in
     let more = Longer-length n0 c.members.table c.members.invariant.longer in
     let d = c.decreases in
-    (omega (arith, stays, at, less, d), (omega (arith, inside, more), (c.members.invariant.known, c.requires.takers)))
+    (omega (arith, stays, at, less, d), (omega (arith, inside, more), (c.members.invariant.known,
+    candidates_longer t0 n0 c.members.table c.members.invariant.longer c.args.kind c.args.candidates c.requires.candidates)))
 
 pub ways_of_choice-members-preserved : goal.ways_of_choice-members-preserved
 ways_of_choice-members-preserved t c =
@@ -284,8 +286,8 @@ ways_of_choice-members-preserved-then-is_idle t c =
       ways = subst (λ ps. AreWaysOf t0 before c.args.kind (choice_all ps) c.members.all.items) (one_taken f ms i none c.members-test.true)
           (none_more t0 before c.args.kind (map f (take i ms)) (f (get_or ms i none)) c.members.all.items c.members.invariant.ways
           (subst (λ p. AreWaysOf t0 before c.args.kind p []) is
-          (idle_ways t0 before (tree_of t0 before (get_or ms i none).0) c.args.kind c.args.takers c.requires.takers
-          (c.is_idle.ensures c.if-is_idle.true t0))));
+          (c.is_idle.ensures c.if-is_idle.true t0 c.args.kind
+          (candidates_longer t0 n0 before c.members.invariant.longer c.args.kind c.args.candidates c.requires.candidates))));
     }
 
 pub ways_of_choice-returns-clause-ways : goal.ways_of_choice-returns-clause-ways
@@ -330,29 +332,31 @@ ways_of_copies-returns-clause-ways t c =
     (subst (Obeys place) (sym empty_is) (Obeys-hereditary place).of_empty) k))
     (subst (AreWaysOf t0 n3 c.args.kind p) (sym c.as_slice.ensures) a) c.in_ok-add_filled.ensures.ways)
 
-pub ways_of_group-ways-requires : goal.ways_of_group-ways-requires
-ways_of_group-ways-requires t c =
+pub ways_of_group-ways_of_group-requires : goal.ways_of_group-ways_of_group-requires
+ways_of_group-ways_of_group-requires t c =
     let t0 = c.args.grammar.now in
     let n0 = c.args.table.now in
     let n1 = c.group.new.self in
-    let n2 = c.group-2.new.self in
     let x = tree_of t0 n0 c.in-Some.outer.0 in
     let y = tree_of t0 n0 c.in-Some.inner.0 in
     let b = tree_of t0 n0 c.args.second.0 in
-    let is : tree_of t0 n2 c.in_ok-whole.whole.0 ≡ group_of x (group_of y b) =
-    c.in_ok-whole.ensures.tree.is t0
-    ∙ ap₂ group_of (tree_stays t0 n0 n1 c.in-Some.outer.0 c.in_ok-rest.ensures.longer c.in-Some.ensures.inside.0) (c.in_ok-rest.ensures.tree.is t0) in
-    let first_is = c.in-Some.ensures.sides t0 in
-    let w = ap weight is in
-    let v = ap (λ p. weight (s_joined group p b)) first_is in
+    let longer = c.in_ok-rest.ensures.longer in
+    let outer_is = ap weight (tree_stays t0 n0 n1 c.in-Some.outer.0 longer c.in-Some.ensures.inside.0) in
+    let rest_is = ap weight (c.in_ok-rest.ensures.tree.is t0) in
+    let v = ap (λ p. weight (s_joined group p b)) (c.in-Some.ensures.sides t0) in
     let less = opened_less x y b in
+    let inside = c.in-Some.ensures.inside.0 in
+    let long = Longer-length n0 n1 longer in
     let d = c.decreases in (
-      omega (arith, w, v, less, d),
+      omega (arith, outer_is, rest_is, v, less, d),
       (
-        c.in_ok-whole.ensures.tree.inside,
+        omega (arith, inside, long),
         (
-          known_longer t0 n0 n2 c.args.kind (Longer-trans n0 n1 n2 c.in_ok-rest.ensures.longer c.in_ok-whole.ensures.longer) c.args.known.now c.requires.known,
-          c.requires.takers,
+          c.in_ok-rest.ensures.tree.inside,
+          (
+            known_longer t0 n0 n1 c.args.kind longer c.args.known.now c.requires.known,
+            candidates_longer t0 n0 n1 longer c.args.kind c.args.candidates c.requires.candidates,
+          ),
         ),
       ),
     )
@@ -362,24 +366,20 @@ ways_of_group-returns t c =
     let t0 = c.args.grammar.now in
     let n0 = c.args.table.now in
     let n1 = c.group.new.self in
-    let n2 = c.group-2.new.self in
+    let n2 = c.ways_of_group.new.table in
     let x = tree_of t0 n0 c.in-Some.outer.0 in
     let y = tree_of t0 n0 c.in-Some.inner.0 in
     let b = tree_of t0 n0 c.args.second.0 in
-    let is : tree_of t0 n2 c.in_ok-whole.whole.0 ≡ group_of x (group_of y b) =
-    c.in_ok-whole.ensures.tree.is t0
-    ∙ ap₂ group_of (tree_stays t0 n0 n1 c.in-Some.outer.0 c.in_ok-rest.ensures.longer c.in-Some.ensures.inside.0) (c.in_ok-rest.ensures.tree.is t0) in
-    let first_is = c.in-Some.ensures.sides t0 in
-    let n3 = c.ways.new.table in
-    let longer2 = Longer-trans n0 n1 n2 c.in_ok-rest.ensures.longer c.in_ok-whole.ensures.longer in
+    let longer = c.in_ok-rest.ensures.longer in
+    let is = ap₂ (λ p q. s_joined group p q) (tree_stays t0 n0 n1 c.in-Some.outer.0 longer c.in-Some.ensures.inside.0) (c.in_ok-rest.ensures.tree.is t0) in
     record {
-      longer = if_ok c.ways.result _ _ (λ ws h. Longer-trans n0 n2 n3 longer2 h) c.ways.ensures.longer;
-      known = c.ways.ensures.known;
-      ways = if_ok c.ways.result _ _
-          (λ ws h. subst (λ p. AreWaysOf t0 n3 c.args.kind (s_joined group p b) ws.items) (sym first_is)
-          (ways_of_same t0 n3 c.args.kind (group_of x (group_of y b)) (s_joined group (s_joined group x y) b) ws.items (opened_same (reading_of t0) x y b)
-          (opened_hands_on x y b) (subst (λ p. AreWaysOf t0 n3 c.args.kind p ws.items) is h)))
-          c.ways.ensures.ways;
+      longer = if_ok c.ways_of_group.result _ _ (λ ws h. Longer-trans n0 n1 n2 longer h) c.ways_of_group.ensures.longer;
+      known = c.ways_of_group.ensures.known;
+      ways = if_ok c.ways_of_group.result _ _
+          (λ ws h. subst (λ p. AreWaysOf t0 n2 c.args.kind (s_joined group p b) ws.items) (sym (c.in-Some.ensures.sides t0))
+          (ways_of_same t0 n2 c.args.kind (s_joined group x (group_of y b)) (s_joined group (s_joined group x y) b) ws.items (opened_same (reading_of t0) x y b)
+          (opened_hands_on x y b) (subst (λ p. AreWaysOf t0 n2 c.args.kind p ws.items) is h)))
+          c.ways_of_group.ensures.ways;
     }
 
 pub ways_of_both-returns-clause-known : goal.ways_of_both-returns-clause-known
@@ -426,7 +426,7 @@ ways-returns-then-is_idle-clause-ways t c =
     let t0 = c.args.grammar.now in
     let p = tree_of t0 c.args.table.now c.args.number.0 in
     subst (AreWaysOf t0 c.args.table.now c.args.kind p) (sym c.new.ensures.items)
-    (idle_ways t0 c.args.table.now p c.args.kind c.args.takers c.requires.takers (c.is_idle.ensures c.if-is_idle.true t0))
+    (c.is_idle.ensures c.if-is_idle.true t0 c.args.kind c.requires.candidates)
 
 pub new_ways-returns-in_default : goal.new_ways-returns-in_default
 new_ways-returns-in_default t c = record {

@@ -1,5 +1,6 @@
 use Rattle.rng_ways.specs.KnownWays.{IsAttributeKind, IsElementKind}
 use Rattle.rng_ways.specs.declared.way.Kind.TheVariants as kinds
+use Rattle.rng_ways.proofs.AttributeTakers.{no_spans}
 use Rattle.rng_ways.proofs.KnownRests.{no_rests}
 use Rattle.rng_ways.proofs.KnownWays.{none_by_key, none_known}
 use Rattle.rng_ways.proofs.known.Known.forget.Goals as goal
@@ -11,5 +12,7 @@ returns c = λ t keys old new all. record {
   attributes = none_by_key IsAttributeKind t keys new c.new-3.result c.new-3.ensures.empty;
   rests = no_rests new c.new-4.result c.new-4.ensures.empty;
   takers = all.takers;
+  attribute_takers = all.attribute_takers;
+  spans = no_spans t new c.new-5.result.items c.new-5.ensures.items;
   datatypes = all.datatypes;
 }

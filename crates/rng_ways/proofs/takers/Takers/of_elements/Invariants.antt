@@ -1,6 +1,6 @@
 use Rattle.std.proofs.Common.{◌≡◌, length}
 use Rattle.rng_ways.proofs.ElementTakers.{AreToldBelow}
-use Rattle.rng_ways.proofs.takers.Takers.new.Given as goal
+use Rattle.rng_ways.proofs.takers.Takers.of_elements.Given as goal
 
 abbrev pub invariant-elements : goal.invariant-elements
 invariant-elements l = record {

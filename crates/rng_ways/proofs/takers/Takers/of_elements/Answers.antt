@@ -1,6 +1,6 @@
 use Rattle.std.proofs.Common.{sym}
 use Rattle.rng_ways.proofs.ElementTakers.{all_told, one_more_told}
-use Rattle.rng_ways.proofs.takers.Takers.new.Goals as goal
+use Rattle.rng_ways.proofs.takers.Takers.of_elements.Goals as goal
 
 pub elements-preserved : goal.elements-preserved
 elements-preserved c = record {
@@ -12,3 +12,6 @@ elements-preserved c = record {
 pub returns-in_default : goal.returns-in_default
 returns-in_default c =
     all_told c.args.grammar.now c.args.keys.now c.elements.takers c.elements.number (sym c.in_default.ensures) c.elements.invariant.told
+
+pub returns : goal.returns
+returns c = λ e q named. c.unknown.ensures _ e
