@@ -143,6 +143,7 @@ module _ {Y Z : Type 0} (Are : Name → Kind → Type 0) (t : Table) (keys : Key
 pub all_longer : (t : Table) (keys : Keys) (old new : List Node) → Longer old new → (known : Known) → AreAllKnown t keys old known
     → AreAllKnown t keys new known
 all_longer t keys old new longer known all = record {
+  serve = all.serve;
   texts = known_longer t old new kinds.Text longer known.texts all.texts;
   elements = by_key_longer IsElementKind t keys old new longer known.elements all.elements;
   attributes = by_key_longer IsAttributeKind t keys old new longer known.attributes all.attributes;

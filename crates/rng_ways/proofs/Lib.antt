@@ -9,6 +9,7 @@ mod Composing
 mod Weights
 mod KnownRests
 mod AttributeTakers
+mod LikeAttributes
 pub mod KnownWays
 mod ElementTakers
 mod Bareness

@@ -2,7 +2,7 @@
 use Rattle.std.specs.Prelude.{◌≡◌, ◌<◌, List, Some, false, length}
 use Rattle.std.specs.HashMap.{HashMap, get}
 use Rattle.smallvec.specs.SmallVec.{SmallVec}
-use Rattle.rng_keys.specs.Keys.{Keys, name_at}
+use Rattle.rng_keys.specs.Keys.{Keys, KeysServe, name_at}
 use Rattle.rng_keys.specs.declared.name_keys.NameKey.{NameKey}
 use Rattle.rng_keys.specs.contracts.name_keys.NameKeyPartialEq.TheImpl as same_key
 use Rattle.rng_model.specs.Names.{Name}
@@ -64,9 +64,10 @@ abbrev pub AreKnownByKey : {Y Z : Type 0} → (Name → Kind → Type 0) → Tab
     → HashMap NameKey (HashMap PatternNumber (SmallVec Way) Z) Y → Type 0
 AreKnownByKey Are t keys ns known = (k : NameKey) (kind : Kind) → Are (name_at keys k.0) kind → AreKnownFor t ns kind k known
 
--- and all that are known of strings, of elements and of attributes, what is left once a tag is closed, the elements and the
+-- the keys serve, and so are all that are known of strings, of elements and of attributes, what is left once a tag is closed, the elements and the
 -- attributes that may have a name, where the attributes of patterns stand, and the datatypes
 pub record AreAllKnown (t : Table) (keys : Keys) (ns : List Node) (known : Known) : Type 0 where
+  pub serve : KeysServe t keys
   pub texts : AreKnown t ns kinds.Text known.texts
   pub elements : AreKnownByKey IsElementKind t keys ns known.elements
   pub attributes : AreKnownByKey IsAttributeKind t keys ns known.attributes

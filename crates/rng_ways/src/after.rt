@@ -19,7 +19,7 @@ ghost use Rattle.rng_ways.specs.declared.way.Kind.TheVariants as kinds;
 ghost use Rattle.rng_ways.specs.declared.way.First.TheVariants as firsts;
 
 use crate::by_key::ways_by_key;
-use crate::known::{Known, is_same_name};
+use crate::known::Known;
 use crate::rests::rest_of_tag;
 use crate::starting::number_at;
 use crate::texts::is_excepted;
@@ -32,7 +32,6 @@ use rng_names::contains;
 use rng_patterns::{Pattern, PatternNumber, PatternTable};
 use smallvec::SmallVec;
 use std::alloc::Global;
-use std::collections::HashMap;
 
 /// Whether a text is nothing but spaces, tabs and line ends.
 fn is_blank(text: &str) -> bool
@@ -43,7 +42,8 @@ fn is_blank(text: &str) -> bool
         .all(|byte| matches!(*byte, b' ' | b'\t' | b'\n' | b'\r'))
 }
 
-/// The ways of a pattern to take an attribute of this name first.
+/// The ways of a pattern to take an attribute of this name first: those for the name that stands for its key, which no name
+/// class tells from it.
 fn attribute_ways(
     alloc: Global,
     grammar: &SimpleGrammar,
@@ -63,18 +63,6 @@ fn attribute_ways(
     let key = keys.key(name);
     let takers = known.attribute_takers.of(key);
     let candidates = Candidates::Attributes(takers, known.spans.as_slice());
-    if !is_same_name(name, keys.name(key)) {
-        let mut none = HashMap::new(alloc);
-        return ways(
-            alloc,
-            grammar,
-            table,
-            &mut none,
-            candidates,
-            Kind::Attribute(name),
-            number,
-        );
-    }
     ways_by_key(
         alloc,
         grammar,
@@ -82,7 +70,7 @@ fn attribute_ways(
         &mut known.attributes,
         key,
         candidates,
-        Kind::Attribute(name),
+        Kind::Attribute(keys.name(key)),
         number,
     )
 }

@@ -1,8 +1,7 @@
 // Ways that are known of patterns.
-ghost use Rattle.std.specs.Prelude.{◌≡◌, ◌⊎◌, IfOk, IfSome, List, OnOk, true};
-ghost use Rattle.rng_keys.specs.Keys.{Keys};
+ghost use Rattle.std.specs.Prelude.{◌≡◌, ◌⊎◌, IfOk, IfSome, List, OnOk};
+ghost use Rattle.rng_keys.specs.Keys.{Keys, KeysServe};
 ghost use Rattle.rng_model.specs.Table.{Table};
-ghost use Rattle.rng_model.specs.View.{name_of};
 ghost use Rattle.rng_patterns.specs.Node.{Node};
 ghost use Rattle.rng_patterns.specs.declared.pattern.PatternNumber.{PatternNumber};
 ghost use Rattle.rng_ways.specs.KnownWays.{AreAllKnown, HasKnown};
@@ -13,7 +12,7 @@ use crate::rests::KnownRests;
 use crate::takers::Takers;
 use crate::way::{Way, Ways};
 use rng_keys::{NameKey, NameKeys};
-use rng_model::{Name, OutOfMemory, SimpleGrammar};
+use rng_model::{OutOfMemory, SimpleGrammar};
 use rng_patterns::{PatternNumber, Span};
 use smallvec::SmallVec;
 use std::alloc::Global;
@@ -46,9 +45,10 @@ pub struct Known {
 }
 
 impl Known {
-    /// No ways are known, for a grammar with these keys of names. The error is want of memory. Costs a look-up for each element
+    /// No ways are known, for a grammar that these keys of names serve. The error is want of memory. Costs a look-up for each element
     /// and each attribute whose name class is one name, and a search for each data and each value.
     pub fn new(alloc: Global, grammar: &SimpleGrammar, keys: &NameKeys) -> Result<Self, OutOfMemory>
+        requires { KeysServe grammar.now keys.now }
         ensures { IfOk result (λ known. (ns : List Node) → AreAllKnown grammar.now keys.now ns known) }
     {
         let takers = Takers::of_elements(alloc, grammar, keys)?;
@@ -105,11 +105,4 @@ pub fn keep(
     let copy = copied_ways(alloc, ways)?;
     known.insert(number, copy)?;
     Ok(())
-}
-
-/// Whether two names are the same.
-pub fn is_same_name(first: &Name, second: &Name) -> bool
-    ensures { result ≡ true → name_of first.now ≡ name_of second.now }
-{
-    first == second
 }

@@ -34,6 +34,7 @@ returns-clause-known c =
     let known = c.attrs.known in
     if_ok c.rest_of_tag.result _ _ (λ n h.
     let more = all_longer t c.args.keys.now c.attrs.table c.rest_of_tag.new.table h.0 known c.attrs.invariant.known in record {
+      serve = more.serve;
       texts = more.texts;
       elements = more.elements;
       attributes = more.attributes;

@@ -28,6 +28,7 @@ returns-in-Attribute-clause-ways c =
 pub returns-in-Text-clause-known : goal.returns-in-Text-clause-known
 returns-in-Text-clause-known c =
     if_ok c.ways.result _ _ (λ ws h. record {
+      serve = c.requires.known.serve;
       texts = h.1;
       elements = by_key_longer IsElementKind c.args.grammar.now c.args.keys.now c.args.table.now c.ways.new.table h.0 c.args.known.now.elements
           c.requires.known.elements;

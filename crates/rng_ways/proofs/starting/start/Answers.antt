@@ -45,6 +45,7 @@ returns-clause-known c =
     let old = c.args.table.now in
     let new = c.element_ways.new.table in
     record {
+      serve = c.requires.known.serve;
       texts = known_longer t old new kinds.Text c.in_ok-ways.ensures.longer c.args.known.now.texts c.requires.known.texts;
       elements = c.in_ok-ways.ensures.known;
       attributes = by_key_longer IsAttributeKind t c.args.keys.now old new c.in_ok-ways.ensures.longer c.args.known.now.attributes

@@ -7,6 +7,7 @@ use Rattle.rng_ways.proofs.known.Known.forget.Goals as goal
 
 pub returns : goal.returns
 returns c = λ t keys old new all. record {
+  serve = all.serve;
   texts = none_known t new kinds.Text c.new.result c.new.ensures.empty;
   elements = none_by_key IsElementKind t keys new c.new-2.result c.new-2.ensures.empty;
   attributes = none_by_key IsAttributeKind t keys new c.new-3.result c.new-3.ensures.empty;

@@ -8,6 +8,7 @@ use Rattle.rng_ways.proofs.known.Known.new.Goals as goal
 pub returns : goal.returns
 returns c =
     let t = c.args.grammar.now in λ ns. record {
+      serve = c.requires;
       texts = none_known t ns kinds.Text c.new-2.result c.new-2.ensures.empty;
       elements = none_by_key IsElementKind t c.args.keys.now ns c.new-3.result c.new-3.ensures.empty;
       attributes = none_by_key IsAttributeKind t c.args.keys.now ns c.new-4.result c.new-4.ensures.empty;
