@@ -170,8 +170,10 @@ pub span_added : (t : Table) (ns : List Node) (spans : List Span) (n : ℕ) (spa
     → AreSpansOf t ns spans → IsSpanOf t (tree_of t ns n) span → AreSpansOf t ns (spans ++ span ∷ [])
 span_added t ns spans n span inside last all own = λ k s at. ⊎_elim
     (λ before. all k s before)
-    (λ new. (subst (λ i. i < length ns) (last ∙ sym new.0) inside,
-    subst (λ (x : Span). IsSpanOf t (tree_of t ns k) x) new.1 (subst (λ i. IsSpanOf t (tree_of t ns i) span) (last ∙ sym new.0) own)))
+    (λ new. (
+      subst (λ i. i < length ns) (last ∙ sym new.0) inside,
+      subst (λ (x : Span). IsSpanOf t (tree_of t ns k) x) new.1 (subst (λ i. IsSpanOf t (tree_of t ns i) span) (last ∙ sym new.0) own),
+    ))
     (pushed_cases spans span k s at)
   where
     pushed_cases : (xs : List Span) (x : Span) (k : ℕ) (s : Span) → slice_get (xs ++ x ∷ []) k ≡ Some s

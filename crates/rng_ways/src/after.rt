@@ -21,9 +21,9 @@ ghost use Rattle.rng_ways.specs.declared.way.First.TheVariants as firsts;
 use crate::by_key::ways_by_key;
 use crate::known::Known;
 use crate::rests::rest_of_tag;
+use crate::spans::add_spans;
 use crate::starting::number_at;
 use crate::texts::is_excepted;
-use crate::spans::add_spans;
 use crate::way::{Candidates, First, Kind, Place, Rests, Way, Ways};
 use crate::ways::ways;
 use rng_keys::NameKeys;
@@ -102,13 +102,7 @@ fn ways_for(
             number,
         ),
         First::Attribute(attr) => attribute_ways(
-            alloc,
-            grammar,
-            keys,
-            table,
-            known,
-            &attr.name,
-            number,
+            alloc, grammar, keys, table, known, &attr.name, number,
         ),
     }
 }

@@ -117,7 +117,9 @@ fn new_ways(
         }
         Pattern::Group(first, second) => {
             let (first, second) = (*first, *second);
-            ways_of_group(alloc, grammar, table, known, candidates, kind, first, second)
+            ways_of_group(
+                alloc, grammar, table, known, candidates, kind, first, second,
+            )
         }
         Pattern::Interleave(first, second) => {
             let (first, second) = (*first, *second);
@@ -216,12 +218,12 @@ fn ways_of_group(
         );
     }
     let Some((outer, inner)) = opened(table, first) else {
-        return item_ways_of_group(alloc, grammar, table, known, candidates, kind, first, second);
+        return item_ways_of_group(
+            alloc, grammar, table, known, candidates, kind, first, second,
+        );
     };
     let rest = table.group(inner, second)?;
-    ways_of_group(
-        alloc, grammar, table, known, candidates, kind, outer, rest,
-    )
+    ways_of_group(alloc, grammar, table, known, candidates, kind, outer, rest)
 }
 
 /// The ways of a group to take an item first: those of its first side, and of the second where the first is nullable.

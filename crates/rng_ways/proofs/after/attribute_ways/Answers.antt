@@ -18,7 +18,7 @@ ways_by_key-requires-clause-candidates c =
     let t = c.args.grammar.now in
     let q = name_of c.name.result.now in (
       λ k at. c.of-takers.ensures k (subst (λ key. IsTold c.args.known.now.attribute_takers key k) c.name.ensures.own
-      (c.requires.known.attribute_takers k q at)),
+          (c.requires.known.attribute_takers k q at)),
       subst (AreSpansOf t c.args.table.now) (sym c.as_slice.ensures.value) (c.in_ok-add_spans.ensures t c.requires.known.spans),
     )
 

@@ -135,9 +135,16 @@ ways_of_both-ways-requires-2 t c =
     let less = right_less (connector_of c.args.joint) (tree_of t0 c.args.table.now c.args.first.0) (tree_of t0 c.args.table.now c.args.second.0) in
     let d = c.decreases in
     let inside = c.requires.second in
-    let long = Longer-length c.args.table.now c.ways.new.table c.in_ok-firsts.ensures.longer in
-    (omega (arith, stays, less, d), (omega (arith, inside, long), (c.in_ok-firsts.ensures.known,
-    candidates_longer t0 c.args.table.now c.ways.new.table c.in_ok-firsts.ensures.longer c.args.kind c.args.candidates c.requires.candidates)))
+    let long = Longer-length c.args.table.now c.ways.new.table c.in_ok-firsts.ensures.longer in (
+      omega (arith, stays, less, d),
+      (
+        omega (arith, inside, long),
+        (
+          c.in_ok-firsts.ensures.known,
+          candidates_longer t0 c.args.table.now c.ways.new.table c.in_ok-firsts.ensures.longer c.args.kind c.args.candidates c.requires.candidates,
+        ),
+      ),
+    )
 
 pub ways_of_both-returns-clause-ways : goal.ways_of_both-returns-clause-ways
 ways_of_both-returns-clause-ways t c =
@@ -232,9 +239,16 @@ ways_of_choice-ways-requires t c =
     let two = c.requires.two in
     let less = member_less (tree_of t0 n0) (map (λ (m : PatternNumber). m.0) ms) i 0 (omega (arith, long, within)) (omega (arith, long, two)) in
     let more = Longer-length n0 c.members.table c.members.invariant.longer in
-    let d = c.decreases in
-    (omega (arith, stays, at, less, d), (omega (arith, inside, more), (c.members.invariant.known,
-    candidates_longer t0 n0 c.members.table c.members.invariant.longer c.args.kind c.args.candidates c.requires.candidates)))
+    let d = c.decreases in (
+      omega (arith, stays, at, less, d),
+      (
+        omega (arith, inside, more),
+        (
+          c.members.invariant.known,
+          candidates_longer t0 n0 c.members.table c.members.invariant.longer c.args.kind c.args.candidates c.requires.candidates,
+        ),
+      ),
+    )
 
 pub ways_of_choice-members-preserved : goal.ways_of_choice-members-preserved
 ways_of_choice-members-preserved t c =
