@@ -1,8 +1,8 @@
 -- An attribute is taken by one that stands in the pattern and may have its name; where those of a grammar stand.
-use Rattle.std.proofs.Common.{◌≡◌, ◌∙◌, ◌+◌, ◌<◌, ◌≤◌, ℕ, zero, suc, ◌⊎◌, inl, inr, ⊎_elim, List, [], ◌∷◌, ◌++◌, length, map, slice_get, Some, None, Option}
+use Rattle.std.proofs.Common.{◌≡◌, ◌∙◌, ◌+◌, ◌<◌, ℕ, zero, suc, ◌⊎◌, inl, inr, ⊎_elim, List, [], ◌∷◌, ◌++◌, length, map, slice_get, Some, None, Option}
 use Rattle.std.proofs.Common.{subst, sym, refl, ap, true, arith, get_or, take}
 use Rattle.std.proofs.lemmas.List.{map-append, take_more}
-use Rattle.std.proofs.lemmas.Option.{slice_get_cases, slice_get_within}
+use Rattle.std.proofs.lemmas.Option.{slice_get_cases}
 use Rattle.rng_keys.specs.Keys.{Keys, key_of}
 use Rattle.rng_model.specs.Names.{Name}
 use Rattle.rng_model.specs.Table.{Table}

@@ -4,7 +4,7 @@ use Rattle.std.proofs.Common.{All, Bool, true, false, Contains, Bor}
 use Rattle.std.proofs.lemmas.List.{map-append}
 use Rattle.std.proofs.lemmas.List.Elements.{All-append, Contains-get_or, Contains-append_left, Contains-append_right, Contains-append_cases}
 use Rattle.rng_model.specs.Lists.{Among, here, there}
-use Rattle.rng_model.specs.Tree.{Simple}
+use Rattle.rng_model.specs.Tree.{Simple, s_not_allowed}
 use Rattle.rng_model.specs.Document.{Attribute, Item, a_text}
 use Rattle.rng_model.specs.Table.{Table}
 use Rattle.rng_model.specs.View.{attribute_of, name_of}
@@ -23,7 +23,7 @@ use Rattle.rng_patterns.specs.declared.pattern.PatternNumber.{PatternNumber}
 use Rattle.rng_patterns.proofs.Choices.{only_one}
 use Rattle.rng_patterns.proofs.Trees.{Longer-length, Longer-trans, tree_stays}
 use Rattle.rng_ways.specs.After.{AreFor, AreRests, AreThoseBehind, AreWaysFor, IsLeft, TellsTaken, attributes_of, items_of, place_of}
-use Rattle.rng_ways.specs.Kinds.{Obeys, reading_of}
+use Rattle.rng_ways.specs.Kinds.{Obeys, reading_of, rest_of_leaf, takes_kind}
 use Rattle.rng_ways.specs.Ways.{AreWaysOf, IsInside, Offers, way_by, ways_by}
 use Rattle.rng_ways.specs.declared.way.First.{First}
 use Rattle.rng_ways.specs.declared.way.First.TheVariants as firsts
@@ -33,6 +33,7 @@ use Rattle.rng_ways.specs.declared.way.Place.TheVariants as places
 use Rattle.rng_ways.specs.declared.way.Way as numbered
 use Rattle.rng_ways.proofs.Kept.{Obeys-hereditary, choice_has, each_first, each_second}
 use Rattle.rng_ways.proofs.Offers.{offers_both, offers_first, offers_second}
+use Rattle.rng_ways.proofs.WaysOfLeaves.{is_leaf, leaf_kept, leaf_law}
 
 -- a string in a list is asked for one outside, and one outside for the value of an attribute
 abbrev pub rank : First → ℕ
@@ -217,3 +218,43 @@ left_behind t old n1 n2 new first number rest ways rests all some inside alterna
       alternatives
       (λ m c. let P : PatternNumber → Type 0 = λ m. Obeys (place_of first) (tree_of t n2 m.0) in contained P rests m (some.kept (all.kept o)) c);
 }
+
+-- ---- a leaf that a string may take
+
+takes_nothing : {g : Reading} {xs : List Attribute} {ns : List Item} → Takes g s_not_allowed xs ns → ⊥
+takes_nothing d = elim d [ ]
+
+module _ (t : Table) (old new : List Node) (place : Place) (s : Bor (List ℕ)) (number rest : PatternNumber) (inside : rest.0 < length new)
+    (kind : takes_kind (reading_of t) kinds.Text (tree_of t old number.0) ≡ true) where
+  pub leaf_taken : tree_of t new rest.0 ≡ rest_of_leaf (tree_of t old number.0)
+      → (Obeys place (tree_of t old number.0) → Takes (reading_of t) (tree_of t old number.0) [] (a_text s.now ∷ []))
+      → IsLeft t old new (firsts.Text place s) number rest
+  leaf_taken is taken =
+      let g = reading_of t in
+      let l = tree_of t old number.0 in
+      let leaf = is_leaf g kinds.Text l kind in
+      let law = leaf_law g kinds.Text l leaf in
+      record {
+        inside = inside;
+        law = λ o ms bare. (
+          λ h. law.back (a_text s.now) ms (inl (taken o, subst (λ p. Takes g p [] ms) is h)),
+          λ d. ⊎_elim (λ both. subst (λ p. Takes g p [] ms) (sym is) both.1) (λ none. absurd none) (law.to (a_text s.now) ms tt bare d),
+        );
+        kept = λ o. subst (Obeys place) (sym is) (leaf_kept kinds.Text place l leaf o).0.1;
+      }
+
+  pub leaf_not_taken : tree_of t new rest.0 ≡ s_not_allowed
+      → (Obeys place (tree_of t old number.0) → Takes (reading_of t) (tree_of t old number.0) [] (a_text s.now ∷ []) → ⊥)
+      → IsLeft t old new (firsts.Text place s) number rest
+  leaf_not_taken is not =
+      let g = reading_of t in
+      let l = tree_of t old number.0 in
+      let law = leaf_law g kinds.Text l (is_leaf g kinds.Text l kind) in
+      record {
+        inside = inside;
+        law = λ o ms bare. (
+          λ h. absurd (takes_nothing (subst (λ p. Takes g p [] ms) is h)),
+          λ d. ⊎_elim (λ both. absurd (not o both.0)) (λ none. absurd none) (law.to (a_text s.now) ms tt bare d),
+        );
+        kept = λ o. subst (Obeys place) (sym is) (Obeys-hereditary place).of_not_allowed;
+      }

@@ -1,6 +1,6 @@
 -- Attributes of names that no attribute of the grammar tells apart are taken alike: all attributes are renamed at once, the two
 -- names for one another, so that no two come to share a name.
-use Rattle.std.proofs.Common.{◌≡◌, ◌≢◌, ◌∙◌, ◌↔◌, ◌<◌, ◌≤◌, ℕ, zero, suc, arith, All, Bool, List, [], ◌∷◌, ◌++◌, map, length, get_or, fold, inl, inr, ⊎_elim, true, false, true≢false, cond}
+use Rattle.std.proofs.Common.{◌≡◌, ◌≢◌, ◌∙◌, ◌≤◌, ℕ, zero, suc, arith, All, Bool, List, [], ◌∷◌, map, length, get_or, fold, inl, inr, ⊎_elim, true, false, true≢false, cond}
 use Rattle.std.proofs.Common.{Option, Some, None, refl, sym, ap, ap₂, subst, slice_get}
 use Rattle.std.specs.Borrow.{Bor}
 use Rattle.std.proofs.lemmas.Bool.{cases_lt}
@@ -28,7 +28,7 @@ use Rattle.rng_matching.specs.Ways.{AreAttributeWays, TakesAttribute}
 use Rattle.rng_matching.specs.Derivatives.{Way}
 use Rattle.rng_patterns.specs.Node.{Node}
 use Rattle.rng_patterns.specs.Node as node
-use Rattle.rng_patterns.specs.Trees.{attribute_found, choice_from, choice_over, data_found, tree_in, tree_of, tree_over, trees, with_tree}
+use Rattle.rng_patterns.specs.Trees.{attribute_found, choice_from, tree_in, tree_of, tree_over, trees, with_tree}
 use Rattle.rng_ways.specs.Kinds.{IsNamed, reading_of}
 use Rattle.rng_ways.specs.Ways.{AreWaysOf, ways_by}
 use Rattle.rng_ways.specs.declared.way.Kind.TheVariants as kinds

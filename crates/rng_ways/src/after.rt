@@ -11,7 +11,7 @@ ghost use Rattle.rng_matching.specs.Taking.{Takes, WeaklyTakes};
 ghost use Rattle.rng_patterns.specs.PatternTable.{Longer};
 ghost use Rattle.rng_patterns.specs.Trees.{attribute_found, data_found, tree_of};
 ghost use Rattle.rng_ways.specs.After.{AreRests, AreWaysFor, IsLeft, IsLeftOfTag, TellsTaken};
-ghost use Rattle.rng_ways.specs.Kinds.{reading_of};
+ghost use Rattle.rng_ways.specs.Kinds.{reading_of, takes_kind};
 ghost use Rattle.rng_ways.specs.Starting.{IsReady};
 ghost use Rattle.rng_ways.specs.KnownWays.{AreAllKnown};
 ghost use Rattle.rng_ways.specs.Ways.{AreInside, AreWaysOf};
@@ -20,6 +20,7 @@ ghost use Rattle.rng_ways.specs.declared.way.First.TheVariants as firsts;
 
 use crate::by_key::ways_by_key;
 use crate::known::Known;
+use crate::leaves::{rest_of_leaf, takes_kind};
 use crate::rests::rest_of_tag;
 use crate::spans::add_spans;
 use crate::starting::number_at;
@@ -184,6 +185,61 @@ pub fn after_tag(
 /// What is left of a pattern once this has come first.
 #[cycle(after)]
 fn after(
+    alloc: Global,
+    grammar: &SimpleGrammar,
+    keys: &NameKeys,
+    table: &mut PatternTable,
+    known: &mut Known,
+    numbers: &[PatternNumber],
+    first: First,
+    number: PatternNumber,
+) -> Result<PatternNumber, OutOfMemory>
+    requires inside { number.0 < length table.old }
+    requires ready { IsReady grammar.now table.old numbers.now }
+    requires known { AreAllKnown grammar.now keys.now table.old known.old }
+    ensures longer { OnOk result (Longer table.old table.new) }
+    ensures known { OnOk result (AreAllKnown grammar.now keys.now table.new known.new) }
+    ensures left { IfOk result (IsLeft grammar.now table.old table.new first.entry number) }
+{
+    match first {
+        First::Text(place, text) if takes_kind(grammar, table, Kind::Text, number) => after_leaf(
+            alloc, grammar, keys, table, known, numbers, place, text, number,
+        ),
+        _ => after_ways(alloc, grammar, keys, table, known, numbers, first, number),
+    }
+}
+
+/// What is left of a leaf that may take a string once one has come first.
+#[cycle(after)]
+fn after_leaf(
+    alloc: Global,
+    grammar: &SimpleGrammar,
+    keys: &NameKeys,
+    table: &mut PatternTable,
+    known: &mut Known,
+    numbers: &[PatternNumber],
+    place: Place,
+    text: &str,
+    leaf: PatternNumber,
+) -> Result<PatternNumber, OutOfMemory>
+    requires inside { leaf.0 < length table.old }
+    requires ready { IsReady grammar.now table.old numbers.now }
+    requires known { AreAllKnown grammar.now keys.now table.old known.old }
+    requires leaf { takes_kind (reading_of grammar.now) kinds.Text (tree_of grammar.now table.old leaf.0) ≡ true }
+    ensures longer { OnOk result (Longer table.old table.new) }
+    ensures known { OnOk result (AreAllKnown grammar.now keys.now table.new known.new) }
+    ensures left { IfOk result (IsLeft grammar.now table.old table.new (firsts.Text place text.entry) leaf) }
+{
+    let first = First::Text(place, text);
+    if !takes(alloc, grammar, keys, table, known, numbers, first, leaf)? {
+        return table.not_allowed();
+    }
+    rest_of_leaf(table, leaf)
+}
+
+/// The same of any pattern: the choice of what is left by its ways.
+#[cycle(after)]
+fn after_ways(
     alloc: Global,
     grammar: &SimpleGrammar,
     keys: &NameKeys,

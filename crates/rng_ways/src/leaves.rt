@@ -49,7 +49,7 @@ fn attribute_takes(grammar: &SimpleGrammar, position: PatternId, kind: Kind) -> 
 }
 
 /// Whether a pattern is a leaf that may take what comes first.
-fn takes_kind(
+pub fn takes_kind(
     grammar: &SimpleGrammar,
     table: &PatternTable,
     kind: Kind,
@@ -68,7 +68,7 @@ fn takes_kind(
 }
 
 /// What is left behind a leaf.
-fn rest_of_leaf(
+pub fn rest_of_leaf(
     table: &mut PatternTable,
     number: PatternNumber,
 ) -> Result<PatternNumber, OutOfMemory>

@@ -1,4 +1,4 @@
-use Rattle.std.proofs.Common.{◌≡◌, ◌∙◌, ◌<◌, ◌+◌, ◌&&◌, ◌++◌, [], ◌∷◌, suc, List, Some, not, true, false, take}
+use Rattle.std.proofs.Common.{◌≡◌, ◌∙◌, ◌<◌, ◌+◌, ◌&&◌, ◌++◌, [], ◌∷◌, suc, List, Some, not, true, false, true≢false, take}
 use Rattle.std.proofs.Common.{get_or, length, refl, sym, ap, subst, arith, rules}
 use Rattle.std.proofs.lemmas.Option.{slice_get_within}
 use Rattle.std.proofs.Math.Seq.{take-suc}
@@ -14,15 +14,16 @@ use Rattle.rng_patterns.specs.Taking.{tree_by}
 use Rattle.rng_patterns.specs.Trees.{attribute_found, data_found, tree_of}
 use Rattle.rng_patterns.specs.declared.pattern.PatternNumber.{PatternNumber}
 use Rattle.rng_patterns.proofs.Choices.{if_ok}
-use Rattle.rng_patterns.proofs.Trees.{Longer-length, Longer-refl, Longer-trans}
+use Rattle.rng_patterns.proofs.Trees.{Longer-length, Longer-refl, Longer-trans, tree_stays}
 use Rattle.rng_ways.specs.After.{AreRests, TellsTaken}
 use Rattle.rng_ways.specs.Datatypes.{type_at}
-use Rattle.rng_ways.specs.Kinds.{Obeys, reading_of}
+use Rattle.rng_ways.specs.Kinds.{Obeys, reading_of, rest_of_leaf}
+use Rattle.rng_ways.specs.declared.way.Kind.TheVariants as kinds
 use Rattle.rng_ways.specs.Ways.{AreInside}
 use Rattle.rng_ways.specs.declared.way.First.TheVariants as firsts
 use Rattle.rng_ways.specs.declared.way.Place.TheVariants as places
 use Rattle.rng_ways.specs.declared.way.Way as numbered
-use Rattle.rng_ways.proofs.Behind.{leaf_leaves, leaf_leaves_none, left_behind}
+use Rattle.rng_ways.proofs.Behind.{leaf_leaves, leaf_leaves_none, leaf_not_taken, leaf_taken, left_behind}
 use Rattle.rng_ways.proofs.Closings.{both_ok}
 use Rattle.rng_ways.proofs.KnownTypes.{allowed_there, equal_there}
 use Rattle.rng_ways.proofs.KnownWays.{all_longer}
@@ -30,13 +31,40 @@ use Rattle.rng_ways.proofs.Nodes.{is_over, parts_there}
 use Rattle.rng_ways.proofs.Pieces.{either_blank, either_none, either_true, list_told, one_piece_more, value_told}
 use Rattle.rng_ways.proofs.Rows.{decides_holds}
 use Rattle.rng_ways.proofs.Starts.{ready_longer}
+use Rattle.rng_ways.proofs.WaysOfLeaves.{is_leaf}
 use Rattle.rng_ways.proofs.Telling.{no_attribute_found, no_data_found, tells_of_attribute, tells_of_data, tells_of_except, tells_of_list, tells_of_no_attribute}
 use Rattle.rng_ways.proofs.Telling.{tells_of_no_leaf, tells_of_no_string, tells_of_none, tells_of_other_name, tells_of_text, tells_of_value}
 use Rattle.rng_ways.proofs.after.+after.Goals as goal
 use Rattle.rng_ways.proofs.after.+after.Goals.{rests-then-branch+in_ok-push, rests-else-branch}
 
-pub after-rests-requires : goal.after-rests-requires
-after-rests-requires t c =
+pub after_leaf-returns-then-not-branch-clause-known : goal.after_leaf-returns-then-not-branch-clause-known
+after_leaf-returns-then-not-branch-clause-known t c =
+    if_ok c.not_allowed.result _ _ (λ n h. all_longer c.args.grammar.now c.args.keys.now c.takes.new.table c.not_allowed.new.self
+    c.not_allowed.ensures.longer c.takes.new.known c.in_ok-takes.ensures.known) c.not_allowed.ensures.tree
+
+pub after_leaf-returns-then-not-branch-clause-left : goal.after_leaf-returns-then-not-branch-clause-left
+after_leaf-returns-then-not-branch-clause-left t c =
+    let t0 = c.args.grammar.now in
+    let leaf = is_leaf (reading_of t0) kinds.Text (tree_of t0 c.args.table.now c.args.leaf.0) c.requires.1.1.1.1.1 in
+    if_ok c.not_allowed.result _ _ (λ n h. leaf_not_taken t0 c.args.table.now c.not_allowed.new.self c.args.place c.args.text c.args.leaf n h.inside
+    c.requires.1.1.1.1.1 (h.is t0) (λ o d. true≢false (sym ((c.in_ok-takes.ensures.taken leaf o).1 d) ∙ c.if-not-branch.true))) c.not_allowed.ensures.tree
+
+pub after_leaf-returns-clause-known : goal.after_leaf-returns-clause-known
+after_leaf-returns-clause-known t c =
+    if_ok c.rest_of_leaf.result _ _ (λ n h. all_longer c.args.grammar.now c.args.keys.now c.takes.new.table c.rest_of_leaf.new.table
+    c.rest_of_leaf.ensures.longer c.takes.new.known c.in_ok-takes.ensures.known) c.rest_of_leaf.ensures.tree
+
+pub after_leaf-returns-clause-left : goal.after_leaf-returns-clause-left
+after_leaf-returns-clause-left t c =
+    let t0 = c.args.grammar.now in
+    let old = c.args.table.now in
+    let leaf = is_leaf (reading_of t0) kinds.Text (tree_of t0 old c.args.leaf.0) c.requires.1.1.1.1.1 in
+    let stays = tree_stays t0 old c.takes.new.table c.args.leaf.0 c.in_ok-takes.ensures.longer c.requires.1.1.0 in
+    if_ok c.rest_of_leaf.result _ _ (λ n h. leaf_taken t0 old c.rest_of_leaf.new.table c.args.place c.args.text c.args.leaf n h.inside
+    c.requires.1.1.1.1.1 (h.is t0 ∙ ap rest_of_leaf stays) (λ o. (c.in_ok-takes.ensures.taken leaf o).0 c.if-not-branch.false)) c.rest_of_leaf.ensures.tree
+
+pub after_ways-rests-requires : goal.after_ways-rests-requires
+after_ways-rests-requires t c =
     let d = c.decreases in (
       omega (arith, d),
       (
@@ -48,8 +76,8 @@ after-rests-requires t c =
       ),
     )
 
-pub after-returns-clause-left : goal.after-returns-clause-left
-after-returns-clause-left t c =
+pub after_ways-returns-clause-left : goal.after_ways-returns-clause-left
+after_ways-returns-clause-left t c =
     let t0 = c.args.grammar.now in
     let old = c.args.table.now in
     let n1 = c.ways_for.new.table in
@@ -327,7 +355,7 @@ list_takes-returns-clause-known t c = c.pieces.invariant.known
 pub rests-returns-clause-known : goal.rests-returns-clause-known
 rests-returns-clause-known t c = c.ways.invariant.known
 
-pub after-returns-clause-known : goal.after-returns-clause-known
-after-returns-clause-known t c =
+pub after_ways-returns-clause-known : goal.after_ways-returns-clause-known
+after_ways-returns-clause-known t c =
     if_ok c.choice.result _ _ (λ n h. all_longer c.args.grammar.now c.args.keys.now c.rests.new.table c.choice.new.self c.choice.ensures.longer
     c.rests.new.known c.in_ok-rests.ensures.known) c.choice.ensures.inside

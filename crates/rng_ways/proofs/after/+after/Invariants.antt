@@ -13,7 +13,13 @@ use Rattle.rng_ways.proofs.Pieces.{texts_in}
 use Rattle.rng_ways.proofs.after.+after.Given as goal
 
 abbrev pub decreases-after : goal.decreases-after
-decreases-after l = rank l.first + 4
+decreases-after l = rank l.first + 5
+
+abbrev pub decreases-after_leaf : goal.decreases-after_leaf
+decreases-after_leaf l = rank (firsts.Text l.place l.text) + 3
+
+abbrev pub decreases-after_ways : goal.decreases-after_ways
+decreases-after_ways l = rank l.first + 4
 
 abbrev pub decreases-rests : goal.decreases-rests
 decreases-rests l = rank l.first + 3

@@ -2,7 +2,6 @@ use Rattle.std.proofs.Common.{◌∙◌, refl, subst, sym}
 use Rattle.rng_model.specs.View.{name_of}
 use Rattle.rng_patterns.proofs.Choices.{if_ok}
 use Rattle.rng_patterns.proofs.Trees.{tree_stays}
-use Rattle.rng_patterns.specs.Trees.{tree_of}
 use Rattle.rng_ways.specs.KnownWays.{IsAttributeKind}
 use Rattle.rng_ways.specs.Takers.{AreSpansOf, IsTold}
 use Rattle.rng_ways.specs.Ways.{AreWaysOf}
