@@ -6,9 +6,9 @@
 It builds `program.txt` over the crates that it uses in a copy of them (or takes PROGRAM, which was built so before), makes schemas and documents, and
 judges each N times (3 where it is not said), of which the quickest counts. Each line tells the bytes of the document, the milliseconds of a processor,
 the greatest memory, and what the matcher said; what takes longer than so many seconds (20) is given up. `--records` says how many records the first
-document has (45,000). `--jing` judges the same documents, as XML, by jing within one running Java machine (packages `jing`, `libjing-java` and a JDK):
-its last column has the milliseconds on the clock of compiling the schema once and the least of 12 judgements; what takes longer than five times so
-many seconds is given up.
+document has (45,000). `--jing` judges the same documents, as XML, by jing within one running Java machine (packages `jing`, `libjing-java` and a JDK)
+on one processor: its last column has the milliseconds on the clock of compiling the schema and of judging the document, each the least of 12; what
+takes longer than five times so many seconds is given up.
 """
 import argparse
 import os
@@ -206,12 +206,17 @@ def jing_classes(folder):
     return os.pathsep.join([str(folder), jar])
 
 
+def on_one_processor():
+    os.sched_setaffinity(0, {max(os.sched_getaffinity(0))})
+
+
 def by_jing(classes, folder, document, seconds):
-    """The milliseconds that jing takes to compile the schema and, at least, to judge the document, and what it says."""
+    """The least milliseconds that jing takes to compile the schema and to judge the document, and what it says."""
     (folder / "document.xml").write_text(as_xml(document), encoding="utf-8")
     words = ["java", "-Xss512m", "-cp", classes, "JingLoop", str(folder / "s.rnc"), str(folder / "document.xml")]
     try:
-        return subprocess.run(words, stdout=subprocess.PIPE, stderr=subprocess.DEVNULL, text=True, timeout=5 * seconds).stdout.strip() or "failed"
+        return subprocess.run(words, stdout=subprocess.PIPE, stderr=subprocess.DEVNULL, text=True, timeout=5 * seconds,
+                              preexec_fn=on_one_processor).stdout.strip() or "failed"
     except subprocess.TimeoutExpired:
         return f"given up after {5 * seconds:.0f} s"
 
@@ -237,7 +242,7 @@ def main():
                 (folder / "s.rnc").write_text(schema, encoding="utf-8")
                 (folder / "document.pyx").write_text(document, encoding="utf-8")
                 said, took, memory = min((judged(program, folder, folder / "document.pyx", given.seconds) for _ in range(given.times)), key=lambda it: it[1])
-                figures = f"{took:.0f} | {memory:.1f}" if took < float("inf") else " | "
+                figures = f"{took:.1f} | {memory:.1f}" if took < float("inf") else " | "
                 peer = f" {by_jing(classes, folder, document, given.seconds)} |" if classes else ""
                 print(f"| {name} | {len(document.encode()):,} | {figures} | {said} |{peer}", flush=True)
 
