@@ -185,6 +185,12 @@ span_added t ns spans n span inside last all own = λ k s at. ⊎_elim
 
 -- ---- by key
 
+pub less_or_same : (e n : ℕ) → e < n + 1 → (e < n) ⊎ (e ≡ n)
+less_or_same zero zero h = inr refl
+less_or_same zero (suc n) h = inl (omega arith)
+less_or_same (suc e) zero h = absurd (omega (arith, h))
+less_or_same (suc e) (suc n) h = ⊎_elim (λ a. inl (omega (arith, a))) (λ b. inr (ap suc b)) (less_or_same e n (omega (arith, h)))
+
 -- all before this position are told of
 abbrev pub AreToldBefore : Table → Keys → Takers → ℕ → Type 0
 AreToldBefore t keys takers n = (k : ℕ) (q : Name) → k < n → IsAttributeAt t q k → IsTold takers (key_of keys q) k
@@ -194,12 +200,6 @@ module _ (t : Table) (keys : Keys) (old new : Takers) (n : ℕ) where
       → AreToldBefore t keys old n → AreToldBefore t keys new (n + 1)
   one_more_attribute stays told before k q below has = ⊎_elim (λ less. stays (key_of keys q) k (before k q less has))
       (λ same. subst (IsTold new (key_of keys q)) (sym same) (told q (subst (IsAttributeAt t q) same has))) (less_or_same k n below)
-    where
-      less_or_same : (e n : ℕ) → e < n + 1 → (e < n) ⊎ (e ≡ n)
-      less_or_same zero zero h = inr refl
-      less_or_same zero (suc n) h = inl (omega arith)
-      less_or_same (suc e) zero h = absurd (omega (arith, h))
-      less_or_same (suc e) (suc n) h = ⊎_elim (λ a. inl (omega (arith, a))) (λ b. inr (ap suc b)) (less_or_same e n (omega (arith, h)))
 
 -- the class of a row that is an attribute
 pub class_at : (t : Table) (q : Name) (n : ℕ) (class : _) (body : _) → Some (simple.Attribute class body) ≡ slice_get t.patterns n → IsAttributeAt t q n
@@ -229,7 +229,8 @@ no_name_is_held t q (Some (simple.Choice a b)) not h = cc
 -- another row is none
 pub no_class_at : (t : Table) (q : Name) (n : ℕ) (p : row.Simple) → Some p ≡ slice_get t.patterns n
     → ((class : _) (body : _) → p ≡ simple.Attribute class body → ⊥) → IsAttributeAt t q n → ⊥
-no_class_at t q n p found not has = no_name_is_held t q (Some p) (λ class body e. not class body (cc)) (subst (λ o. HasAttribute q (attribute_found t o)) (sym found) has)
+no_class_at t q n p found not has = no_name_is_held t q (Some p) (λ class body e. not class body (cc))
+    (subst (λ o. HasAttribute q (attribute_found t o)) (sym found) has)
 
 pub all_attributes_told : (t : Table) (keys : Keys) (takers : Takers) (n : ℕ) → slice_get t.patterns n ≡ None → AreToldBefore t keys takers n
     → AreAttributesTold t keys takers

@@ -27,6 +27,7 @@ use Rattle.rng_ways.specs.Ways.{AreWaysOf}
 use Rattle.rng_ways.specs.declared.takers.Takers.{Takers}
 use Rattle.rng_ways.specs.declared.way.Kind.{Kind}
 use Rattle.rng_ways.specs.declared.way.Kind.TheVariants as kinds
+use Rattle.rng_ways.proofs.AttributeTakers.{less_or_same}
 use Rattle.rng_ways.proofs.KnownWays.{some_is}
 use Rattle.rng_ways.proofs.Rows.{class_there, no_class_there}
 
@@ -170,12 +171,6 @@ module _ (t : Table) (keys : Keys) (old new : Takers) (n : ℕ) where
       (λ same. subst (IsTold new (key_of keys q)) (sym same)
       (told q (sym (class_there t n row q found) ∙ subst (λ e. has_name (reading_of t) e q ≡ true) same named)))
       (less_or_same e n below)
-    where
-      less_or_same : (e n : ℕ) → e < n + 1 → (e < n) ⊎ (e ≡ n)
-      less_or_same zero zero h = inr refl
-      less_or_same zero (suc n) h = inl (omega arith)
-      less_or_same (suc e) zero h = absurd (omega (arith, h))
-      less_or_same (suc e) (suc n) h = ⊎_elim (λ a. inl (omega (arith, a))) (λ b. inr (ap suc b)) (less_or_same e n (omega (arith, h)))
 
 module _ (t : Table) (keys : Keys) (takers : Takers) where
   pub all_told : (n : ℕ) → slice_get t.elements n ≡ None → AreToldBelow t keys takers n → AreAllTold t keys takers

@@ -1,6 +1,7 @@
 -- Attributes of names that no attribute of the grammar tells apart are taken alike: all attributes are renamed at once, the two
 -- names for one another, so that no two come to share a name.
-use Rattle.std.proofs.Common.{◌≡◌, ◌≢◌, ◌∙◌, ◌≤◌, ℕ, zero, suc, arith, All, Bool, List, [], ◌∷◌, map, length, get_or, fold, inl, inr, ⊎_elim, true, false, true≢false, cond}
+use Rattle.std.proofs.Common.{◌≡◌, ◌≢◌, ◌∙◌, ◌≤◌, ℕ, zero, suc, arith, All, Bool, List, [], ◌∷◌, map, length, get_or, fold, inl, inr, ⊎_elim}
+use Rattle.std.proofs.Common.{true, false, true≢false, cond}
 use Rattle.std.proofs.Common.{Option, Some, None, refl, sym, ap, ap₂, subst, slice_get}
 use Rattle.std.specs.Borrow.{Bor}
 use Rattle.std.proofs.lemmas.Bool.{cases_lt}
@@ -185,7 +186,8 @@ module _ (rename : Name → Name) (back : (n : Name) → rename (rename n) ≡ n
     fold_keeps : (ts : List (Simple ℕ)) (ns : List Node) → All Keeps ts → All Keeps (fold (with_tree tb) ts ns)
     fold_keeps ts [] all = all
     fold_keeps ts (n ∷ ns) all = fold_keeps (with_tree tb ts n) ns
-        (All-append Keeps ts (tree_over tb (tree_in ts) n ∷ []) all (All-cons Keeps (tree_over tb (tree_in ts) n) [] (over_keeps (tree_in ts) (in_keeps ts all) n) (All-nil Keeps)))
+        (All-append Keeps ts (tree_over tb (tree_in ts) n ∷ []) all
+        (All-cons Keeps (tree_over tb (tree_in ts) n) [] (over_keeps (tree_in ts) (in_keeps ts all) n) (All-nil Keeps)))
 
     tree_keeps : (ns : List Node) (k : ℕ) → Keeps (tree_of tb ns k)
     unfolding trees
@@ -288,7 +290,8 @@ module _ (tb : Table) (keys : Keys) (serve : KeysServe tb keys) (q r : Name) (al
       → AreWaysOf tb ns (kinds.Attribute a) (tree_of tb ns n) ws → AreWaysOf tb ns (kinds.Attribute b) (tree_of tb ns n) ws
   ways_alike ns n ws a b is_q is_r h = record {
     inside = h.inside;
-    law = λ well. subst (λ (m : Name). AreAttributeWays (reading_of tb) (IsNamed m) (tree_of tb ns n) (ways_by (tree_of tb ns) ws)) (swapped_first q r ∙ sym is_r)
+    law = λ well. subst (λ (m : Name). AreAttributeWays (reading_of tb) (IsNamed m) (tree_of tb ns n) (ways_by (tree_of tb ns) ws))
+        (swapped_first q r ∙ sym is_r)
         (ways_renamed (swapped q r) (swapped_twice q r) (reading_of tb) q (tree_of tb ns n) (ways_by (tree_of tb ns) ws)
         (tree_keeps (swapped q r) (swapped_twice q r) tb rows_keep ns n) (each_keeps (swapped q r) (swapped_twice q r) tb rows_keep (reading_of tb) ns ws)
         (subst (λ (m : Name). AreAttributeWays (reading_of tb) (IsNamed m) (tree_of tb ns n) (ways_by (tree_of tb ns) ws)) is_q (h.law well)));

@@ -14,7 +14,8 @@ members-preserved c = λ t ns all.
     let ms = c.args.members.now in
     let i = c.members.member-index in
     let none : PatternNumber = record { 0 = 0 } in
-    subst (IsSpanOf t (choice_over (tree_of t ns) (map (λ (m : PatternNumber). m.0) (take (i + 1) ms)))) (sym c.joined-all.ensures) (span_of_more t (tree_of t ns) ms i none c.members.all c.span_at.result c.members-test.true
+    subst (IsSpanOf t (choice_over (tree_of t ns) (map (λ (m : PatternNumber). m.0) (take (i + 1) ms)))) (sym c.joined-all.ensures)
+    (span_of_more t (tree_of t ns) ms i none c.members.all c.span_at.result c.members-test.true
     (c.members.invariant t ns all) (c.span_at.ensures t ns all))
 
 pub returns : goal.returns
