@@ -3,6 +3,7 @@
 Times of a processor are read from /proc four times a second, of each process of the prover: whose crate it checks, and whether that is the
 crate's proof, its tests or a must-fail edit, is told by its words and its folder.
 """
+import json
 import os
 import re
 import shutil
@@ -85,6 +86,8 @@ def gate():
             log.flush()
     ran.wait()
     clock, seen = time.time() - start, watch.stop()
+    with open(f"{ROOT}/out/gate.json", "w", encoding="utf-8") as samples:
+        json.dump(sorted(seen, key=lambda it: it["start"]), samples)
     print(f"`rt ci`: {last.strip()}; {clock / 60:.0f} minutes on the clock with {len(os.sched_getaffinity(0))} processors")
     table(seen)
 

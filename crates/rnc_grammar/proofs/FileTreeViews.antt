@@ -1,6 +1,6 @@
 -- File trees, a datatype's pattern as it is seen.
-use Rattle.std.proofs.Common.{◌≡◌, map, rules, Vec, Global, Some, None, string_bytes, String, Box}
-use Rattle.rnc_grammar.specs.declared.file_tree.DatatypeName.{DatatypeName}
+use Rattle.std.proofs.Common.{◌≡◌, map, rules, Vec, Global, Some, None, Box}
+use Rattle.rnc_grammar.specs.declared.file_tree.Datatype.{Datatype}
 use Rattle.rnc_grammar.specs.declared.file_tree.Pattern.{Pattern}
 use Rattle.rnc_grammar.specs.declared.file_tree.Pattern.TheVariants as patterns
 use Rattle.rnc_grammar.specs.declared.file_tree.Component.{the_lemmas}
@@ -10,14 +10,13 @@ use Rattle.rng_model.specs.Tree.{group, choice, interleave}
 use Rattle.rnc_grammar.specs.declared.file_tree.NameClass.{NameClass, the_lemmas as class_lemmas}
 use Rattle.rnc_grammar.specs.declared.file_tree.NameClass.TheVariants as classes
 
-pub plain_data : (d : DatatypeName) (ps : Vec (String Global × String Global) Global) → files.pattern_of (patterns.Data d ps None) ≡ tree.data_of
-    (files.type_of d) (map (λ p. (string_bytes p.0, string_bytes p.1)) ps.items)
-plain_data d ps = search (rules, the_lemmas)
+pub plain_data : (d : Box Datatype Global)
+    → files.pattern_of (patterns.Data d None) ≡ tree.data_of (files.type_of d.value.type_name) (files.parameters_of d.value)
+plain_data d = search (rules, the_lemmas)
 
-pub data_except : (d : DatatypeName) (ps : Vec (String Global × String Global) Global) (b : Box Pattern Global)
-    → files.pattern_of (patterns.Data d ps (Some b)) ≡ tree.data_except (files.type_of d) (map (λ p. (string_bytes p.0, string_bytes p.1)) ps.items)
-    (files.pattern_of b.value)
-data_except d ps b = search (rules, the_lemmas)
+pub data_except : (d : Box Datatype Global) (b : Box Pattern Global)
+    → files.pattern_of (patterns.Data d (Some b)) ≡ tree.data_except (files.type_of d.value.type_name) (files.parameters_of d.value) (files.pattern_of b.value)
+data_except d b = search (rules, the_lemmas)
 
 pub choice_class : (all : Vec NameClass Global) → files.class_of (classes.Choice all) ≡ tree.choice_of (map files.class_of all.items)
 choice_class all = search (rules, class_lemmas)

@@ -1,13 +1,13 @@
 -- Which patterns are no grammar.
-use Rattle.std.proofs.Common.{◌≡◌, ℕ, List, Option, Some, None, refl}
+use Rattle.std.proofs.Common.{◌≡◌, List, Option, Some, None, refl}
 use Rattle.rng_model.specs.Tree.{Connector}
 use Rattle.rnc_grammar.specs.FileTree.{Pattern, members, pattern_file, grammar_of}
 use Rattle.rnc_grammar.specs.View.{data_of}
-use Rattle.rnc_grammar.specs.declared.file_tree.DatatypeName.{DatatypeName}
+use Rattle.rnc_grammar.specs.declared.file_tree.Datatype.{Datatype}
 
 pub joined_is_none : (k : Connector) (ps : List Pattern) → grammar_of (pattern_file (members k ps)) ≡ None
 joined_is_none k ps = refl
 
-pub data_is_none : (d : DatatypeName) (ps : List (List ℕ × List ℕ)) (e : Option Pattern) → grammar_of (pattern_file (data_of d ps e)) ≡ None
-data_is_none d ps None = refl
-data_is_none d ps (Some p) = refl
+pub data_is_none : (d : Datatype) (e : Option Pattern) → grammar_of (pattern_file (data_of d e)) ≡ None
+data_is_none d None = refl
+data_is_none d (Some p) = refl

@@ -1,5 +1,5 @@
 -- Syntax trees and file trees, the kinds with members or parts of their own as they are seen.
-use Rattle.std.proofs.Common.{◌≡◌, ℕ, map, rules, Vec, Global, List, Some, option_map, sym, ap, ◌∙◌, Box}
+use Rattle.std.proofs.Common.{◌≡◌, ℕ, map, rules, Vec, Global, List, Option, Some, None, option_map, sym, ap, ◌∙◌, Box}
 use Rattle.rng_model.specs.Tree.{group, choice, interleave}
 use Rattle.rnc_syntax.specs.declared.syntax_tree.NameClass.{NameClass}
 use Rattle.rnc_syntax.specs.declared.syntax_tree.NameClass.{the_lemmas as class_lemmas}
@@ -65,6 +65,13 @@ plain_in s d ps values u type same = rw type (ap (option_map (tree.data_of u)) s
 except_in : (s : Scope) (d : written.DatatypeName) (ps values : List (List ℕ × List ℕ)) (p : written.Pattern) (u : tree.DatatypeName) (q : tree.Pattern)
     → type_in s d ≡ Some u → Some ps ≡ Some values → pattern_in s p ≡ Some q → pattern_in s (written.data_except d ps p) ≡ Some (tree.data_except u values q)
 except_in s d ps values p u q type same except = rw (type, except) (ap (option_map (λ ps. tree.data_except u ps q)) same)
+
+-- a name that was found, with parameters beside it
+pub typed_with : {A B : Type 0} (found : Option A) (ps values : B) (u : A) → option_map {U = A × B} (λ d. (d, ps)) found ≡ Some (u, values)
+    → (found ≡ Some u) × (ps ≡ values)
+typed_with None ps values u e = absurd cc
+typed_with {A} {B} (Some d) ps values u e =
+    let same : ◌≡◌ {A = A × B} (d, ps) (u, values) = cc in (ap (λ (x : A × B). Some x.0) same, ap (λ (x : A × B). x.1) same)
 
 -- a datatype, whose parameters the code has as a slice
 pub data_in : (s : Scope) (d : DatatypeName) (ps : Vec Parameter Global) (slice : List Parameter) (u : tree.DatatypeName) (values : List (List ℕ × List ℕ))

@@ -7,6 +7,7 @@ use Rattle.rnc_grammar.specs.declared.file_tree.ExpandedName.{ExpandedName}
 use Rattle.rnc_grammar.specs.declared.file_tree.NameClass.{NameClass, fold-NameClass}
 use Rattle.rnc_grammar.specs.declared.file_tree.NameClass.TheOpen.{NameClass-F}
 use Rattle.rnc_grammar.specs.declared.file_tree.DatatypeName.{DatatypeName}
+use Rattle.rnc_grammar.specs.declared.file_tree.Datatype.{Datatype}
 use Rattle.rnc_grammar.specs.declared.file_tree.Mention.{Mention}
 use Rattle.rnc_grammar.specs.declared.file_tree.Pattern.{Pattern}
 use Rattle.rnc_grammar.specs.declared.file_tree.Component.{Component}
@@ -41,18 +42,21 @@ class_of = fold-NameClass tree.NameClass class_step
 abbrev pub type_of : DatatypeName → tree.DatatypeName
 type_of d = record { library = string_bytes d.library; name = string_bytes d.name }
 
+abbrev pub parameters_of : Datatype → List (List ℕ × List ℕ)
+parameters_of d = map (λ p. (string_bytes p.0, string_bytes p.1)) d.parameters.items
+
 abbrev pub mention_of : Mention → tree.Mention
 mention_of m = record { href = string_bytes m.href; namespace = namespace_of m.namespace; token = m.token }
 
 -- a datatype, with what it excepts, if it does
-abbrev pub data_of : DatatypeName → List (List ℕ × List ℕ) → Option tree.Pattern → tree.Pattern
-data_of d ps None = tree.data_of (type_of d) ps
-data_of d ps (Some p) = tree.data_except (type_of d) ps p
+abbrev pub data_of : Datatype → Option tree.Pattern → tree.Pattern
+data_of d None = tree.data_of (type_of d.type_name) (parameters_of d)
+data_of d (Some p) = tree.data_except (type_of d.type_name) (parameters_of d) p
 
 -- one level of a pattern, with the patterns and components inside already seen
 abbrev pub pattern_step : Pattern-F tree.Component tree.Pattern → tree.Pattern
-pattern_step (Pattern-F.Element c p) = tree.element (class_of c) p.value
-pattern_step (Pattern-F.Attribute c p) = tree.attribute (class_of c) p.value
+pattern_step (Pattern-F.Element c p) = tree.element (class_of c.value) p.value
+pattern_step (Pattern-F.Attribute c p) = tree.attribute (class_of c.value) p.value
 pattern_step (Pattern-F.List p) = tree.list p.value
 pattern_step (Pattern-F.Mixed p) = tree.mixed p.value
 pattern_step (Pattern-F.Optional p) = tree.optional p.value
@@ -63,9 +67,9 @@ pattern_step (Pattern-F.ParentRef n) = tree.parent_ref (string_bytes n)
 pattern_step Pattern-F.Empty = tree.empty
 pattern_step Pattern-F.Text = tree.text
 pattern_step Pattern-F.NotAllowed = tree.not_allowed
-pattern_step (Pattern-F.Value d v) = tree.value (type_of d) (string_bytes v)
-pattern_step (Pattern-F.Data d ps e) = data_of d (map (λ p. (string_bytes p.0, string_bytes p.1)) ps.items) (option_map (λ p. p.value) e)
-pattern_step (Pattern-F.External m) = tree.external (mention_of m)
+pattern_step (Pattern-F.Value v) = tree.value (type_of v.value.type_name) (string_bytes v.value.text)
+pattern_step (Pattern-F.Data d e) = data_of d.value (option_map (λ p. p.value) e)
+pattern_step (Pattern-F.External m) = tree.external (mention_of m.value)
 pattern_step (Pattern-F.Grammar cs) = tree.grammar (tree.components_of cs.items)
 pattern_step (Pattern-F.Group ps) = tree.members group ps.items
 pattern_step (Pattern-F.Interleave ps) = tree.members interleave ps.items
@@ -76,7 +80,7 @@ abbrev pub component_step : Component-F tree.Component tree.Pattern → tree.Com
 component_step (Component-F.Start m p) = tree.start m p
 component_step (Component-F.Define n m p) = tree.define (string_bytes n) m p
 component_step (Component-F.Div cs) = tree.div (tree.components_of cs.items)
-component_step (Component-F.Include m cs) = tree.include (mention_of m) (tree.components_of cs.items)
+component_step (Component-F.Include m cs) = tree.include (mention_of m.value) (tree.components_of cs.items)
 
 abbrev pub pattern_of : Pattern → tree.Pattern
 pattern_of = fold-Pattern tree.Component tree.Pattern component_step pattern_step

@@ -51,6 +51,24 @@ pub struct DatatypeName {
     pub name: String,
 }
 
+/// A datatype: its name, and its parameters as name and text in the order in which they are written.
+///
+/// RELAX NG Specification, section 3 (`data`).
+#[derive(Debug, Drop)]
+pub struct Datatype {
+    pub type_name: DatatypeName,
+    pub parameters: Vec<(String, String)>,
+}
+
+/// A text of a datatype; one without a type is a `token` of the library built in.
+///
+/// RELAX NG Specification, section 3 (`value`).
+#[derive(Debug, Drop)]
+pub struct DatatypeValue {
+    pub type_name: DatatypeName,
+    pub text: String,
+}
+
 /// A mention of another file.
 ///
 /// `href` is that file's name as it is written, `namespace` what the file inherits, and `token` the number, from 1, of
@@ -68,8 +86,8 @@ pub struct Mention {
 #[cycle(file_tree)]
 #[derive(Debug, Drop)]
 pub enum Pattern {
-    Element(NameClass, Box<Pattern>),
-    Attribute(NameClass, Box<Pattern>),
+    Element(Box<NameClass>, Box<Pattern>),
+    Attribute(Box<NameClass>, Box<Pattern>),
     List(Box<Pattern>),
     Mixed(Box<Pattern>),
     /// `p?`
@@ -83,18 +101,13 @@ pub enum Pattern {
     Empty,
     Text,
     NotAllowed,
-    /// A text of a datatype; one without a type is a `token` of the library built in.
-    Value {
-        type_name: DatatypeName,
-        text: String,
-    },
-    /// A datatype, its parameters as name and text in the order in which they are written, and what it excepts.
+    Value(Box<DatatypeValue>),
+    /// A datatype, and what it excepts.
     Data {
-        type_name: DatatypeName,
-        parameters: Vec<(String, String)>,
+        datatype: Box<Datatype>,
         except: Option<Box<Pattern>>,
     },
-    External(Mention),
+    External(Box<Mention>),
     Grammar(Vec<Component>),
     /// Two patterns or more with `,` between them.
     Group(Vec<Pattern>),
@@ -114,7 +127,7 @@ pub enum Component {
     Define(String, Method, Pattern),
     Div(Vec<Component>),
     /// A grammar of another file, and the components that stand in its braces.
-    Include(Mention, Vec<Component>),
+    Include(Box<Mention>, Vec<Component>),
 }
 
 /// What a schema file holds: a pattern, or the components of a grammar.
@@ -151,7 +164,7 @@ impl FileTree {
                 | Pattern::Empty
                 | Pattern::Text
                 | Pattern::NotAllowed
-                | Pattern::Value { .. }
+                | Pattern::Value(_)
                 | Pattern::Data { .. }
                 | Pattern::External(_)
                 | Pattern::Group(_)

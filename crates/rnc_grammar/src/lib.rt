@@ -16,7 +16,8 @@ mod scope;
 
 pub use fault::ParseFault;
 pub use file_tree::{
-    Component, DatatypeName, ExpandedName, FileTree, Mention, NameClass, Namespace, Pattern,
+    Component, Datatype, DatatypeName, DatatypeValue, ExpandedName, FileTree, Mention, NameClass,
+    Namespace, Pattern,
 };
 pub use mentions::MentionedFile;
 pub use parsing::parse;

@@ -61,7 +61,7 @@ fn push_from_pattern<'a>(
         | Pattern::Empty
         | Pattern::Text
         | Pattern::NotAllowed
-        | Pattern::Value { .. } => Ok(()),
+        | Pattern::Value(_) => Ok(()),
         Pattern::Data { except, .. } => match except {
             Some(except) => push_from_pattern(all, except),
             None => Ok(()),

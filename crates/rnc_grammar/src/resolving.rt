@@ -1,6 +1,7 @@
 // From a syntax tree to the file tree, with declarations applied.
-ghost use Rattle.std.specs.Prelude.{map, [], Some, string_bytes};
+ghost use Rattle.std.specs.Prelude.{ℕ, List, map, [], Some, option_map, string_bytes};
 ghost use Rattle.rnc_grammar.specs.Declarations as rules;
+ghost use Rattle.rnc_grammar.specs.FileTree as types;
 ghost use Rattle.rnc_grammar.specs.FileTree.{components_of};
 ghost use Rattle.rnc_grammar.specs.Resolved.{Resolves, each, namespace_at, scope_view};
 ghost use Rattle.rnc_syntax.specs.Syntax as written;
@@ -8,7 +9,8 @@ ghost use Rattle.rnc_syntax.specs.SyntaxView as syntax;
 ghost use Rattle.rnc_grammar.specs.View as tree;
 
 use crate::file_tree::{
-    Component, DatatypeName, ExpandedName, FileTree, Mention, NameClass, Namespace, Pattern,
+    Component, Datatype, DatatypeName, DatatypeValue, ExpandedName, FileTree, Mention, NameClass,
+    Namespace, Pattern,
 };
 use crate::scope::{Scope, ScopeFault, literal_text};
 use std::alloc::Global;
@@ -133,19 +135,61 @@ impl<'s, 'a> Resolver<'s, 'a> {
         Ok(parameters)
     }
 
-    fn mention(self, mention: &rnc_syntax::Mention<'a>) -> Result<Mention, ScopeFault>
-        ensures { Resolves tree.mention_of result (rules.mention_in (scope_view self.entry.scope.now) (syntax.mention_of mention.now)) }
+    fn datatype(
+        self,
+        type_name: &rnc_syntax::DatatypeName<'a>,
+        parameters: &[rnc_syntax::Parameter<'a>],
+    ) -> Result<Box<Datatype>, ScopeFault>
+        ensures { Resolves {Y = types.DatatypeName × List (List ℕ × List ℕ)} (λ d. (tree.type_of d.value.type_name, tree.parameters_of d.value)) result
+            (option_map (λ d. (d, map syntax.parameter_of parameters.now)) (rules.type_in (scope_view self.entry.scope.now) (syntax.type_of type_name.now))) }
+    {
+        let type_name = self.type_name(type_name)?;
+        let parameters = self.parameters(parameters)?;
+        let datatype = Datatype {
+            type_name,
+            parameters,
+        };
+        Ok(Box::new(self.alloc, datatype)?)
+    }
+
+    fn value(
+        self,
+        type_name: &rnc_syntax::DatatypeName<'a>,
+        text: &rnc_syntax::Literal<'a>,
+    ) -> Result<Box<DatatypeValue>, ScopeFault>
+        ensures { Resolves {Y = types.DatatypeName × List ℕ} (λ v. (tree.type_of v.value.type_name, string_bytes v.value.text)) result
+            (option_map (λ d. (d, syntax.text_of text.now)) (rules.type_in (scope_view self.entry.scope.now) (syntax.type_of type_name.now))) }
+    {
+        let type_name = self.type_name(type_name)?;
+        let text = literal_text(self.alloc, text)?;
+        Ok(Box::new(self.alloc, DatatypeValue { type_name, text })?)
+    }
+
+    fn name_class(
+        self,
+        place: Unprefixed,
+        class: &rnc_syntax::NameClass<'a>,
+    ) -> Result<Box<NameClass>, ScopeFault>
+        ensures { Resolves (λ c. tree.class_of c.value) result (rules.class_in (scope_view self.entry.scope.now) (namespace_at (scope_view self.entry.scope.now) place) (syntax.class_of class.now)) }
+    {
+        let class = self.class(place, class)?;
+        Ok(Box::new(self.alloc, class)?)
+    }
+
+    fn mention(self, mention: &rnc_syntax::Mention<'a>) -> Result<Box<Mention>, ScopeFault>
+        ensures { Resolves (λ m. tree.mention_of m.value) result (rules.mention_in (scope_view self.entry.scope.now) (syntax.mention_of mention.now)) }
     {
         let namespace = match mention.inherit {
             None => self.scope.default_namespace(self.alloc)?,
             Some(prefix) => self.scope.namespace(self.alloc, prefix)?,
         };
         let href = literal_text(self.alloc, &mention.href)?;
-        Ok(Mention {
+        let mention = Mention {
             href,
             namespace,
             token: mention.token,
-        })
+        };
+        Ok(Box::new(self.alloc, mention)?)
     }
 
     #[cycle(resolved)]
@@ -162,11 +206,11 @@ impl<'s, 'a> Resolver<'s, 'a> {
     {
         match pattern {
             rnc_syntax::Pattern::Element(class, body) => {
-                let class = self.class(Unprefixed::Default, class)?;
+                let class = self.name_class(Unprefixed::Default, class)?;
                 Ok(Pattern::Element(class, self.child(body)?))
             }
             rnc_syntax::Pattern::Attribute(class, body) => {
-                let class = self.class(Unprefixed::None, class)?;
+                let class = self.name_class(Unprefixed::None, class)?;
                 Ok(Pattern::Attribute(class, self.child(body)?))
             }
             rnc_syntax::Pattern::List(body) => Ok(Pattern::List(self.child(body)?)),
@@ -182,28 +226,16 @@ impl<'s, 'a> Resolver<'s, 'a> {
             rnc_syntax::Pattern::Text => Ok(Pattern::Text),
             rnc_syntax::Pattern::NotAllowed => Ok(Pattern::NotAllowed),
             rnc_syntax::Pattern::Value(type_name, text) => {
-                let type_name = self.type_name(type_name)?;
-                let text = literal_text(self.alloc, text)?;
-                Ok(Pattern::Value { type_name, text })
+                Ok(Pattern::Value(self.value(type_name, text)?))
             }
-            rnc_syntax::Pattern::Data(type_name, parameters) => {
-                let type_name = self.type_name(type_name)?;
-                let parameters = self.parameters(parameters)?;
-                Ok(Pattern::Data {
-                    type_name,
-                    parameters,
-                    except: None,
-                })
-            }
+            rnc_syntax::Pattern::Data(type_name, parameters) => Ok(Pattern::Data {
+                datatype: self.datatype(type_name, parameters)?,
+                except: None,
+            }),
             rnc_syntax::Pattern::DataExcept(type_name, parameters, except) => {
-                let type_name = self.type_name(type_name)?;
-                let parameters = self.parameters(parameters)?;
+                let datatype = self.datatype(type_name, parameters)?;
                 let except = Some(self.child(except)?);
-                Ok(Pattern::Data {
-                    type_name,
-                    parameters,
-                    except,
-                })
+                Ok(Pattern::Data { datatype, except })
             }
             rnc_syntax::Pattern::External(mention) => Ok(Pattern::External(self.mention(mention)?)),
             rnc_syntax::Pattern::Grammar(all) => Ok(Pattern::Grammar(self.components(all)?)),

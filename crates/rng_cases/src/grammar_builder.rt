@@ -120,7 +120,7 @@ fn fits(pattern: &Simple, next: usize, count: usize) -> bool
         Simple::List(_)
         | Simple::Data(_)
         | Simple::DataExcept(_, _)
-        | Simple::Value { .. }
+        | Simple::Value(_)
         | Simple::OneOrMore(_)
         | Simple::Interleave(_, _) => false,
     }

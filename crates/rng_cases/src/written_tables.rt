@@ -34,8 +34,8 @@ pub fn read_grammar(alloc: Global, count: &str, tables: &str) -> Option<SimpleGr
 fn add_entry(alloc: Global, builder: &mut GrammarBuilder, word: &str, of: &str, number: usize) {
     let body = PatternId(number);
     if let Some(class) = word.strip_prefix('@') {
-        match class_of(alloc, class) {
-            Ok(class) => builder.add(Simple::Attribute(class, body)),
+        match attribute_of(alloc, class, body) {
+            Ok(attribute) => builder.add(attribute),
             Err(_) => builder.refuse(),
         }
     } else if of.is_empty() {
@@ -71,6 +71,12 @@ fn pattern_of(word: &str) -> Simple {
 
 fn place(number: &str) -> PatternId {
     PatternId(number.parse::<usize>().unwrap_or(0))
+}
+
+/// An attribute of names of this class.
+fn attribute_of(alloc: Global, class: &str, body: PatternId) -> Result<Simple, AllocError> {
+    let class = class_of(alloc, class)?;
+    Ok(Simple::Attribute(Box::new(alloc, class)?, body))
 }
 
 /// A name class: `*`, `NS:*`, a name, or `*-A|B` for every name but two.

@@ -11,7 +11,7 @@ ghost use Rattle.rng_components.specs.RuleTests.{rule_test};
 use crate::datatypes::{is_refused, is_unknown};
 use crate::definitions::DefinedNames;
 use crate::name_classes::{breaks_except, has_declaration};
-use rng_model::{Datatype, NameClass, SchemaPattern};
+use rng_model::{Datatype, DatatypeValue, NameClass, SchemaPattern};
 
 /// A rule that patterns keep, each by itself.
 #[derive(Clone, Copy)]
@@ -71,11 +71,17 @@ impl Rule<'_, '_> {
         }
     }
 
-    fn is_broken_by_value(&self, library: &str, name: &str, text: &str) -> bool
-        ensures { result ≡ (rule_test self.now).value library.now name.now text.now }
+    fn is_broken_by_value(&self, value: &DatatypeValue) -> bool
+        ensures { result ≡ (rule_test self.now).value (string_bytes value.now.library) (string_bytes value.now.name) (string_bytes value.now.text) }
     {
         match self {
-            Rule::Datatypes => is_refused(library, name, text),
+            Rule::Datatypes => {
+                is_refused(
+                    value.library.as_str(),
+                    value.name.as_str(),
+                    value.text.as_str(),
+                )
+            }
             Rule::NameClasses | Rule::Refs(_) => false,
         }
     }
@@ -123,11 +129,7 @@ impl Rule<'_, '_> {
                 datatype,
                 except: Some(except),
             } => self.is_broken_by_datatype(datatype) || self.is_broken_in(except),
-            SchemaPattern::Value {
-                library,
-                name,
-                text,
-            } => self.is_broken_by_value(library.as_str(), name.as_str(), text.as_str()),
+            SchemaPattern::Value(value) => self.is_broken_by_value(value),
             SchemaPattern::List(body)
             | SchemaPattern::Mixed(body)
             | SchemaPattern::Optional(body)

@@ -1,6 +1,6 @@
 -- What is left of a leaf: of text after a string, of an element after a node, of an attribute after an attribute.
 use Rattle.std.proofs.Common.{◌≡◌, ◌↔◌, ◌⊎◌, inl, inr, ⊎_elim, ℕ, ◌<◌, ◌^◌, List, [], ◌∷◌, slice_get, Option, Some, None, Bool, true, false, not, cond, ◌||◌, All}
-use Rattle.std.proofs.Common.{◌&&◌, string_bytes, length, arith, Bor, nat_eq, IsTrue, refl, sym, ◌∙◌, subst}
+use Rattle.std.proofs.Common.{◌&&◌, string_bytes, length, arith, Bor, Box, Global, nat_eq, IsTrue, refl, sym, ◌∙◌, subst}
 use Rattle.std.proofs.lemmas.Option.{slice_get_within}
 use Rattle.std.specs.HashSet.{HashSet, contains}
 use Rattle.rng_model.specs.Tree as tree
@@ -137,13 +137,13 @@ found_left t s (Some simple.Text) not = nothing_left (grammar_of t) s
 found_left t s (Some (simple.Element e)) not = nothing_left (grammar_of t) s
 found_left t (symbol.Attribute a) (Some (simple.Attribute class body)) not = absurd (not tt)
 found_left t (symbol.Text s) (Some (simple.Attribute class body)) not =
-    λ tests. attribute_after (grammar_of t) tests (a_text s.now) (class_of class) (tree_at t.patterns body)
+    λ tests. attribute_after (grammar_of t) tests (a_text s.now) (class_of class.value) (tree_at t.patterns body)
 found_left t (symbol.Element es) (Some (simple.Attribute class body)) not =
-    λ n is tests. attribute_after (grammar_of t) tests n (class_of class) (tree_at t.patterns body)
+    λ n is tests. attribute_after (grammar_of t) tests n (class_of class.value) (tree_at t.patterns body)
 found_left t s (Some (simple.List body)) not = nothing_left (grammar_of t) s
 found_left t s (Some (simple.Data datatype)) not = nothing_left (grammar_of t) s
 found_left t s (Some (simple.DataExcept datatype except)) not = nothing_left (grammar_of t) s
-found_left t s (Some (simple.Value library name text)) not = nothing_left (grammar_of t) s
+found_left t s (Some (simple.Value value)) not = nothing_left (grammar_of t) s
 found_left t s (Some (simple.OneOrMore body)) not = nothing_left (grammar_of t) s
 found_left t s (Some (simple.Interleave a b)) not = nothing_left (grammar_of t) s
 found_left t s (Some (simple.Group a b)) not = nothing_left (grammar_of t) s
@@ -230,8 +230,8 @@ text_answer t kinds rs ss s number left answer a b inside longer after alone emp
           is ∙ taken_out a b (is_blank s.now) (⊎_elim (λ x. inl (alone ∙ x)) (λ x. inr (empty ∙ x.0, x.1)) d),
     )
 
-pub attribute_answer : (t : Table) (rs : List TableEntry) (k : ℕ) (class : NameClass) (body : PatternId) (a : Attr) (value : List ℕ) (takes : Bool)
-    → AreCopied t rs → slice_get t.patterns k ≡ Some (simple.Attribute class body) → body.0 < k → In (class_of class) (name_of a.name)
+pub attribute_answer : (t : Table) (rs : List TableEntry) (k : ℕ) (class : Box NameClass Global) (body : PatternId) (a : Attr) (value : List ℕ) (takes : Bool)
+    → AreCopied t rs → slice_get t.patterns k ≡ Some (simple.Attribute class body) → body.0 < k → In (class_of class.value) (name_of a.name)
     → value ≡ string_bytes a.value →
     ((tests : TextTests) → IsTrue takes ↔ TakesText (grammar_of t) tests (tree_of t rs body.0) [] value) → (tests : TextTests)
     → IsAfterAttribute (grammar_of t) tests (attribute_of a) (attribute_found t (slice_get t.patterns k)) (cond takes tree.s_empty tree.s_not_allowed)
@@ -242,4 +242,4 @@ attribute_answer t rs k class body a value takes copied found below holds same t
     let Test : tree.Simple ℕ → List ℕ → Type 0 = λ p v. IsTrue takes ↔ TakesText g tests p [] v in
     let tested = subst (λ v. Test (tree_at t.patterns body) v) same (subst (λ p. Test p value) body_is (test tests)) in
     subst (λ o. IsAfterAttribute g tests (attribute_of a) (attribute_found t o) (cond takes tree.s_empty tree.s_not_allowed)) (sym found)
-    (after_value g tests (class_of class) (tree_at t.patterns body) (attribute_of a) takes (grammar_derivable t copied.kinds body) holds tested)
+    (after_value g tests (class_of class.value) (tree_at t.patterns body) (attribute_of a) takes (grammar_derivable t copied.kinds body) holds tested)

@@ -197,7 +197,7 @@ fn node_of(pattern: &Simple, position: PatternId) -> Node
         Simple::List(_)
         | Simple::Data(_)
         | Simple::DataExcept(_, _)
-        | Simple::Value { .. }
+        | Simple::Value(_)
         | Simple::OneOrMore(_)
         | Simple::Interleave(_, _) => Node::NotAllowed,
         Simple::Group(first, second) => Node::Group(first.0, second.0),

@@ -1,5 +1,5 @@
 -- What the parts of a graph are, apart from where they lie in memory.
-use Rattle.std.specs.Prelude.{List, [], ◌∷◌, map, Option, Some, None, option_map}
+use Rattle.std.specs.Prelude.{List, [], ◌∷◌, map, Option, Some, None, option_map, string_bytes}
 use Rattle.rng_model.specs.Names as names
 use Rattle.rng_model.specs.Tree.{Tree, not_allowed, empty, text, leaf, attribute, list, data_of, data_except, value, mixed, optional, zero_or_more, one_or_more}
 use Rattle.rng_model.specs.Tree.{joined, Trees, no_trees, tree_and, Connector, choice, group, interleave}
@@ -42,7 +42,8 @@ graph_pattern_step (GraphPattern-F.Definition j) = leaf (at_definition j)
 graph_pattern_step (GraphPattern-F.Attribute c a) = attribute (class_of c.now) a.value
 graph_pattern_step (GraphPattern-F.List a) = list a.value
 graph_pattern_step (GraphPattern-F.Data d e) = data_tree (datatype_of d.now) (option_map (λ a. a.value) e)
-graph_pattern_step (GraphPattern-F.Value library name v) = value (without_parameters library.now name.now) v.now
+graph_pattern_step (GraphPattern-F.Value v) =
+    value (without_parameters (string_bytes v.now.library) (string_bytes v.now.name)) (string_bytes v.now.text)
 graph_pattern_step (GraphPattern-F.Mixed a) = mixed a.value
 graph_pattern_step (GraphPattern-F.Optional a) = optional a.value
 graph_pattern_step (GraphPattern-F.ZeroOrMore a) = zero_or_more a.value

@@ -29,8 +29,8 @@ pub fn schema_graph<'a>(alloc: Global, schema: &'a Schema) -> Result<Graph<'a>, 
     ensures { IfOk result (λ g. IsGraphOfSchema (schema_of schema.now) g) }
 {
     let table = ComponentTable::of_schema(alloc, schema)?;
-    let mut numbering = started(alloc, schema.main())?;
-    let mut bodies = Vec::new(alloc);
+    let mut numbering = started(alloc, schema.main(), table.len())?;
+    let mut bodies = Vec::with_capacity(alloc, table.len())?;
     'definitions: while let Some(definition) = numbering.definitions.get_index(bodies.len()) {
         let definition = *definition;
         bodies.push(body(alloc, schema, &table, definition, &mut numbering)?)?;
@@ -43,11 +43,15 @@ pub fn schema_graph<'a>(alloc: Global, schema: &'a Schema) -> Result<Graph<'a>, 
     })
 }
 
-/// The start has the number 0.
-fn started<'a>(alloc: Global, main: &'a Place) -> Result<Numbering<'a>, OutOfMemory>
+/// The start has the number 0. There is room for so many definitions.
+fn started<'a>(
+    alloc: Global,
+    main: &'a Place,
+    definitions: usize,
+) -> Result<Numbering<'a>, OutOfMemory>
     ensures { IfOk result (λ n. numbering_of n ≡ record { definitions = record { place = place_of main.now; name = None } ∷ []; elements = [] }) }
 {
-    let mut definitions = IndexSet::new(alloc);
+    let mut definitions = IndexSet::with_capacity(alloc, definitions)?;
     number(
         &mut definitions,
         Definition {

@@ -40,6 +40,11 @@ impl<'a> ComponentTable<'a> {
         Ok(table)
     }
 
+    /// How many definitions have components. Takes no memory.
+    pub(crate) fn len(&self) -> usize {
+        self.definitions.len()
+    }
+
     /// Adds those of the grammar at a place.
     fn add_grammar(
         &mut self,

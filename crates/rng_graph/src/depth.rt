@@ -63,7 +63,7 @@ pub fn pattern_depth(pattern: &GraphPattern<'_>, definitions: &[u32]) -> u32
 {
     match pattern {
         GraphPattern::NotAllowed | GraphPattern::Empty | GraphPattern::Text => 1,
-        GraphPattern::Element(_) | GraphPattern::Value { .. } => 1,
+        GraphPattern::Element(_) | GraphPattern::Value(_) => 1,
         GraphPattern::Definition(j) => definition_depth(definitions, *j),
         GraphPattern::Attribute(class, body) => {
             one_more(class_depth(class).max(pattern_depth(body, definitions)))

@@ -1,5 +1,5 @@
 // The definitions and the elements of a schema, by number.
-use rng_model::{Datatype, NameClass};
+use rng_model::{Datatype, DatatypeValue, NameClass};
 
 /// A pattern of a schema whose elements and refs are numbers.
 #[derive(Drop)]
@@ -19,12 +19,7 @@ pub enum GraphPattern<'a> {
         datatype: &'a Datatype,
         except: Option<Box<GraphPattern<'a>>>,
     },
-    /// A text of a datatype: the uri of its library, empty for the one built in, and its name there.
-    Value {
-        library: &'a str,
-        name: &'a str,
-        text: &'a str,
-    },
+    Value(&'a DatatypeValue),
     Mixed(Box<GraphPattern<'a>>),
     /// `p?`
     Optional(Box<GraphPattern<'a>>),

@@ -47,7 +47,7 @@ fn add_mentions(found: &mut Vec<usize>, pattern: &GraphPattern<'_>) -> Result<()
 {
     match pattern {
         GraphPattern::NotAllowed | GraphPattern::Empty | GraphPattern::Text => Ok(()),
-        GraphPattern::Element(_) | GraphPattern::Value { .. } => Ok(()),
+        GraphPattern::Element(_) | GraphPattern::Value(_) => Ok(()),
         GraphPattern::Definition(j) => Ok(found.push(*j)?),
         GraphPattern::Attribute(_, body) => add_mentions(found, body),
         GraphPattern::List(body) => add_mentions(found, body),

@@ -124,15 +124,7 @@ impl<'a> Scope<'a> {
                 datatype,
                 except: Some(except),
             } => self.around(Around::Data(datatype), except, numbering),
-            SchemaPattern::Value {
-                library,
-                name,
-                text,
-            } => Ok(GraphPattern::Value {
-                library: library.as_str(),
-                name: name.as_str(),
-                text: text.as_str(),
-            }),
+            SchemaPattern::Value(value) => Ok(GraphPattern::Value(value)),
             SchemaPattern::Mixed(body) => self.around(Around::Mixed, body, numbering),
             SchemaPattern::Optional(body) => self.around(Around::Optional, body, numbering),
             SchemaPattern::ZeroOrMore(body) => { self.around(Around::ZeroOrMore, body, numbering) }

@@ -1,5 +1,6 @@
 -- Keys of names, and when they serve a grammar.
-use Rattle.std.specs.Prelude.{◌≡◌, ◌↔◌, ◌<◌, ℕ, List, [], length, position, slice_get, slice_index_or, Some}
+use Rattle.std.specs.Prelude.{◌≡◌, ◌↔◌, ◌<◌, ℕ, Box, List, [], length, position, slice_get, slice_index_or, Some}
+use Rattle.std.specs.Global.{Global}
 use Rattle.std.specs.Map.{lookup}
 use Rattle.std.specs.Option.{unwrap_or}
 use Rattle.std.specs.Str.{bytes_eq}
@@ -36,8 +37,8 @@ Serves keys c = (q : Name) → In c q ↔ In c (name_at keys (key_of keys q))
 -- a name class of the grammar: that of an element, or of an attribute
 pub data IsClassOf (t : Table) (c : NameClass) : Type 0 where
   of_element : (k : ℕ) (e : declared.NameClass × PatternId) → slice_get t.elements k ≡ Some e → c ≡ class_of e.0 → IsClassOf t c
-  of_attribute : (k : ℕ) (class : declared.NameClass) (body : PatternId) → slice_get t.patterns k ≡ Some (simple.Attribute class body) → c ≡ class_of class
-      → IsClassOf t c
+  of_attribute : (k : ℕ) (class : Box declared.NameClass Global) (body : PatternId) → slice_get t.patterns k ≡ Some (simple.Attribute class body)
+      → c ≡ class_of class.value → IsClassOf t c
 
 -- the keys serve each class of the grammar
 abbrev pub KeysServe : Table → Keys → Type 0

@@ -41,7 +41,7 @@ fn attribute_class(pattern: &Simple) -> Option<&NameClass>
     ensures { seen_class result ≡ attribute_class pattern.now }
 {
     match pattern {
-        Simple::Attribute(class, _) => Some(class),
+        Simple::Attribute(class, _) => Some(&**class),
         _ => None,
     }
 }

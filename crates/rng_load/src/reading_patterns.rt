@@ -4,15 +4,15 @@ ghost use Rattle.rng_model.specs.Patterns as schema;
 ghost use Rattle.rng_model.specs.SchemaView.{schema_pattern_of};
 ghost use Rattle.rng_model.specs.Types.{datatype_of, parameter_of};
 ghost use Rattle.rnc_grammar.specs.FileTree.{components_of, patterns_of};
-ghost use Rattle.rnc_grammar.specs.View.{class_of, component_of, file_of, mention_of, pattern_of, type_of};
+ghost use Rattle.rnc_grammar.specs.View.{class_of, component_of, file_of, mention_of, parameters_of, pattern_of, type_of};
 ghost use Rattle.rng_load.specs.Places.{class_in, datatype_in, uri_in};
 ghost use Rattle.rng_load.specs.PlainReading.{external_with, nested_here, read_all_at, read_at, read_below};
 ghost use Rattle.rng_load.specs.ReadPatterns.{connector_of, files_in, nested_of};
 
 use crate::reading_names::{name_class, namespace_uri};
 use indexmap::IndexMap;
-use rnc_grammar::{Component, DatatypeName, FileTree, Mention, NameClass, Pattern};
-use rng_model::{Datatype, OutOfMemory, Place, SchemaPattern};
+use rnc_grammar::{Component, FileTree, Mention, NameClass, Pattern};
+use rng_model::{Datatype, DatatypeValue, OutOfMemory, Place, SchemaPattern};
 use std::alloc::Global;
 
 /// A grammar that is nested in another: where it stands, the namespace that its file inherits, and its components.
@@ -106,16 +106,12 @@ impl<'a> TreeReader<'a> {
             Pattern::Empty => Ok(SchemaPattern::Empty),
             Pattern::Text => Ok(SchemaPattern::Text),
             Pattern::NotAllowed => Ok(SchemaPattern::NotAllowed),
-            Pattern::Value { type_name, text } => value(self.alloc, type_name, text.as_str()),
-            Pattern::Data {
-                type_name,
-                parameters,
-                except,
-            } => match except {
-                None => data(self.alloc, type_name, parameters),
+            Pattern::Value(written) => value(self.alloc, written),
+            Pattern::Data { datatype, except } => match except {
+                None => data(self.alloc, datatype),
                 Some(except) => {
                     let except = self.body(levels, uri, way, except, grammars)?;
-                    data_except(self.alloc, type_name, parameters, except)
+                    data_except(self.alloc, datatype, except)
                 }
             },
             Pattern::External(mention) => self.external(levels, uri, way, mention, grammars),
@@ -278,7 +274,8 @@ fn element(
 ) -> Result<SchemaPattern, OutOfMemory>
     ensures { IfOk result (λ p. schema_pattern_of p ≡ schema.element (class_in inherited.now (class_of class.now)) (schema_pattern_of body.value)) }
 {
-    Ok(SchemaPattern::Element(name_class(alloc, class, inherited)?, body))
+    let class = Box::new(alloc, name_class(alloc, class, inherited)?)?;
+    Ok(SchemaPattern::Element(class, body))
 }
 
 /// An attribute of names of this class, in a file that inherits this namespace.
@@ -293,7 +290,8 @@ fn attribute(
 ) -> Result<SchemaPattern, OutOfMemory>
     ensures { IfOk result (λ p. schema_pattern_of p ≡ schema.attribute (class_in inherited.now (class_of class.now)) (schema_pattern_of body.value)) }
 {
-    Ok(SchemaPattern::Attribute(name_class(alloc, class, inherited)?, body))
+    let class = Box::new(alloc, name_class(alloc, class, inherited)?)?;
+    Ok(SchemaPattern::Attribute(class, body))
 }
 
 /// A reference to what has this name.
@@ -314,14 +312,10 @@ fn parent_reference(alloc: Global, name: &str) -> Result<SchemaPattern, OutOfMem
 
 /// The texts of a datatype.
 #[inline(never)]
-fn data(
-    alloc: Global,
-    type_name: &DatatypeName,
-    parameters: &[(String, String)],
-) -> Result<SchemaPattern, OutOfMemory>
-    ensures { IfOk result (λ p. schema_pattern_of p ≡ schema.data_of (datatype_in (type_of type_name.now) (map (λ p. (string_bytes p.0, string_bytes p.1)) parameters.now))) }
+fn data(alloc: Global, written: &rnc_grammar::Datatype) -> Result<SchemaPattern, OutOfMemory>
+    ensures { IfOk result (λ p. schema_pattern_of p ≡ schema.data_of (datatype_in (type_of written.now.type_name) (parameters_of written.now))) }
 {
-    let datatype = datatype(alloc, type_name, parameters)?;
+    let datatype = datatype(alloc, written)?;
     Ok(SchemaPattern::Data {
         datatype,
         except: None,
@@ -332,13 +326,12 @@ fn data(
 #[inline(never)]
 fn data_except(
     alloc: Global,
-    type_name: &DatatypeName,
-    parameters: &[(String, String)],
+    written: &rnc_grammar::Datatype,
     except: Box<SchemaPattern>,
 ) -> Result<SchemaPattern, OutOfMemory>
-    ensures { IfOk result (λ p. schema_pattern_of p ≡ schema.data_except (datatype_in (type_of type_name.now) (map (λ p. (string_bytes p.0, string_bytes p.1)) parameters.now)) (schema_pattern_of except.value)) }
+    ensures { IfOk result (λ p. schema_pattern_of p ≡ schema.data_except (datatype_in (type_of written.now.type_name) (parameters_of written.now)) (schema_pattern_of except.value)) }
 {
-    let datatype = datatype(alloc, type_name, parameters)?;
+    let datatype = datatype(alloc, written)?;
     Ok(SchemaPattern::Data {
         datatype,
         except: Some(except),
@@ -347,34 +340,27 @@ fn data_except(
 
 /// A text of a datatype.
 #[inline(never)]
-fn value(alloc: Global, type_name: &DatatypeName, text: &str) -> Result<SchemaPattern, OutOfMemory>
-    ensures { IfOk result (λ p. schema_pattern_of p ≡ schema.value (type_of type_name.now).library (type_of type_name.now).name text.now) }
+fn value(alloc: Global, written: &rnc_grammar::DatatypeValue) -> Result<SchemaPattern, OutOfMemory>
+    ensures { IfOk result (λ p. schema_pattern_of p ≡ schema.value (type_of written.now.type_name).library (type_of written.now.type_name).name (string_bytes written.now.text)) }
 {
-    let library = String::from_str(alloc, type_name.library.as_str())?;
-    let name = String::from_str(alloc, type_name.name.as_str())?;
-    let text = String::from_str(alloc, text)?;
-    Ok(SchemaPattern::Value {
-        library,
-        name,
-        text,
-    })
+    let value = DatatypeValue {
+        library: String::from_str(alloc, written.type_name.library.as_str())?,
+        name: String::from_str(alloc, written.type_name.name.as_str())?,
+        text: String::from_str(alloc, written.text.as_str())?,
+    };
+    Ok(SchemaPattern::Value(Box::new(alloc, value)?))
 }
 
 /// A datatype with its parameters.
-fn datatype(
-    alloc: Global,
-    type_name: &DatatypeName,
-    parameters: &[(String, String)],
-) -> Result<Datatype, OutOfMemory>
-    ensures { IfOk result (λ d. datatype_of d ≡ datatype_in (type_of type_name.now) (map (λ p. (string_bytes p.0, string_bytes p.1)) parameters.now)) }
+fn datatype(alloc: Global, written: &rnc_grammar::Datatype) -> Result<Box<Datatype>, OutOfMemory>
+    ensures { IfOk result (λ d. datatype_of d.value ≡ datatype_in (type_of written.now.type_name) (parameters_of written.now)) }
 {
-    let library = String::from_str(alloc, type_name.library.as_str())?;
-    let name = String::from_str(alloc, type_name.name.as_str())?;
-    Ok(Datatype {
-        library,
-        name,
-        parameters: copied(alloc, parameters)?,
-    })
+    let datatype = Datatype {
+        library: String::from_str(alloc, written.type_name.library.as_str())?,
+        name: String::from_str(alloc, written.type_name.name.as_str())?,
+        parameters: copied(alloc, &written.parameters)?,
+    };
+    Ok(Box::new(alloc, datatype)?)
 }
 
 /// The same parameters.

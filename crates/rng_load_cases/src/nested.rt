@@ -9,7 +9,7 @@ pub fn add_nested<'a>(pattern: &'a SchemaPattern, places: &mut Vec<&'a Place>) -
         SchemaPattern::NotAllowed
         | SchemaPattern::Empty
         | SchemaPattern::Text
-        | SchemaPattern::Value { .. }
+        | SchemaPattern::Value(_)
         | SchemaPattern::Ref(_)
         | SchemaPattern::ParentRef(_)
         | SchemaPattern::Data { except: None, .. } => Ok(()),

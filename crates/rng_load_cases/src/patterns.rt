@@ -46,11 +46,9 @@ pub fn print_pattern(rt: &impl Print, pattern: &SchemaPattern) -> io::Result<()>
                 None => Ok(()),
             }
         }
-        SchemaPattern::Value {
-            library,
-            name,
-            text,
-        } => print!(rt; "{{{library}}}{name} {text:?}"),
+        SchemaPattern::Value(value) => {
+            print!(rt; "{{{}}}{} {:?}", value.library, value.name, value.text)
+        }
         SchemaPattern::Ref(name) => print!(rt; "{name}"),
         SchemaPattern::ParentRef(name) => print!(rt; "parent {name}"),
         SchemaPattern::Grammar(place) => {

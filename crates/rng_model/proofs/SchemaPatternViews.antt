@@ -18,11 +18,11 @@ interleave_of all = search (rules, the_lemmas)
 pub choice_of : (all : Vec SchemaPattern Global) → schema_pattern_of (patterns.Choice all) ≡ members choice (map schema_pattern_of all.items)
 choice_of all = search (rules, the_lemmas)
 
-pub plain_data : (d : Datatype) → schema_pattern_of (patterns.Data d None) ≡ pattern.data_of (datatype_of d)
+pub plain_data : (d : Box Datatype Global) → schema_pattern_of (patterns.Data d None) ≡ pattern.data_of (datatype_of d.value)
 plain_data d = search (rules, the_lemmas)
 
-pub data_except : (d : Datatype) (b : Box SchemaPattern Global) →
-    schema_pattern_of (patterns.Data d (Some b)) ≡ pattern.data_except (datatype_of d) (schema_pattern_of b.value)
+pub data_except : (d : Box Datatype Global) (b : Box SchemaPattern Global) →
+    schema_pattern_of (patterns.Data d (Some b)) ≡ pattern.data_except (datatype_of d.value) (schema_pattern_of b.value)
 data_except d b = search (rules, the_lemmas)
 
 -- a list of one member is that member, and one of none changes nothing beside others

@@ -20,9 +20,9 @@ over_numbers of = tree_over (λ id. of id.0)
 
 -- a pattern's tree reads those of its children alone
 reads_below : (p : Simple) (i : ℕ) → AreChildrenBelow i p → numbered.ReadsBelow s_not_allowed over_numbers i p
-reads_below (simple.Attribute class body) i h f g same = ap (tree.s_attribute (class_of class)) (same body.0 h)
+reads_below (simple.Attribute class body) i h f g same = ap (tree.s_attribute (class_of class.value)) (same body.0 h)
 reads_below (simple.List body) i h f g same = ap tree.s_list (same body.0 h)
-reads_below (simple.DataExcept datatype except) i h f g same = ap (tree.s_data_except (datatype_of datatype)) (same except.0 h)
+reads_below (simple.DataExcept datatype except) i h f g same = ap (tree.s_data_except (datatype_of datatype.value)) (same except.0 h)
 reads_below (simple.OneOrMore body) i h f g same = ap tree.s_one_or_more (same body.0 h)
 reads_below (simple.Group a b) i h f g same = ap₂ (tree.s_joined group) (same a.0 h.0) (same b.0 h.1)
 reads_below (simple.Interleave a b) i h f g same = ap₂ (tree.s_joined interleave) (same a.0 h.0) (same b.0 h.1)

@@ -34,11 +34,11 @@ abbrev pub schema_pattern_step : SchemaPattern-F pattern.Pattern → pattern.Pat
 schema_pattern_step SchemaPattern-F.NotAllowed = pattern.not_allowed
 schema_pattern_step SchemaPattern-F.Empty = pattern.empty
 schema_pattern_step SchemaPattern-F.Text = pattern.text
-schema_pattern_step (SchemaPattern-F.Element c p) = pattern.element (class_of c) p.value
-schema_pattern_step (SchemaPattern-F.Attribute c p) = pattern.attribute (class_of c) p.value
+schema_pattern_step (SchemaPattern-F.Element c p) = pattern.element (class_of c.value) p.value
+schema_pattern_step (SchemaPattern-F.Attribute c p) = pattern.attribute (class_of c.value) p.value
 schema_pattern_step (SchemaPattern-F.List p) = pattern.list p.value
-schema_pattern_step (SchemaPattern-F.Data d e) = data_pattern d (option_map (λ p. p.value) e)
-schema_pattern_step (SchemaPattern-F.Value library name v) = pattern.value (string_bytes library) (string_bytes name) (string_bytes v)
+schema_pattern_step (SchemaPattern-F.Data d e) = data_pattern d.value (option_map (λ p. p.value) e)
+schema_pattern_step (SchemaPattern-F.Value v) = pattern.value (string_bytes v.value.library) (string_bytes v.value.name) (string_bytes v.value.text)
 schema_pattern_step (SchemaPattern-F.Mixed p) = pattern.mixed p.value
 schema_pattern_step (SchemaPattern-F.Optional p) = pattern.optional p.value
 schema_pattern_step (SchemaPattern-F.ZeroOrMore p) = pattern.zero_or_more p.value

@@ -14,6 +14,16 @@ pub struct Datatype {
     pub parameters: Vec<(String, String)>,
 }
 
+/// A text of a datatype: the uri of its library, empty for the one built in, and its name there.
+///
+/// RELAX NG Specification, section 3 (`value`).
+#[derive(Drop)]
+pub struct DatatypeValue {
+    pub library: String,
+    pub name: String,
+    pub text: String,
+}
+
 /// The laws of the definitions of datatypes. It does nothing: its contract is what it is for.
 ///
 /// A datatype has one type at most, and one where it is known. The tests of texts that other contracts cite

@@ -1,5 +1,5 @@
 // Patterns as they are written in a schema of any number of grammars.
-use crate::datatype::Datatype;
+use crate::datatype::{Datatype, DatatypeValue};
 use crate::name::NameClass;
 use crate::place::Place;
 
@@ -14,20 +14,15 @@ pub enum SchemaPattern {
     NotAllowed,
     Empty,
     Text,
-    Element(NameClass, Box<SchemaPattern>),
-    Attribute(NameClass, Box<SchemaPattern>),
+    Element(Box<NameClass>, Box<SchemaPattern>),
+    Attribute(Box<NameClass>, Box<SchemaPattern>),
     List(Box<SchemaPattern>),
     /// A datatype, and what it excepts.
     Data {
-        datatype: Datatype,
+        datatype: Box<Datatype>,
         except: Option<Box<SchemaPattern>>,
     },
-    /// A text of a datatype: the uri of its library, empty for the one built in, and its name there.
-    Value {
-        library: String,
-        name: String,
-        text: String,
-    },
+    Value(Box<DatatypeValue>),
     Mixed(Box<SchemaPattern>),
     /// `p?`
     Optional(Box<SchemaPattern>),

@@ -1,5 +1,5 @@
 // One pattern of a simple grammar's table.
-use crate::datatype::Datatype;
+use crate::datatype::{Datatype, DatatypeValue};
 use crate::name::NameClass;
 
 /// A position in a grammar's table of patterns, from 0.
@@ -20,17 +20,12 @@ pub enum Simple {
     Text,
     /// A ref to an element that the grammar lists.
     Element(ElementId),
-    Attribute(NameClass, PatternId),
+    Attribute(Box<NameClass>, PatternId),
     List(PatternId),
-    Data(Datatype),
+    Data(Box<Datatype>),
     /// A datatype, and what it excepts.
-    DataExcept(Datatype, PatternId),
-    /// A text of a datatype: the uri of its library, empty for the one built in, and its name there.
-    Value {
-        library: String,
-        name: String,
-        text: String,
-    },
+    DataExcept(Box<Datatype>, PatternId),
+    Value(Box<DatatypeValue>),
     OneOrMore(PatternId),
     Group(PatternId, PatternId),
     Interleave(PatternId, PatternId),

@@ -54,7 +54,7 @@ module _ (g : Reading) where
   taken_same t f (simple.List body) n below each = same g _
   taken_same t f (simple.Data datatype) n below each = same g _
   taken_same t f (simple.DataExcept datatype except) n below each = same g _
-  taken_same t f (simple.Value library name text) n below each = same g _
+  taken_same t f (simple.Value value) n below each = same g _
   taken_same t f (simple.OneOrMore body) n below each = same_repeat g (each body below)
   taken_same t f (simple.Group a b) n below each = same_group g (each a below.0) (each b below.1)
   taken_same t f (simple.Interleave a b) n below each = same_interleave g (each a below.0) (each b below.1)

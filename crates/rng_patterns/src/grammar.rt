@@ -59,7 +59,7 @@ impl PatternTable {
             Simple::Text => self.number_of(Pattern::Text),
             Simple::Element(element) => self.number_of(Pattern::Element(*element)),
             Simple::Attribute(_, _) => self.number_of(Pattern::Attribute(position)),
-            Simple::List(_) | Simple::Data(_) | Simple::DataExcept(_, _) | Simple::Value { .. } => {
+            Simple::List(_) | Simple::Data(_) | Simple::DataExcept(_, _) | Simple::Value(_) => {
                 self.number_of(Pattern::Data(position))
             }
             Simple::OneOrMore(body) => self.one_or_more(numbers[body.0]),

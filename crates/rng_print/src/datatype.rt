@@ -1,11 +1,11 @@
 // Datatypes with their parameters.
-ghost use Rattle.std.specs.Prelude.{◌≡◌, ◌++◌, OnOk, codes, map};
+ghost use Rattle.std.specs.Prelude.{◌≡◌, ◌++◌, OnOk, codes, map, string_bytes};
 ghost use Rattle.rng_model.specs.Types.{datatype_of, parameter_of};
 ghost use Rattle.rng_print.specs.PrintedText.{datatype_text, literal, parameter_text, parameters_text};
 ghost use Rattle.rng_print.specs.Parts.{named_type_text};
 
 use crate::literal::write_literal;
-use rng_model::{Datatype, OutOfMemory};
+use rng_model::{Datatype, DatatypeValue, OutOfMemory};
 
 /// Writes a datatype with its parameters, in the order in which they are written.
 pub(crate) fn write_datatype(datatype: &Datatype, text: &mut Vec<u8>) -> Result<(), OutOfMemory>
@@ -16,17 +16,13 @@ pub(crate) fn write_datatype(datatype: &Datatype, text: &mut Vec<u8>) -> Result<
 }
 
 /// Writes a value: the name of its datatype, and the text.
-pub(crate) fn write_value(
-    library: &str,
-    name: &str,
-    value: &str,
-    text: &mut Vec<u8>,
-) -> Result<(), OutOfMemory>
-    ensures { OnOk result (text.new.items ≡ text.old.items ++ (named_type_text library.now name.now ++ (codes " " ++ literal value.now))) }
+pub(crate) fn write_value(value: &DatatypeValue, text: &mut Vec<u8>) -> Result<(), OutOfMemory>
+    ensures { OnOk result (text.new.items ≡ text.old.items
+        ++ (named_type_text (string_bytes value.now.library) (string_bytes value.now.name) ++ (codes " " ++ literal (string_bytes value.now.text)))) }
 {
-    write_type(library, name, text)?;
+    write_type(value.library.as_str(), value.name.as_str(), text)?;
     text.extend_from_slice(b" ")?;
-    write_literal(value.as_bytes(), text)
+    write_literal(value.text.as_bytes(), text)
 }
 
 /// Writes the name of a datatype: one that is built in as it is, another behind `xsd:`.

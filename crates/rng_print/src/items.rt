@@ -189,11 +189,8 @@ fn item_of(grammar: &SimpleGrammar, id: PatternId) -> Option<Item>
     ensures inside { IfSome result (IsInside grammar.now) }
 {
     match grammar.pattern(id)? {
-        Simple::NotAllowed
-        | Simple::Empty
-        | Simple::Text
-        | Simple::Data(_)
-        | Simple::Value { .. } => None,
+        Simple::NotAllowed | Simple::Empty | Simple::Text | Simple::Data(_) | Simple::Value(_) =>
+            None,
         Simple::Element(element) => Some(Item::Element(*element)),
         Simple::Attribute(_, _)
         | Simple::List(_)

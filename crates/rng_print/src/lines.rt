@@ -76,11 +76,7 @@ impl<'a, 'b> Lines<'a, 'b> {
             Simple::Empty => Ok(text.extend_from_slice(b"empty")?),
             Simple::Text => Ok(text.extend_from_slice(b"text")?),
             Simple::Data(datatype) => write_datatype(datatype, text),
-            Simple::Value {
-                library,
-                name,
-                text: value,
-            } => write_value(library.as_str(), name.as_str(), value.as_str(), text),
+            Simple::Value(value) => write_value(value, text),
             Simple::Element(element) => {
                 self.items
                     .write_name(self.alloc, Item::Element(*element), text)
@@ -160,7 +156,7 @@ impl<'a, 'b> Lines<'a, 'b> {
             | Simple::Text
             | Simple::Element(_)
             | Simple::Data(_)
-            | Simple::Value { .. } => self.write_reference(id, text),
+            | Simple::Value(_) => self.write_reference(id, text),
             Simple::Attribute(class, body) => {
                 text.extend_from_slice(b"attribute ")?;
                 self.write_named(class, *body, text)

@@ -1,6 +1,6 @@
 -- The facts of a pattern are those that are made of its children's.
 use Rattle.std.proofs.Common.{◌≡◌, ℕ, ◌+◌, ◌<◌, List, [], ◌∷◌, ◌++◌, length, get_or, refl, ap, ap₂, sym, ◌∙◌, arith, ⊎_elim, length-append}
-use Rattle.std.proofs.Common.{◌⊎◌, inl, inr, subst, String, Global}
+use Rattle.std.proofs.Common.{◌⊎◌, inl, inr, subst, Box, Global}
 use Rattle.std.proofs.lemmas.List.{get_or_append_left}
 use Rattle.std.proofs.lemmas.Option.{slice_get_within, get_or_from_slice_get, slice_get-get_or}
 use Rattle.std.proofs.Math.Seq.{get_or-append_seam}
@@ -12,6 +12,7 @@ use Rattle.rng_model.specs.Table.{AreChildrenBelow, tree_over}
 use Rattle.rng_model.specs.Types.{datatype_of}
 use Rattle.rng_model.specs.View.{class_of}
 use Rattle.rng_model.specs.declared.datatype.Datatype.{Datatype}
+use Rattle.rng_model.specs.declared.datatype.DatatypeValue.{DatatypeValue}
 use Rattle.rng_model.specs.declared.name.NameClass.{NameClass}
 use Rattle.rng_model.specs.declared.simple.ElementId.{ElementId}
 use Rattle.rng_model.specs.declared.simple.Simple as simple
@@ -93,8 +94,8 @@ has_more of below more f id longer at is has = λ other g found.
 
 -- it is one of the kinds without children
 abbrev IsChildless : simple.Simple → Type 0
-IsChildless p = (p ≡ variants.NotAllowed) ⊎ ((p ≡ variants.Empty) ⊎ ((p ≡ variants.Text) ⊎ (((e : ElementId) × (p ≡ variants.Element e)) ⊎ (((d : Datatype) × (p ≡ variants.Data d))
-    ⊎ ((library : String Global) × (name : String Global) × (text : String Global) × (p ≡ variants.Value library name text))))))
+IsChildless p = (p ≡ variants.NotAllowed) ⊎ ((p ≡ variants.Empty) ⊎ ((p ≡ variants.Text) ⊎ (((e : ElementId) × (p ≡ variants.Element e)) ⊎ (((d : Box Datatype Global) × (p ≡ variants.Data d))
+    ⊎ ((v : Box DatatypeValue Global) × (p ≡ variants.Value v))))))
 
 module _ (of : PatternId → Simple ℕ) where
   leaf_is : (p : simple.Simple) → IsChildless p → IsLeaf (tree_over of p)
@@ -103,16 +104,19 @@ module _ (of : PatternId → Simple ℕ) where
   leaf_is p (inr (inr (inl e))) = subst (λ p. IsLeaf (tree_over of p)) (sym e) is_text
   leaf_is p (inr (inr (inr (inl e)))) = subst (λ p. IsLeaf (tree_over of p)) (sym e.1) is_ref
   leaf_is p (inr (inr (inr (inr (inl e))))) = subst (λ p. IsLeaf (tree_over of p)) (sym e.1) is_data
-  leaf_is p (inr (inr (inr (inr (inr e))))) = subst (λ p. IsLeaf (tree_over of p)) (sym e.3) is_value
+  leaf_is p (inr (inr (inr (inr (inr e))))) = subst (λ p. IsLeaf (tree_over of p)) (sym e.1) is_value
 
   pub leaf_over : (p : simple.Simple) (kind : model.Kind) → IsChildless p → kind ≡ model.kind_of (tree_over of p) → over.facts_of_leaf kind ≡ facts_of (tree_over of p)
   leaf_over p kind leaf is = ap over.facts_of_leaf is ∙ sym (leaf_facts (tree_over of p) (leaf_is p leaf))
 
   module _ (below : List Facts) (has : HasFacts of below) where
-    pub attribute_over : (p : simple.Simple) (class : NameClass) (body : PatternId) (d : Facts) → p ≡ variants.Attribute class body → AreChildrenBelow (length below) p
-        → over.facts_of_attribute (class_of class) (get_or below body.0 d) ≡ facts_of (tree_over of p)
-    attribute_over p class body d is = subst (λ p. AreChildrenBelow (length below) p → over.facts_of_attribute (class_of class) (get_or below body.0 d) ≡ facts_of (tree_over of p))
-        (sym is) (λ inside. ap (over.facts_of_attribute (class_of class)) (fact_at of below body d has inside) ∙ sym (attribute_facts (class_of class) (of body)))
+    pub attribute_over : (p : simple.Simple) (class : Box NameClass Global) (seen : NameClass) (body : PatternId) (d : Facts) → seen ≡ class.value
+        → p ≡ variants.Attribute class body → AreChildrenBelow (length below) p
+        → over.facts_of_attribute (class_of seen) (get_or below body.0 d) ≡ facts_of (tree_over of p)
+    attribute_over p class seen body d same is =
+        subst (λ p. AreChildrenBelow (length below) p → over.facts_of_attribute (class_of seen) (get_or below body.0 d) ≡ facts_of (tree_over of p)) (sym is)
+        (λ inside. ap (λ c. over.facts_of_attribute (class_of c) (get_or below body.0 d)) same
+        ∙ ap (over.facts_of_attribute (class_of class.value)) (fact_at of below body d has inside) ∙ sym (attribute_facts (class_of class.value) (of body)))
 
     pub repeated_over : (p : simple.Simple) (body : PatternId) (d : Facts) → p ≡ variants.OneOrMore body → AreChildrenBelow (length below) p
         → over.facts_of_repeated (get_or below body.0 d) ≡ facts_of (tree_over of p)
@@ -122,13 +126,13 @@ module _ (of : PatternId → Simple ℕ) where
     abbrev SimpleOver : PatternId → Facts → simple.Simple → Type 0
     SimpleOver body d p = AreChildrenBelow (length below) p → over.facts_of_simple (model.kind_of (tree_over of p)) (get_or below body.0 d) ≡ facts_of (tree_over of p)
 
-    simple_is : (p : simple.Simple) (body : PatternId) (d : Facts) → (p ≡ variants.List body) ⊎ ((t : Datatype) × (p ≡ variants.DataExcept t body)) → SimpleOver body d p
+    simple_is : (p : simple.Simple) (body : PatternId) (d : Facts) → (p ≡ variants.List body) ⊎ ((t : Box Datatype Global) × (p ≡ variants.DataExcept t body)) → SimpleOver body d p
     simple_is p body d (inl is) = subst (SimpleOver body d) (sym is)
         (λ inside. ap (over.facts_of_simple list_kind) (fact_at of below body d has inside) ∙ sym (list_facts (of body)))
     simple_is p body d (inr (t, is)) = subst (SimpleOver body d) (sym is)
-        (λ inside. ap (over.facts_of_simple data_kind) (fact_at of below body d has inside) ∙ sym (except_facts (datatype_of t) (of body)))
+        (λ inside. ap (over.facts_of_simple data_kind) (fact_at of below body d has inside) ∙ sym (except_facts (datatype_of t.value) (of body)))
 
-    pub simple_over : (p : simple.Simple) (kind : model.Kind) (body : PatternId) (d : Facts) → (p ≡ variants.List body) ⊎ ((t : Datatype) × (p ≡ variants.DataExcept t body))
+    pub simple_over : (p : simple.Simple) (kind : model.Kind) (body : PatternId) (d : Facts) → (p ≡ variants.List body) ⊎ ((t : Box Datatype Global) × (p ≡ variants.DataExcept t body))
         → AreChildrenBelow (length below) p → kind ≡ model.kind_of (tree_over of p) → over.facts_of_simple kind (get_or below body.0 d) ≡ facts_of (tree_over of p)
     simple_over p kind body d is inside same = ap (λ k. over.facts_of_simple k (get_or below body.0 d)) same ∙ simple_is p body d is inside
 

@@ -58,8 +58,8 @@ sides_passed names_of.Attributes (simple.Element k) e = no_sides e
 sides_passed names_of.Elements (simple.Element k) e = no_sides e
 sides_passed names_of.Attributes (simple.Data d) e = no_sides e
 sides_passed names_of.Elements (simple.Data d) e = no_sides e
-sides_passed names_of.Attributes (simple.Value l m t) e = no_sides e
-sides_passed names_of.Elements (simple.Value l m t) e = no_sides e
+sides_passed names_of.Attributes (simple.Value value) e = no_sides e
+sides_passed names_of.Elements (simple.Value value) e = no_sides e
 
 -- what is passed to stands below
 pub passed_below : (p : Simple) (n : ℕ) {c : ℕ} → AreChildrenBelow n p → Contains (passed p) c → c < n
@@ -75,7 +75,7 @@ passed_below simple.Empty n {c} h i = absurd (not_there c i)
 passed_below simple.Text n {c} h i = absurd (not_there c i)
 passed_below (simple.Element e) n {c} h i = absurd (not_there c i)
 passed_below (simple.Data d) n {c} h i = absurd (not_there c i)
-passed_below (simple.Value l m t) n {c} h i = absurd (not_there c i)
+passed_below (simple.Value value) n {c} h i = absurd (not_there c i)
 
 -- all that is above a row is in the table
 pub above_in_table : (ps : List Simple) (above : List (List ℕ)) → IsAbove ps above → AreBelow (length above) above

@@ -179,7 +179,7 @@ module _ (t : Table) (valid : IsTable t) where
   has_class names_of.Attributes (simple.List a) e = no_class e
   has_class names_of.Attributes (simple.Data d) e = no_class e
   has_class names_of.Attributes (simple.DataExcept d a) e = no_class e
-  has_class names_of.Attributes (simple.Value u v z) e = no_class e
+  has_class names_of.Attributes (simple.Value value) e = no_class e
   has_class names_of.Attributes (simple.OneOrMore a) e = no_class e
   has_class names_of.Attributes (simple.Group a b) e = no_class e
   has_class names_of.Attributes (simple.Interleave a b) e = no_class e
@@ -192,7 +192,7 @@ module _ (t : Table) (valid : IsTable t) where
   has_class names_of.Elements (simple.List a) e = no_class e
   has_class names_of.Elements (simple.Data d) e = no_class e
   has_class names_of.Elements (simple.DataExcept d a) e = no_class e
-  has_class names_of.Elements (simple.Value u v z) e = no_class e
+  has_class names_of.Elements (simple.Value value) e = no_class e
   has_class names_of.Elements (simple.OneOrMore a) e = no_class e
   has_class names_of.Elements (simple.Group a b) e = no_class e
   has_class names_of.Elements (simple.Interleave a b) e = no_class e
@@ -203,11 +203,11 @@ module _ (t : Table) (valid : IsTable t) where
   class_has names_of.Attributes simple.Empty h = absurd (let e = h.1 in cc)
   class_has names_of.Attributes simple.Text h = absurd (let e = h.1 in cc)
   class_has names_of.Attributes (simple.Element k) h = absurd (let e = h.1 in cc)
-  class_has names_of.Attributes (simple.Attribute d a) h = (d, refl, (let e = h.1 in cc))
+  class_has names_of.Attributes (simple.Attribute d a) h = (d.value, refl, (let e = h.1 in cc))
   class_has names_of.Attributes (simple.List a) h = absurd (let e = h.1 in cc)
   class_has names_of.Attributes (simple.Data d) h = absurd (let e = h.1 in cc)
   class_has names_of.Attributes (simple.DataExcept d a) h = absurd (let e = h.1 in cc)
-  class_has names_of.Attributes (simple.Value u v z) h = absurd (let e = h.1 in cc)
+  class_has names_of.Attributes (simple.Value value) h = absurd (let e = h.1 in cc)
   class_has names_of.Attributes (simple.OneOrMore a) h = absurd (let e = h.1 in cc)
   class_has names_of.Attributes (simple.Group a b) h = absurd (let e = h.1 in cc)
   class_has names_of.Attributes (simple.Interleave a b) h = absurd (let e = h.1 in cc)
@@ -220,7 +220,7 @@ module _ (t : Table) (valid : IsTable t) where
   class_has names_of.Elements (simple.List a) h = absurd (let e = h.1 in cc)
   class_has names_of.Elements (simple.Data d) h = absurd (let e = h.1 in cc)
   class_has names_of.Elements (simple.DataExcept d a) h = absurd (let e = h.1 in cc)
-  class_has names_of.Elements (simple.Value u v z) h = absurd (let e = h.1 in cc)
+  class_has names_of.Elements (simple.Value value) h = absurd (let e = h.1 in cc)
   class_has names_of.Elements (simple.OneOrMore a) h = absurd (let e = h.1 in cc)
   class_has names_of.Elements (simple.Group a b) h = absurd (let e = h.1 in cc)
   class_has names_of.Elements (simple.Interleave a b) h = absurd (let e = h.1 in cc)
@@ -235,7 +235,7 @@ module _ (t : Table) (valid : IsTable t) where
   sides_joined names_of.Attributes (simple.List a) e = no_sides e
   sides_joined names_of.Attributes (simple.Data d) e = no_sides e
   sides_joined names_of.Attributes (simple.DataExcept d a) e = no_sides e
-  sides_joined names_of.Attributes (simple.Value u v z) e = no_sides e
+  sides_joined names_of.Attributes (simple.Value value) e = no_sides e
   sides_joined names_of.Attributes (simple.OneOrMore a) e = no_sides e
   sides_joined names_of.Attributes (simple.Group a b) {l} {m} e = (tree.group, grouped, (let f : a.0 ≡ l = ap left_of e in let h : b.0 ≡ m = ap right_of e in ap (λ n. tree.s_joined tree.group (at n) (at b.0)) f ∙ ap (λ n. tree.s_joined tree.group (at l) (at n)) h))
   sides_joined names_of.Attributes (simple.Interleave a b) {l} {m} e = (tree.interleave, interleaved, (let f : a.0 ≡ l = ap left_of e in let h : b.0 ≡ m = ap right_of e in ap (λ n. tree.s_joined tree.interleave (at n) (at b.0)) f ∙ ap (λ n. tree.s_joined tree.interleave (at l) (at n)) h))
@@ -248,7 +248,7 @@ module _ (t : Table) (valid : IsTable t) where
   sides_joined names_of.Elements (simple.List a) e = no_sides e
   sides_joined names_of.Elements (simple.Data d) e = no_sides e
   sides_joined names_of.Elements (simple.DataExcept d a) e = no_sides e
-  sides_joined names_of.Elements (simple.Value u v z) e = no_sides e
+  sides_joined names_of.Elements (simple.Value value) e = no_sides e
   sides_joined names_of.Elements (simple.OneOrMore a) e = no_sides e
   sides_joined names_of.Elements (simple.Group a b) e = no_sides e
   sides_joined names_of.Elements (simple.Interleave a b) {l} {m} e = (tree.interleave, refl, (let f : a.0 ≡ l = ap left_of e in let h : b.0 ≡ m = ap right_of e in ap (λ n. tree.s_joined tree.interleave (at n) (at b.0)) f ∙ ap (λ n. tree.s_joined tree.interleave (at l) (at n)) h))
@@ -264,7 +264,7 @@ module _ (t : Table) (valid : IsTable t) where
   joined_sides names_of.Attributes (simple.List a) i e = absurd (let f = e in cc)
   joined_sides names_of.Attributes (simple.Data d) i e = absurd (let f = e in cc)
   joined_sides names_of.Attributes (simple.DataExcept d a) i e = absurd (let f = e in cc)
-  joined_sides names_of.Attributes (simple.Value u v z) i e = absurd (let f = e in cc)
+  joined_sides names_of.Attributes (simple.Value value) i e = absurd (let f = e in cc)
   joined_sides names_of.Attributes (simple.OneOrMore a) i e = absurd (let f = e in cc)
   joined_sides names_of.Attributes (simple.Group a b) i e = (a.0, b.0, refl, (let f = e in cc), (let f = e in cc))
   joined_sides names_of.Attributes (simple.Interleave a b) i e = (a.0, b.0, refl, (let f = e in cc), (let f = e in cc))
@@ -277,7 +277,7 @@ module _ (t : Table) (valid : IsTable t) where
   joined_sides names_of.Elements (simple.List a) i e = absurd (let f = e in cc)
   joined_sides names_of.Elements (simple.Data d) i e = absurd (let f = e in cc)
   joined_sides names_of.Elements (simple.DataExcept d a) i e = absurd (let f = e in cc)
-  joined_sides names_of.Elements (simple.Value u v z) i e = absurd (let f = e in cc)
+  joined_sides names_of.Elements (simple.Value value) i e = absurd (let f = e in cc)
   joined_sides names_of.Elements (simple.OneOrMore a) i e = absurd (let f = e in cc)
   joined_sides names_of.Elements (simple.Group a b) {k} i e = absurd (let f : tree.group ≡ k = ap connector_of e in let h = i in cc)
   joined_sides names_of.Elements (simple.Interleave a b) i e = (a.0, b.0, refl, (let f = e in cc), (let f = e in cc))

@@ -27,7 +27,7 @@ passed_child simple.Empty {c} h = absurd (not_there c h)
 passed_child simple.Text {c} h = absurd (not_there c h)
 passed_child (simple.Element e) {c} h = absurd (not_there c h)
 passed_child (simple.Data d) {c} h = absurd (not_there c h)
-passed_child (simple.Value l m t) {c} h = absurd (not_there c h)
+passed_child (simple.Value value) {c} h = absurd (not_there c h)
 
 module _ (t : Table) (valid : IsTable t) (above : List (List ℕ)) (is : IsAbove t.patterns above) (start : List ℕ) where
   -- what climbs to a row that is reached from above is reached too

@@ -162,7 +162,7 @@ children_below simple.Empty n i h c = absurd (not_there i c)
 children_below simple.Text n i h c = absurd (not_there i c)
 children_below (simple.Element e) n i h c = absurd (not_there i c)
 children_below (simple.Data d) n i h c = absurd (not_there i c)
-children_below (simple.Value l m t) n i h c = absurd (not_there i c)
+children_below (simple.Value value) n i h c = absurd (not_there i c)
 
 pub children_in_table : (ps : List Simple) → Falls ps → AreBelow (length ps) (map children ps)
 children_in_table ps falls j i c = elim (slice_get_cases ps j).1 [

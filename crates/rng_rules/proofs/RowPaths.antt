@@ -102,7 +102,7 @@ module _ (t : Table) (valid : IsTable t) where
   down (simple.List a) n f h (inside_list i) = f a.0 h (0, omega arith, refl) i
   down (simple.Data d) n f h i = elim i [ ]
   down (simple.DataExcept d a) n f h (inside_except i) = f a.0 h (0, omega arith, refl) i
-  down (simple.Value u v z) n f h i = elim i [ ]
+  down (simple.Value value) n f h i = elim i [ ]
   down (simple.OneOrMore a) n f h (inside_one_or_more i) = f a.0 h (0, omega arith, refl) i
   down (simple.Group a b) n f h (inside_left i) = f a.0 h.0 (0, omega arith, refl) i
   down (simple.Group a b) n f h (inside_right i) = f b.0 h.1 (1, omega arith, refl) i
@@ -133,7 +133,7 @@ module _ (t : Table) (valid : IsTable t) where
   child_stands {y} (simple.List a) c = in_list (subst (λ k. StandsIn (at k) (tree_at ps a)) (one_only a.0 _ c) itself)
   child_stands {y} (simple.Data d) c = absurd (not_there y c)
   child_stands {y} (simple.DataExcept d a) c = in_except (subst (λ k. StandsIn (at k) (tree_at ps a)) (one_only a.0 _ c) itself)
-  child_stands {y} (simple.Value u v z) c = absurd (not_there y c)
+  child_stands {y} (simple.Value value) c = absurd (not_there y c)
   child_stands {y} (simple.OneOrMore a) c = in_one_or_more (subst (λ k. StandsIn (at k) (tree_at ps a)) (one_only a.0 _ c) itself)
   child_stands {y} (simple.Group a b) c = elim (one_of_two c) [ inl e ↦ in_left (subst (λ k. StandsIn (at k) (tree_at ps a)) (sym e) itself) | inr e ↦ in_right (subst (λ k. StandsIn (at k) (tree_at ps b)) (sym e) itself) ]
   child_stands {y} (simple.Interleave a b) c = elim (one_of_two c) [ inl e ↦ in_left (subst (λ k. StandsIn (at k) (tree_at ps a)) (sym e) itself) | inr e ↦ in_right (subst (λ k. StandsIn (at k) (tree_at ps b)) (sym e) itself) ]
@@ -209,7 +209,7 @@ module _ (t : Table) (valid : IsTable t) where
     occurs_over {q} {x} (simple.List a) c o = absurd (not_there x c)
     occurs_over {q} {x} (simple.Data d) c o = absurd (not_there x c)
     occurs_over {q} {x} (simple.DataExcept d a) c o = absurd (not_there x c)
-    occurs_over {q} {x} (simple.Value u v z) c o = absurd (not_there x c)
+    occurs_over {q} {x} (simple.Value value) c o = absurd (not_there x c)
     occurs_over {q} {x} (simple.OneOrMore a) c o = occurs_repeated (subst (λ k. OccursIn q (at k)) (sym (one_only a.0 x c)) o)
     occurs_over {q} {x} (simple.Group a b) c o = elim (one_of_two c) [ inl e ↦ occurs_left (subst (λ k. OccursIn q (at k)) e o) | inr e ↦ occurs_right (subst (λ k. OccursIn q (at k)) e o) ]
     occurs_over {q} {x} (simple.Interleave a b) c o = elim (one_of_two c) [ inl e ↦ occurs_left (subst (λ k. OccursIn q (at k)) e o) | inr e ↦ occurs_right (subst (λ k. OccursIn q (at k)) e o) ]
@@ -243,7 +243,7 @@ module _ (t : Table) (valid : IsTable t) where
     climb_down (simple.List a) n e f h o = elim o [ ]
     climb_down (simple.Data d) n e f h o = elim o [ ]
     climb_down (simple.DataExcept d a) n e f h o = elim o [ ]
-    climb_down (simple.Value u v z) n e f h o = elim o [ ]
+    climb_down (simple.Value value) n e f h o = elim o [ ]
     climb_down (simple.OneOrMore a) n e f h (repeated_below o) = climb_on e (0, omega arith, refl) (f a.0 h o)
     climb_down (simple.Group a b) n e f h (left_below o) = climb_on e (0, omega arith, refl) (f a.0 h.0 o)
     climb_down (simple.Group a b) n e f h (right_below o) = climb_on e (1, omega arith, refl) (f b.0 h.1 o)

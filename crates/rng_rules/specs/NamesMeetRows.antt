@@ -18,7 +18,7 @@ children (simple.Attribute class body) = body.0 ∷ []
 children (simple.List body) = body.0 ∷ []
 children (simple.Data datatype) = []
 children (simple.DataExcept datatype except) = except.0 ∷ []
-children (simple.Value library name text) = []
+children (simple.Value value) = []
 children (simple.OneOrMore body) = body.0 ∷ []
 children (simple.Group a b) = a.0 ∷ (b.0 ∷ [])
 children (simple.Interleave a b) = a.0 ∷ (b.0 ∷ [])
@@ -34,7 +34,7 @@ passed (simple.Attribute class body) = []
 passed (simple.List body) = []
 passed (simple.Data datatype) = []
 passed (simple.DataExcept datatype except) = []
-passed (simple.Value library name text) = []
+passed (simple.Value value) = []
 passed (simple.OneOrMore body) = body.0 ∷ []
 passed (simple.Group a b) = a.0 ∷ (b.0 ∷ [])
 passed (simple.Interleave a b) = a.0 ∷ (b.0 ∷ [])
@@ -42,7 +42,7 @@ passed (simple.Choice a b) = a.0 ∷ (b.0 ∷ [])
 
 -- the name class that a pattern has by itself
 abbrev pub class_at : NamesOf → List (NameClass × PatternId) → Simple → Option NameClass
-class_at names_of.Attributes es (simple.Attribute class body) = Some class
+class_at names_of.Attributes es (simple.Attribute class body) = Some class.value
 class_at names_of.Elements es (simple.Element e) = option_map (λ x. x.0) (slice_get es e.0)
 class_at of es p = None
 

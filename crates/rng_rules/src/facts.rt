@@ -59,7 +59,7 @@ fn facts_over(below: &[Facts], pattern: &Simple) -> Facts
         | Simple::Text
         | Simple::Element(_)
         | Simple::Data(_)
-        | Simple::Value { .. } => facts_of_leaf(kind),
+        | Simple::Value(_) => facts_of_leaf(kind),
         Simple::Attribute(class, body) => facts_of_attribute(class, below[body.0]),
         Simple::List(body) | Simple::DataExcept(_, body) => facts_of_simple(kind, below[body.0]),
         Simple::OneOrMore(body) => facts_of_repeated(below[body.0]),

@@ -38,7 +38,7 @@ pub fn kind_of(pattern: &Simple) -> Kind
         Simple::Attribute(_, _) => Kind::Attribute,
         Simple::List(_) => Kind::List,
         Simple::Data(_) | Simple::DataExcept(_, _) => Kind::Data,
-        Simple::Value { .. } => Kind::Value,
+        Simple::Value(_) => Kind::Value,
         Simple::OneOrMore(_) => Kind::OneOrMore,
         Simple::Group(_, _) => Kind::Group,
         Simple::Interleave(_, _) => Kind::Interleave,

@@ -79,7 +79,7 @@ impl NamesOf {
         ensures { option_copied result ≡ class_at self grammar.now.elements pattern.now }
     {
         match (self, pattern) {
-            (NamesOf::Attributes, Simple::Attribute(class, _)) => Some(class),
+            (NamesOf::Attributes, Simple::Attribute(class, _)) => Some(&**class),
             (NamesOf::Elements, Simple::Element(element)) => match grammar.element(*element) {
                 Some((class, _)) => Some(class),
                 None => None,

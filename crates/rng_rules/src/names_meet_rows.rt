@@ -80,7 +80,7 @@ fn children(alloc: Global, pattern: &Simple) -> Result<Vec<usize>, OutOfMemory>
         | Simple::Text
         | Simple::Element(_)
         | Simple::Data(_)
-        | Simple::Value { .. } => {}
+        | Simple::Value(_) => {}
         Simple::Attribute(_, a)
         | Simple::List(a)
         | Simple::DataExcept(_, a)

@@ -103,11 +103,8 @@ fn fits(pattern: &Simple, next: usize, count: usize) -> bool
     ensures { OnTrue result (AreChildrenBelow next pattern.now × IsLeafListed count pattern.now × IsClassPaired pattern.now) }
 {
     match pattern {
-        Simple::NotAllowed
-        | Simple::Empty
-        | Simple::Text
-        | Simple::Data(_)
-        | Simple::Value { .. } => true,
+        Simple::NotAllowed | Simple::Empty | Simple::Text | Simple::Data(_) | Simple::Value(_) =>
+            true,
         Simple::Element(element) => element.0 < count,
         Simple::Attribute(class, body) => body.0 < next && is_paired(class),
         Simple::List(body) | Simple::DataExcept(_, body) | Simple::OneOrMore(body) => body.0 < next,

@@ -1,6 +1,8 @@
 // Grammars from rows.
 use crate::grammar_builder::GrammarBuilder;
-use rng_model::{Datatype, ElementId, Name, NameClass, PatternId, Simple, SimpleGrammar};
+use rng_model::{
+    Datatype, DatatypeValue, ElementId, Name, NameClass, PatternId, Simple, SimpleGrammar,
+};
 use std::alloc::{AllocError, Global};
 
 /// The grammar with this many elements whose tables are written so: its patterns and elements, parted by `; `.
@@ -27,44 +29,55 @@ pub fn read_grammar(alloc: Global, count: &str, tables: &str) -> Option<SimpleGr
 fn add_entry(alloc: Global, builder: &mut GrammarBuilder, word: &str, of: &str, body: PatternId) {
     match word {
         "list" => builder.add(Simple::List(body)),
-        "except" => builder.add(Simple::DataExcept(some_datatype(alloc), body)),
+        "except" => add_made(builder, except_of(alloc, body)),
         _ => match (word.strip_prefix('@'), class_of(alloc, word)) {
-            (Some(class), _) => add_attribute(alloc, builder, class, body),
+            (Some(class), _) => add_made(builder, attribute_of(alloc, class, body)),
             (None, Ok(class)) if !of.is_empty() => builder.list(class, body),
-            _ => builder.add(pattern_of(alloc, word)),
+            _ => add_made(builder, pattern_of(alloc, word)),
         },
     }
 }
 
-/// Adds an attribute.
-fn add_attribute(alloc: Global, builder: &mut GrammarBuilder, class: &str, body: PatternId) {
-    match class_of(alloc, class) {
-        Ok(class) => builder.add(Simple::Attribute(class, body)),
+/// Adds a pattern, if there was memory for it.
+fn add_made(builder: &mut GrammarBuilder, made: Result<Simple, AllocError>) {
+    match made {
+        Ok(pattern) => builder.add(pattern),
         Err(AllocError) => builder.refuse(),
     }
 }
 
+/// An attribute of names of this class.
+fn attribute_of(alloc: Global, class: &str, body: PatternId) -> Result<Simple, AllocError> {
+    let class = class_of(alloc, class)?;
+    Ok(Simple::Attribute(Box::new(alloc, class)?, body))
+}
+
+/// A datatype that excepts a pattern.
+fn except_of(alloc: Global, body: PatternId) -> Result<Simple, AllocError> {
+    Ok(Simple::DataExcept(some_datatype(alloc)?, body))
+}
+
 /// A pattern that is one word.
-fn pattern_of(alloc: Global, word: &str) -> Simple {
+fn pattern_of(alloc: Global, word: &str) -> Result<Simple, AllocError> {
     if let Some((first, second)) = word.split_once(',') {
-        return Simple::Group(place(first), place(second));
+        return Ok(Simple::Group(place(first), place(second)));
     }
     if let Some((first, second)) = word.split_once('&') {
-        return Simple::Interleave(place(first), place(second));
+        return Ok(Simple::Interleave(place(first), place(second)));
     }
     if let Some((first, second)) = word.split_once('|') {
-        return Simple::Choice(place(first), place(second));
+        return Ok(Simple::Choice(place(first), place(second)));
     }
     if let Some(body) = word.strip_suffix('+') {
-        return Simple::OneOrMore(place(body));
+        return Ok(Simple::OneOrMore(place(body)));
     }
     match word {
-        "empty" => Simple::Empty,
-        "text" => Simple::Text,
-        "notAllowed" => Simple::NotAllowed,
-        "data" => Simple::Data(some_datatype(alloc)),
+        "empty" => Ok(Simple::Empty),
+        "text" => Ok(Simple::Text),
+        "notAllowed" => Ok(Simple::NotAllowed),
+        "data" => Ok(Simple::Data(some_datatype(alloc)?)),
         "value" => some_value(alloc),
-        _ => Simple::Element(ElementId(number_of(word.strip_prefix('e').unwrap_or("")))),
+        _ => Ok(Simple::Element(ElementId(number_of(word.strip_prefix('e').unwrap_or(""))))),
     }
 }
 
@@ -77,21 +90,23 @@ fn number_of(digits: &str) -> usize {
 }
 
 /// A datatype with empty names.
-fn some_datatype(alloc: Global) -> Datatype {
-    Datatype {
+fn some_datatype(alloc: Global) -> Result<Box<Datatype>, AllocError> {
+    let datatype = Datatype {
         library: String::new(alloc),
         name: String::new(alloc),
         parameters: Vec::new(alloc),
-    }
+    };
+    Ok(Box::new(alloc, datatype)?)
 }
 
 /// The empty text of a datatype with empty names.
-fn some_value(alloc: Global) -> Simple {
-    Simple::Value {
+fn some_value(alloc: Global) -> Result<Simple, AllocError> {
+    let value = DatatypeValue {
         library: String::new(alloc),
         name: String::new(alloc),
         text: String::new(alloc),
-    }
+    };
+    Ok(Simple::Value(Box::new(alloc, value)?))
 }
 
 /// A name class: `*`, `NS:*`, a name, `*-NAME` for every name but one, or `A|B` for two classes.
@@ -138,7 +153,7 @@ fn add_list(alloc: Global, builder: &mut GrammarBuilder, list: usize) {
     for number in 0..500 {
         let before = builder.last();
         match format!(in alloc; "a{list}x{number}") {
-            Ok(name) => add_attribute(alloc, builder, name.as_str(), PatternId(0)),
+            Ok(name) => add_made(builder, attribute_of(alloc, name.as_str(), PatternId(0))),
             Err(_) => builder.refuse(),
         }
         builder.add(Simple::Group(before, builder.last()));

@@ -1,9 +1,11 @@
 -- What the table of rows holds, and how it grows.
-use Rattle.std.specs.Prelude.{◌≡◌, ℕ, ◌<◌, ◌≤◌, List, [], length, map}
+use Rattle.std.specs.Prelude.{◌≡◌, ℕ, ◌<◌, ◌≤◌, List, [], length, map, string_bytes}
+use Rattle.std.proofs.Common.{Bor}
 use Rattle.rng_model.specs.Patterns.{without_parameters}
 use Rattle.rng_model.specs.Tree.{Datatype, Simple}
 use Rattle.rng_model.specs.Types.{datatype_of}
 use Rattle.rng_model.specs.View.{class_of}
+use Rattle.rng_model.specs.declared.datatype.DatatypeValue.{DatatypeValue}
 use Rattle.rng_graph.specs.InTwos.{nested}
 use Rattle.rng_simple.specs.LabelCodes.{Part, AreApart, class_code, codes_of, datatype_code, value_code}
 use Rattle.rng_simple.specs.RowIndex.{IsIndex}
@@ -11,7 +13,6 @@ use Rattle.rng_simple.specs.Rows.{Labels, tree_at, AreRows}
 use Rattle.rng_simple.specs.SimpleOf as sorts
 use Rattle.rng_simple.specs.declared.row_table.FinishedRows.{FinishedRows}
 use Rattle.rng_simple.specs.declared.row_table.RowTable.{RowTable}
-use Rattle.rng_simple.specs.declared.row_table.ValueLabel.{ValueLabel}
 use Rattle.rng_simple.specs.declared.row_table.Sort.{Sort}
 use Rattle.rng_simple.specs.declared.row_table.Sort.TheVariants as seen
 
@@ -20,8 +21,8 @@ sort_seen seen.NotAllowed = sorts.nothing
 sort_seen seen.Empty = sorts.blank
 sort_seen seen.Proper = sorts.proper
 
-abbrev pub value_of : ValueLabel → Datatype × List ℕ
-value_of v = (without_parameters v.library.now v.name.now, v.text.now)
+abbrev pub value_of : Bor DatatypeValue → Datatype × List ℕ
+value_of v = (without_parameters (string_bytes v.now.library) (string_bytes v.now.name), string_bytes v.now.text)
 
 abbrev pub labels_of : RowTable → Labels
 labels_of t = record {

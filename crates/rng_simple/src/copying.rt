@@ -1,5 +1,5 @@
 // Rows, with new numbers, in the tables of a grammar.
-ghost use Rattle.std.specs.Prelude.{◌≡◌, ◌<◌, ◌^◌, ◌++◌, ℕ, filter, length, slice_get, true, IfOk, OnOk, Some};
+ghost use Rattle.std.specs.Prelude.{◌≡◌, ◌<◌, ◌^◌, ◌++◌, ℕ, filter, length, slice_get, string_bytes, true, IfOk, OnOk, Some};
 ghost use Rattle.rng_model.specs.Table.{IsPaired};
 ghost use Rattle.rng_model.specs.Types.{datatype_of};
 ghost use Rattle.rng_model.specs.View.{class_of};
@@ -11,7 +11,7 @@ use crate::name_class::nested;
 use crate::row_table::FinishedRows;
 use crate::rows::Row;
 use crate::simple_parts::row_of;
-use rng_model::{Datatype, ElementId, NameClass, PatternId, Simple};
+use rng_model::{Datatype, DatatypeValue, ElementId, NameClass, PatternId, Simple};
 use std::alloc::{AllocError, Global};
 
 /// A row as a pattern: its children by the places that they have, its element by its place in the list, where it is put.
@@ -45,14 +45,7 @@ pub fn copied_row(
             let datatype = datatype_copy(alloc, table, datatype)?;
             Ok(Simple::DataExcept(datatype, PatternId(row_of(places, except))))
         }
-        Row::Value(value) => {
-            let value = table.values[value];
-            Ok(Simple::Value {
-                library: String::from_str(alloc, value.library)?,
-                name: String::from_str(alloc, value.name)?,
-                text: String::from_str(alloc, value.text)?,
-            })
-        }
+        Row::Value(value) => Ok(Simple::Value(value_copy(alloc, table.values[value])?)),
         Row::OneOrMore(body) => Ok(Simple::OneOrMore(PatternId(row_of(places, body)))),
         Row::Choice(a, b) => Ok(Simple::Choice(
             PatternId(row_of(places, a)),
@@ -74,12 +67,26 @@ fn class_copy(
     alloc: Global,
     table: &FinishedRows<'_>,
     class: usize,
-) -> Result<NameClass, AllocError>
+) -> Result<Box<NameClass>, AllocError>
     requires { class < length (finished_labels table.now).classes }
-    ensures copy { IfOk result (λ copy. class_of copy ≡ class_at (finished_labels table.now) class) }
-    ensures paired { IfOk result IsPaired }
+    ensures copy { IfOk result (λ copy. class_of copy.value ≡ class_at (finished_labels table.now) class) }
+    ensures paired { IfOk result (λ copy. IsPaired copy.value) }
 {
-    nested(alloc, table.classes[class])
+    let class = nested(alloc, table.classes[class])?;
+    Ok(Box::new(alloc, class)?)
+}
+
+/// A copy of a text of a datatype.
+fn value_copy(alloc: Global, value: &DatatypeValue) -> Result<Box<DatatypeValue>, AllocError>
+    ensures { IfOk result (λ copy. (string_bytes copy.value.library ≡ string_bytes value.now.library)
+        × (string_bytes copy.value.name ≡ string_bytes value.now.name) × (string_bytes copy.value.text ≡ string_bytes value.now.text)) }
+{
+    let value = DatatypeValue {
+        library: String::from_str(alloc, value.library.as_str())?,
+        name: String::from_str(alloc, value.name.as_str())?,
+        text: String::from_str(alloc, value.text.as_str())?,
+    };
+    Ok(Box::new(alloc, value)?)
 }
 
 /// A copy of a datatype.
@@ -87,11 +94,12 @@ fn datatype_copy(
     alloc: Global,
     table: &FinishedRows<'_>,
     datatype: usize,
-) -> Result<Datatype, AllocError>
+) -> Result<Box<Datatype>, AllocError>
     requires { datatype < length (finished_labels table.now).datatypes }
-    ensures { IfOk result (λ copy. datatype_of copy ≡ datatype_at (finished_labels table.now) datatype) }
+    ensures { IfOk result (λ copy. datatype_of copy.value ≡ datatype_at (finished_labels table.now) datatype) }
 {
-    same_datatype(alloc, table.datatypes[datatype])
+    let datatype = same_datatype(alloc, table.datatypes[datatype])?;
+    Ok(Box::new(alloc, datatype)?)
 }
 
 fn same_datatype(alloc: Global, datatype: &Datatype) -> Result<Datatype, AllocError>

@@ -1,5 +1,5 @@
 // What tells labels apart: the parts that each is written by.
-ghost use Rattle.std.specs.Prelude.{◌≡◌, ◌∷◌, ◌++◌, [], IfOk, OnOk, map};
+ghost use Rattle.std.specs.Prelude.{◌≡◌, ◌∷◌, ◌++◌, [], IfOk, OnOk, map, string_bytes};
 ghost use Rattle.rng_model.specs.Names.{some_of};
 ghost use Rattle.rng_model.specs.Patterns.{without_parameters};
 ghost use Rattle.rng_model.specs.Types.{datatype_of};
@@ -7,7 +7,7 @@ ghost use Rattle.rng_model.specs.View.{class_of};
 ghost use Rattle.rng_simple.specs.LabelCodes.{AreApart, IsPlaced, class_code, codes_of, datatype_code, part_of, value_code};
 
 use indexmap::IndexSet;
-use rng_model::{Datatype, NameClass};
+use rng_model::{Datatype, DatatypeValue, NameClass};
 use std::alloc::{AllocError, Global};
 
 /// A part of what a label is written by.
@@ -120,15 +120,14 @@ pub fn put_datatype<'a>(
 /// The parts of a text of a datatype without parameters.
 pub fn value_code<'a>(
     alloc: Global,
-    library: &'a str,
-    name: &'a str,
-    text: &'a str,
+    value: &'a DatatypeValue,
 ) -> Result<Vec<LabelPart<'a>>, AllocError>
-    ensures { IfOk result (λ code. map part_of code.items ≡ value_code (without_parameters library.now name.now, text.now)) }
+    ensures { IfOk result (λ code. map part_of code.items
+        ≡ value_code (without_parameters (string_bytes value.now.library) (string_bytes value.now.name), string_bytes value.now.text)) }
 {
     let mut code = Vec::new(alloc);
-    put(&mut code, LabelPart::Text(library))?;
-    put(&mut code, LabelPart::Text(name))?;
-    put(&mut code, LabelPart::Text(text))?;
+    put(&mut code, LabelPart::Text(value.library.as_str()))?;
+    put(&mut code, LabelPart::Text(value.name.as_str()))?;
+    put(&mut code, LabelPart::Text(value.text.as_str()))?;
     Ok(code)
 }

@@ -1,5 +1,5 @@
 // A table of patterns in simple form, in which equal rows have one number.
-ghost use Rattle.std.specs.Prelude.{◌≡◌, ◌<◌, length, IfOk, OnOk};
+ghost use Rattle.std.specs.Prelude.{◌≡◌, ◌<◌, length, string_bytes, IfOk, OnOk};
 ghost use Rattle.rng_model.specs.Patterns.{without_parameters};
 ghost use Rattle.rng_model.specs.Tree.{IsSimpleBody};
 ghost use Rattle.rng_model.specs.Types.{datatype_of};
@@ -28,20 +28,12 @@ ghost use Rattle.rng_simple.specs.SimpleOf.{sort_of};
 use crate::label_codes::{LabelPart, place_of_code, put_class, put_datatype, value_code};
 use crate::rows::{Row, number};
 use indexmap::IndexSet;
-use rng_model::{Datatype, NameClass};
+use rng_model::{Datatype, DatatypeValue, NameClass};
 use std::alloc::{AllocError, Global};
 use std::collections::HashMap;
 
 /// The number of the row that is empty.
 pub const EMPTY: usize = 0;
-
-/// A text of a datatype: the uri of its library, and its name there.
-#[derive(Clone, Copy)]
-pub struct ValueLabel<'a> {
-    pub library: &'a str,
-    pub name: &'a str,
-    pub text: &'a str,
-}
 
 /// Patterns in simple form, of which the first is `empty`. No row stands twice, no label does, and children stand before their parents.
 #[derive(Drop)]
@@ -51,7 +43,7 @@ pub struct RowTable<'a> {
     pub numbers: HashMap<Row, usize>,
     pub classes: Vec<&'a NameClass>,
     pub datatypes: Vec<&'a Datatype>,
-    pub values: Vec<ValueLabel<'a>>,
+    pub values: Vec<&'a DatatypeValue>,
     /// What tells the labels of each kind apart, in their order.
     pub class_codes: IndexSet<Vec<LabelPart<'a>>>,
     pub datatype_codes: IndexSet<Vec<LabelPart<'a>>>,
@@ -64,7 +56,7 @@ pub struct FinishedRows<'a> {
     pub rows: Vec<Row>,
     pub classes: Vec<&'a NameClass>,
     pub datatypes: Vec<&'a Datatype>,
-    pub values: Vec<ValueLabel<'a>>,
+    pub values: Vec<&'a DatatypeValue>,
 }
 
 /// What the rules of simplification ask of a side.
@@ -171,27 +163,18 @@ impl<'a> RowTable<'a> {
     }
 
     /// The number of a value; equal ones have one.
-    pub fn value_label(
-        &mut self,
-        library: &'a str,
-        name: &'a str,
-        text: &'a str,
-    ) -> Result<usize, AllocError>
+    pub fn value_label(&mut self, value: &'a DatatypeValue) -> Result<usize, AllocError>
         requires table { IsRowTable self.old }
         ensures table { OnOk result (IsRelabelled self.old self.new) }
         ensures there { IfOk result (λ v. v < length (labels_of self.new).values) }
-        ensures is { IfOk result (λ v. value_at (labels_of self.new) v ≡ (without_parameters library.now name.now, text.now)) }
+        ensures is { IfOk result (λ v. value_at (labels_of self.new) v ≡ (without_parameters (string_bytes value.now.library) (string_bytes value.now.name), string_bytes value.now.text)) }
     {
-        let code = value_code(self.alloc, library, name, text)?;
+        let code = value_code(self.alloc, value)?;
         if let Some(label) = place_of_code(&mut self.value_codes, code)? {
             return Ok(label);
         }
         let label = self.values.len();
-        self.values.push(ValueLabel {
-            library,
-            name,
-            text,
-        })?;
+        self.values.push(value)?;
         Ok(label)
     }
 }

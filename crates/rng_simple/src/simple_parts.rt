@@ -49,12 +49,8 @@ pub fn simple_part<'a>(
                 data_except(table, datatype, except)
             }
         },
-        GraphPattern::Value {
-            library,
-            name,
-            text,
-        } => {
-            let value = table.value_label(library, name, text)?;
+        GraphPattern::Value(value) => {
+            let value = table.value_label(value)?;
             table.put(Row::Value(value))
         }
         GraphPattern::Mixed(body) => {

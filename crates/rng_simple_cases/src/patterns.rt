@@ -33,13 +33,9 @@ pub fn print_pattern(
             print!(rt; " -")?;
             print_in_braces(rt, grammar, mentioned, *except)
         }
-        Some(
-            Simple::Value {
-                library,
-                name,
-                text,
-            },
-        ) => print!(rt; "{{{library}}}{name} {text:?}"),
+        Some(Simple::Value(value)) => {
+            print!(rt; "{{{}}}{} {:?}", value.library, value.name, value.text)
+        }
         Some(Simple::OneOrMore(body)) => {
             print_pattern(rt, grammar, mentioned, *body)?;
             print!(rt; "+")

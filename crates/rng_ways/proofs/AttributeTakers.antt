@@ -203,7 +203,7 @@ module _ (t : Table) (keys : Keys) (old new : Takers) (n : ℕ) where
 
 -- the class of a row that is an attribute
 pub class_at : (t : Table) (q : Name) (n : ℕ) (class : _) (body : _) → Some (simple.Attribute class body) ≡ slice_get t.patterns n → IsAttributeAt t q n
-    → holds (class_of class) q ≡ true
+    → holds (class_of class.value) q ≡ true
 class_at t q n class body found has = subst (λ o. HasAttribute q (attribute_found t o)) (sym found) has
 
 no_name_is_held : (t : Table) (q : Name) (o : Option row.Simple) → ((class : _) (body : _) → o ≡ Some (simple.Attribute class body) → ⊥)
@@ -220,7 +220,7 @@ no_name_is_held t q (Some (simple.Attribute class body)) not h = not class body 
 no_name_is_held t q (Some (simple.List body)) not h = cc
 no_name_is_held t q (Some (simple.Data datatype)) not h = cc
 no_name_is_held t q (Some (simple.DataExcept datatype except)) not h = cc
-no_name_is_held t q (Some (simple.Value library name text)) not h = cc
+no_name_is_held t q (Some (simple.Value value)) not h = cc
 no_name_is_held t q (Some (simple.OneOrMore body)) not h = cc
 no_name_is_held t q (Some (simple.Group a b)) not h = cc
 no_name_is_held t q (Some (simple.Interleave a b)) not h = cc

@@ -1,6 +1,6 @@
 -- An element is taken by one that stands in the pattern and has its name; which elements of a grammar may have a name.
 use Rattle.std.proofs.Common.{◌≡◌, ◌∙◌, ◌+◌, ◌<◌, ℕ, zero, suc, ◌⊎◌, inl, inr, ⊎_elim, List, [], ◌∷◌, ◌++◌, slice_get, slice_set, Some, None}
-use Rattle.std.proofs.Common.{subst, sym, refl, ap, true, false, arith}
+use Rattle.std.proofs.Common.{subst, sym, refl, true, false, arith}
 use Rattle.std.proofs.lemmas.Option.{slice_get_cases}
 use Rattle.rng_keys.specs.Keys.{Keys, key_of}
 use Rattle.rng_model.specs.Names.{Name}

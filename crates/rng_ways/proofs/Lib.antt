@@ -1,6 +1,7 @@
 mod Offers
 pub mod Kept
 mod Standing
+mod Joining
 pub mod Adding
 mod Nodes
 pub mod Rows

@@ -273,11 +273,11 @@ module _ (tb : Table) (keys : Keys) (serve : KeysServe tb keys) (q r : Name) (al
   row_keeps (Some simple.Empty) k e = λ n. refl
   row_keeps (Some simple.Text) k e = λ n. refl
   row_keeps (Some (simple.Element i)) k e = λ n. refl
-  row_keeps (Some (simple.Attribute class body)) k e = told_alike q r (class_of class) (class_alike (class_of class) (keyed.of_attribute k class body e refl))
+  row_keeps (Some (simple.Attribute class body)) k e = told_alike q r (class_of class.value) (class_alike (class_of class.value) (keyed.of_attribute k class body e refl))
   row_keeps (Some (simple.List body)) k e = λ n. refl
   row_keeps (Some (simple.Data datatype)) k e = λ n. refl
   row_keeps (Some (simple.DataExcept datatype except)) k e = λ n. refl
-  row_keeps (Some (simple.Value library name text)) k e = λ n. refl
+  row_keeps (Some (simple.Value value)) k e = λ n. refl
   row_keeps (Some (simple.OneOrMore body)) k e = λ n. refl
   row_keeps (Some (simple.Group a b)) k e = λ n. refl
   row_keeps (Some (simple.Interleave a b)) k e = λ n. refl

@@ -1,13 +1,14 @@
 -- Numbered ways that stand for others: in longer tables, and with one more.
-use Rattle.std.proofs.Common.{◌≡◌, ℕ, ◌↔◌, List, [], ◌∷◌, ◌++◌, refl, sym, ap, subst}
+use Rattle.std.proofs.Common.{◌≡◌, ◌∙◌, ℕ, ◌↔◌, List, [], ◌∷◌, ◌++◌, refl, sym, ap, subst}
 use Rattle.std.proofs.lemmas.List.{map-append}
+use Rattle.std.proofs.lemmas.List.Elements.{All-append}
 use Rattle.rng_model.specs.Tree.{Simple}
 use Rattle.rng_model.specs.Table.{Table}
 use Rattle.rng_matching.specs.Derivatives.{Way, behind}
 use Rattle.rng_patterns.specs.Node.{Node}
 use Rattle.rng_patterns.specs.PatternTable.{Longer}
 use Rattle.rng_patterns.specs.Trees.{tree_of}
-use Rattle.rng_ways.specs.Ways.{AreInside, AreKept, Offers, StandFor, way_by, ways_by}
+use Rattle.rng_ways.specs.Ways.{AreInside, AreKept, IsInside, Offers, StandFor, way_by, ways_by}
 use Rattle.rng_ways.specs.declared.way.Way as numbered
 use Rattle.rng_ways.proofs.Kept.{each_both, each_first, each_second}
 use Rattle.rng_ways.proofs.Offers.{append_offers, inside_longer, ways_stay}
@@ -73,3 +74,11 @@ behind-append f (w ∷ ws) vs = ap (λ us. record { leaf = w.leaf; rest = f w.re
 pub behind-whole : (ws : List Way) → behind (λ r. r) ws ≡ ws
 behind-whole [] = refl
 behind-whole (w ∷ ws) = ap (λ us. w ∷ us) (behind-whole ws)
+
+-- two lists, one behind the other
+pub appended_stand : (ns : List Node) (all ways both : List numbered.Way) → AreInside ns all → AreInside ns ways → both ≡ all ++ ways
+    → StandFor ns both (λ t. ways_by (tree_of t ns) all ++ behind (λ r. r) (ways_by (tree_of t ns) ways))
+appended_stand ns all ways both h k e = stands_as ns both (λ t. ways_by (tree_of t ns) both) _
+    (λ t. ap (ways_by (tree_of t ns)) e ∙ map-append (way_by (tree_of t ns)) all ways
+    ∙ ap (λ us. ways_by (tree_of t ns) all ++ us) (sym (behind-whole (ways_by (tree_of t ns) ways))))
+    (stands_itself ns both (subst (AreInside ns) (sym e) (All-append (IsInside ns) all ways h k)))

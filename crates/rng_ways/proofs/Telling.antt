@@ -82,7 +82,7 @@ tells_of_list g place s l p b at is e =
 
 -- what a look-up found that no string is
 pub no_data_found : (t : Table) (r : row.Simple) → ((b : _) → r ≡ simple.List b → ⊥) → ((d : _) → r ≡ simple.Data d → ⊥)
-    → ((d e : _) → r ≡ simple.DataExcept d e → ⊥) → ((l n v : _) → r ≡ simple.Value l n v → ⊥) → data_found t (Some r) ≡ no_data
+    → ((d e : _) → r ≡ simple.DataExcept d e → ⊥) → ((v : _) → r ≡ simple.Value v → ⊥) → data_found t (Some r) ≡ no_data
 no_data_found t simple.NotAllowed h i j k = refl
 no_data_found t simple.Empty h i j k = refl
 no_data_found t simple.Text h i j k = refl
@@ -91,7 +91,7 @@ no_data_found t (simple.Attribute class body) h i j k = refl
 no_data_found t (simple.List body) h i j k = absurd (h body refl)
 no_data_found t (simple.Data datatype) h i j k = absurd (i datatype refl)
 no_data_found t (simple.DataExcept datatype except) h i j k = absurd (j datatype except refl)
-no_data_found t (simple.Value library name text) h i j k = absurd (k library name text refl)
+no_data_found t (simple.Value value) h i j k = absurd (k value refl)
 no_data_found t (simple.OneOrMore body) h i j k = refl
 no_data_found t (simple.Group a b) h i j k = refl
 no_data_found t (simple.Interleave a b) h i j k = refl
@@ -132,7 +132,7 @@ no_attribute_found t (simple.Attribute class body) h = absurd (h class body refl
 no_attribute_found t (simple.List body) h = refl
 no_attribute_found t (simple.Data datatype) h = refl
 no_attribute_found t (simple.DataExcept datatype except) h = refl
-no_attribute_found t (simple.Value library name text) h = refl
+no_attribute_found t (simple.Value value) h = refl
 no_attribute_found t (simple.OneOrMore body) h = refl
 no_attribute_found t (simple.Group a b) h = refl
 no_attribute_found t (simple.Interleave a b) h = refl

@@ -1,5 +1,6 @@
 -- Ways by number, and when they are those of a pattern.
 use Rattle.std.specs.Prelude.{◌≡◌, ℕ, ◌<◌, ⊤, List, ◌∷◌, ◌++◌, length, map, All, ◌↔◌}
+use Rattle.std.specs.List.{Contains}
 use Rattle.rng_model.specs.Lists.{Among}
 use Rattle.rng_model.specs.Tree.{Simple}
 use Rattle.rng_model.specs.Document.{Attribute, Item}
@@ -12,6 +13,7 @@ use Rattle.rng_matching.specs.Derivatives as tree
 use Rattle.rng_matching.specs.Derivatives.{joined_of}
 use Rattle.rng_matching.specs.Ways.{AreItemWays, AreAttributeWays, EachWay}
 use Rattle.rng_patterns.specs.Node.{Node}
+use Rattle.rng_patterns.specs.declared.pattern.PatternNumber.{PatternNumber}
 use Rattle.rng_patterns.specs.Trees.{tree_of}
 use Rattle.rng_ways.specs.Kinds.{IsElementNamed, IsNamed, IsText, IsLeafOf, Obeys, connector_of, reading_of}
 use Rattle.rng_ways.specs.declared.way.Way.{Way}
@@ -34,6 +36,10 @@ IsInside ns w = (w.leaf.0 < length ns) × (w.rest.0 < length ns)
 
 abbrev pub AreInside : List Node → List Way → Type 0
 AreInside ns ws = All (IsInside ns) ws
+
+-- the rests of the ways with this leaf
+abbrev pub AreRestsBehind : List Way → PatternNumber → List PatternNumber → Type 0
+AreRestsBehind ways leaf rests = (r : PatternNumber) → Contains rests r ↔ Contains ways (record { leaf = leaf; rest = r })
 
 -- it was taken out of a list
 abbrev pub IsTakenOut : {A : Type 0} → List A → List A → A → Type 0

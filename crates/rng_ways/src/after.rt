@@ -366,9 +366,7 @@ fn data_takes(
             known.datatypes.allow(position, text)
                 && !is_excepted(grammar, &known.datatypes, *except, text),
         ),
-        Simple::Value { text: value, .. } => {
-            Ok(known.datatypes.equate(position, value.as_str(), text))
-        }
+        Simple::Value(value) => { Ok(known.datatypes.equate(position, value.text.as_str(), text)) }
         _ => Ok(false),
     }
 }

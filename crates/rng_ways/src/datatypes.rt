@@ -80,7 +80,7 @@ fn named(pattern: &Simple) -> Option<Builtin>
             datatype.name.as_str(),
             &datatype.parameters,
         ),
-        Simple::Value { library, name, .. } => found(library.as_str(), name.as_str(), &[]),
+        Simple::Value(value) => found(value.library.as_str(), value.name.as_str(), &[]),
         _ => None,
     }
 }

@@ -6,11 +6,12 @@ ghost use Rattle.rng_patterns.specs.PatternTable.{Adds, Longer};
 ghost use Rattle.rng_patterns.specs.Trees.{tree_of};
 ghost use Rattle.rng_ways.specs.declared.way.Way.{Way};
 ghost use Rattle.rng_ways.specs.Kinds.{connector_of};
-ghost use Rattle.rng_ways.specs.Ways.{AreInside, IsInside, IsHoleInside, IsTakenOut, StandFor, filled, ways_by};
+ghost use Rattle.rng_ways.specs.Ways.{AreInside, AreRestsBehind, IsInside, IsHoleInside, IsTakenOut, StandFor, filled, ways_by};
 
-use crate::way::{Hole, Joint, Way, Ways};
+use crate::way::{Hole, Joint, Rests, Way, Ways};
 use rng_model::OutOfMemory;
 use rng_patterns::{PatternNumber, PatternTable};
+use smallvec::SmallVec;
 use std::alloc::Global;
 
 /// Two patterns joined.
@@ -126,4 +127,42 @@ pub fn add_filled(
         )?;
     }
     Ok(())
+}
+
+/// The rests of the ways with this leaf.
+fn rests_behind(alloc: Global, ways: &[Way], leaf: PatternNumber) -> Result<Rests, OutOfMemory>
+    ensures { IfOk result (λ rests. AreRestsBehind ways.now leaf rests.items) }
+{
+    let mut rests = SmallVec::new(alloc);
+    'ways: for way in ways {
+        if way.leaf == leaf {
+            rests.push(way.rest)?;
+        }
+    }
+    Ok(rests)
+}
+
+/// The same ways, each leaf once: what is left behind it is a choice of what was.
+pub fn joined_ways(
+    alloc: Global,
+    table: &mut PatternTable,
+    ways: &[Way],
+) -> Result<Ways, OutOfMemory>
+    requires { AreInside table.old ways.now }
+    ensures longer { OnOk result (Longer table.old table.new) }
+    ensures ways { IfOk result (λ all. StandFor table.new all.items (λ t. ways_by (tree_of t table.old) ways.now)) }
+{
+    let mut all = SmallVec::new(alloc);
+    'ways: for way in ways {
+        if place_of(all.as_slice(), way.leaf).is_some() {
+            continue;
+        }
+        let rests = rests_behind(alloc, ways, way.leaf)?;
+        let rest = table.choice(alloc, rests.as_slice())?;
+        all.push(Way {
+            leaf: way.leaf,
+            rest,
+        })?;
+    }
+    Ok(all)
 }

@@ -29,7 +29,7 @@ pub fn is_excepted(
         Simple::DataExcept(_, inner) => {
             datatypes.allow(except, text) && !is_excepted(grammar, datatypes, *inner, text)
         }
-        Simple::Value { text: value, .. } => datatypes.equate(except, value.as_str(), text),
+        Simple::Value(value) => datatypes.equate(except, value.text.as_str(), text),
         Simple::Choice(first, second) => {
             is_excepted(grammar, datatypes, *first, text)
                 || is_excepted(grammar, datatypes, *second, text)

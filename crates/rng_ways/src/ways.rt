@@ -10,7 +10,7 @@ ghost use Rattle.rng_ways.specs.Takers.{AreCandidates};
 ghost use Rattle.rng_ways.specs.Ways.{AreWaysOf, IsHoleInside, filled};
 ghost use Rattle.rng_ways.specs.declared.way.Kind as kinds;
 
-use crate::filling::add_filled;
+use crate::filling::{add_filled, joined_ways};
 use crate::known::{KnownWays, copied_ways, keep, known_ways};
 use crate::leaves::{opened, ways_of_leaf};
 use crate::way::{Candidates, Hole, Joint, Kind, Ways};
@@ -172,15 +172,15 @@ fn ways_of_choice(
     ensures ways { IfOk result (λ ws. AreWaysOf grammar.now table.new kind.entry (choice_over (tree_of grammar.now table.old)
         (map (λ m. m.0) members.now)) ws.items) }
 {
-    let mut all = SmallVec::new(alloc);
+    let mut all = Vec::new(alloc);
     'members: for member in members {
         if is_idle(table, candidates, *member) {
             continue;
         }
         let ways = ways(alloc, grammar, table, known, candidates, kind, *member)?;
-        add_filled(alloc, table, Hole::Whole, ways.as_slice(), &mut all)?;
+        all.extend_from_slice(ways.as_slice())?;
     }
-    Ok(all)
+    joined_ways(alloc, table, all.as_slice())
 }
 
 /// The ways of a group.

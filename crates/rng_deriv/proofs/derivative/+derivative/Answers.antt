@@ -4,6 +4,8 @@ use Rattle.std.proofs.lemmas.Result.{IfOk-weaker}
 use Rattle.std.proofs.lemmas.Option.{slice_get_within}
 use Rattle.rng_deriv.specs.PatternTable.{attribute_found, tree_over, tree_of}
 use Rattle.rng_deriv.specs.Derivative.{IsAfter, IsDerivative, IsLeftOfLeaf, StandsForItem}
+use Rattle.rng_model.specs.Names.{In}
+use Rattle.rng_model.specs.View.{class_of, name_of}
 use Rattle.rng_model.specs.Table.{AreChildrenBelow, grammar_of}
 use Rattle.rng_model.specs.Tree.{s_leaf, s_empty, s_not_allowed}
 use Rattle.rng_deriv.proofs.Follows.{Longer-length, Longer-refl, bottom_below, AreFirstSides-pop, AreFirstSides-empty, IsFirstSide-longer, Longer-trans}
@@ -229,7 +231,8 @@ takes_attribute-returns-else-not-contains-clause-left t c =
     let below = subst (AreChildrenBelow k) c.in-Some-Attribute.field-0-is c.in-Some-Attribute.ensures.below in
     IfOk-weaker c.takes_text.result _ _
     (λ takes test. attribute_answer g c.args.table.now k class body c.args.attr.now _ takes c.requires found below
-    (c.if-not-contains.ensures.0 refl) c.as_str.ensures.value test) c.takes_text.ensures.takes
+    (subst (λ x. In (class_of x) (name_of c.args.attr.now.name)) c.deref.ensures (c.if-not-contains.ensures.0 refl))
+    c.as_str.ensures.value test) c.takes_text.ensures.takes
 
 pub takes_text-returns-clause-takes : goal.takes_text-returns-clause-takes
 takes_text-returns-clause-takes t c =

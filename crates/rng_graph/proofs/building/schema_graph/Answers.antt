@@ -11,7 +11,7 @@ use Rattle.rng_graph.proofs.building.schema_graph.Goals as goal
 pub definitions-init : goal.definitions-init
 definitions-init c =
     let v = numbering_of c.in_ok-numbering.numbering in
-    subst (λ bodies. IsGraphSoFar (schema_of c.args.schema.now) v (map graph_body_of bodies)) (sym c.new-bodies.ensures.items)
+    subst (λ bodies. IsGraphSoFar (schema_of c.args.schema.now) v (map graph_body_of bodies)) (sym c.in_ok-bodies.ensures.items)
     (started (schema_of c.args.schema.now) c.requires v (ap (λ v. v.definitions) c.in_ok-numbering.ensures
     ∙ ap (λ z. record { place = z; name = None } ∷ []) c.main.ensures) (ap (λ v. v.elements) c.in_ok-numbering.ensures))
 

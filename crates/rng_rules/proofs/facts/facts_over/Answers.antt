@@ -3,7 +3,8 @@ use Rattle.rng_rules.proofs.FactsOver.{attribute_over, repeated_over, simple_ove
 use Rattle.rng_rules.proofs.facts.facts_over.Goals as goal
 
 pub returns-in-Attribute : goal.returns-in-Attribute
-returns-in-Attribute c = λ of has. c.facts_of_attribute.ensures ∙ attribute_over of c.args.below.now has _ _ _ _ c.in-Attribute.is c.requires
+returns-in-Attribute c = λ of has.
+    c.facts_of_attribute.ensures ∙ attribute_over of c.args.below.now has _ _ _ _ _ c.deref.ensures c.in-Attribute.is c.requires
 
 pub returns-in-OneOrMore : goal.returns-in-OneOrMore
 returns-in-OneOrMore c = λ of has. c.facts_of_repeated.ensures ∙ repeated_over of c.args.below.now has _ _ _ c.in-OneOrMore.is c.requires

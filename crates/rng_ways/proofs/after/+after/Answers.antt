@@ -9,6 +9,8 @@ use Rattle.rng_model.specs.Texts.{is_blank}
 use Rattle.rng_model.specs.Types.{datatype_of}
 use Rattle.rng_model.specs.Patterns.{without_parameters}
 use Rattle.rng_model.specs.View.{class_of, name_of}
+use Rattle.rng_model.specs.declared.datatype.DatatypeValue.{DatatypeValue}
+use Rattle.rng_names.specs.Holding.{holds}
 use Rattle.rng_matching.specs.Derivatives.{is_excepted}
 use Rattle.rng_patterns.specs.Taking.{tree_by}
 use Rattle.rng_patterns.specs.Trees.{attribute_found, data_found, tree_of}
@@ -103,9 +105,10 @@ pub attribute_takes-returns-then-not-contains-clause-taken : goal.attribute_take
 attribute_takes-returns-then-not-contains-clause-taken t c =
     let t0 = c.args.grammar.now in
     let found = sym c.in-Some.ensures.value ∙ ap Some c.in-Attribute.is in
-    tells_of_other_name (reading_of t0) c.args.attr _ (class_of c.in-Attribute.class) (tree_at t0.patterns c.in-Attribute.body)
+    tells_of_other_name (reading_of t0) c.args.attr _ (class_of c.in-Attribute.class.value) (tree_at t0.patterns c.in-Attribute.body)
     (ap (attribute_found t0) found)
-    (sym (decides_holds c.contains.result (class_of c.in-Attribute.class) (name_of c.args.attr.now.name) c.contains.ensures)
+    (sym (decides_holds c.contains.result (class_of c.deref.result.now) (name_of c.args.attr.now.name) c.contains.ensures
+    ∙ ap (λ class. holds (class_of class) (name_of c.args.attr.now.name)) c.deref.ensures)
     ∙ c.if-not-contains.true)
 
 pub attribute_takes-value_takes-requires : goal.attribute_takes-value_takes-requires
@@ -121,9 +124,10 @@ pub attribute_takes-returns-clause-taken : goal.attribute_takes-returns-clause-t
 attribute_takes-returns-clause-taken t c =
     let t0 = c.args.grammar.now in
     let found = sym c.in-Some.ensures.value ∙ ap Some c.in-Attribute.is in
-    if_ok c.value_takes.result _ _ (λ b h. tells_of_attribute (reading_of t0) c.args.attr _ (class_of c.in-Attribute.class)
+    if_ok c.value_takes.result _ _ (λ b h. tells_of_attribute (reading_of t0) c.args.attr _ (class_of c.in-Attribute.class.value)
     (tree_at t0.patterns c.in-Attribute.body) b (ap (attribute_found t0) found)
-    (sym (decides_holds c.contains.result (class_of c.in-Attribute.class) (name_of c.args.attr.now.name) c.contains.ensures)
+    (sym (decides_holds c.contains.result (class_of c.deref.result.now) (name_of c.args.attr.now.name) c.contains.ensures
+    ∙ ap (λ class. holds (class_of class) (name_of c.args.attr.now.name)) c.deref.ensures)
     ∙ c.if-not-contains.false) (search rules)) c.value_takes.ensures.taken
 
 pub data_takes-returns-in-Content-clause-taken : goal.data_takes-returns-in-Content-clause-taken
@@ -137,7 +141,7 @@ pub data_takes-returns-in-Data-clause-taken : goal.data_takes-returns-in-Data-cl
 data_takes-returns-in-Data-clause-taken t c =
     let t0 = c.args.grammar.now in
     let found = sym c.in-Some.ensures.value ∙ ap Some c.in-Data.is in
-    tells_of_data (reading_of t0) c.args.place c.args.text _ (datatype_of c.in-Data.field-0) _ (ap (data_found t0) found)
+    tells_of_data (reading_of t0) c.args.place c.args.text _ (datatype_of c.in-Data.field-0.value) _ (ap (data_found t0) found)
     (c.allow.ensures ∙ allowed_there t0 c.args.known.now.datatypes c.requires.1.1.1.datatypes c.args.position.0 _ found c.args.text.now)
 
 pub data_takes-returns-then-allow-clause-taken : goal.data_takes-returns-then-allow-clause-taken
@@ -148,7 +152,7 @@ data_takes-returns-then-allow-clause-taken t c =
     let found = sym c.in-Some.ensures.value ∙ ap Some c.in-DataExcept.is in
     let own = c.allow-in-DataExcept.ensures
     ∙ allowed_there t0 c.args.known.now.datatypes c.requires.1.1.1.datatypes c.args.position.0 _ found c.args.text.now in
-    tells_of_except g c.args.place c.args.text _ (datatype_of c.in-DataExcept.field-0) p _ (ap (data_found t0) found)
+    tells_of_except g c.args.place c.args.text _ (datatype_of c.in-DataExcept.field-0.value) p _ (ap (data_found t0) found)
     (ap not c.is_excepted.ensures ∙ ap (λ b. b && not (is_excepted g p c.args.text.now)) (sym c.if-allow.true ∙ own))
 
 pub data_takes-returns-else-allow-clause-taken : goal.data_takes-returns-else-allow-clause-taken
@@ -159,17 +163,19 @@ data_takes-returns-else-allow-clause-taken t c =
     let found = sym c.in-Some.ensures.value ∙ ap Some c.in-DataExcept.is in
     let own = c.allow-in-DataExcept.ensures
     ∙ allowed_there t0 c.args.known.now.datatypes c.requires.1.1.1.datatypes c.args.position.0 _ found c.args.text.now in
-    tells_of_except g c.args.place c.args.text _ (datatype_of c.in-DataExcept.field-0) p _ (ap (data_found t0) found)
+    tells_of_except g c.args.place c.args.text _ (datatype_of c.in-DataExcept.field-0.value) p _ (ap (data_found t0) found)
     (c.if-allow.false ∙ ap (λ b. b && not (is_excepted g p c.args.text.now)) (sym c.if-allow.false ∙ own))
 
 pub data_takes-returns-in-Value-clause-taken : goal.data_takes-returns-in-Value-clause-taken
 data_takes-returns-in-Value-clause-taken t c =
     let t0 = c.args.grammar.now in
     let found = sym c.in-Some.ensures.value ∙ ap Some c.in-Value.is in
-    tells_of_value (reading_of t0) c.args.place c.args.text _ (without_parameters (string_bytes c.in-Value.library) (string_bytes c.in-Value.name))
-    (string_bytes c.in-Value.value) _ (ap (data_found t0) found) (c.equate.ensures
-    ∙ ap (λ v. known_equates (type_at c.args.known.now.datatypes c.args.position.0) v c.args.text.now) c.as_str.ensures.value
-    ∙ equal_there t0 c.args.known.now.datatypes c.requires.1.1.1.datatypes c.args.position.0 _ found c.args.text.now (string_bytes c.in-Value.value))
+    let value = c.in-Value.value.value in
+    tells_of_value (reading_of t0) c.args.place c.args.text _ (without_parameters (string_bytes value.library) (string_bytes value.name))
+    (string_bytes value.text) _ (ap (data_found t0) found) (c.equate.ensures
+    ∙ ap (λ v. known_equates (type_at c.args.known.now.datatypes c.args.position.0) v c.args.text.now) (c.as_str.ensures.value
+    ∙ ap (λ (value : DatatypeValue). string_bytes value.text) c.deref.ensures)
+    ∙ equal_there t0 c.args.known.now.datatypes c.requires.1.1.1.datatypes c.args.position.0 _ found c.args.text.now (string_bytes value.text))
 
 pub data_takes-returns-in_default-row : goal.data_takes-returns-in_default-row
 data_takes-returns-in_default-row t c =

@@ -2,6 +2,7 @@ use Rattle.std.proofs.Common.{◌∙◌, ◌&&◌, not, Some, sym, ap, arith, op
 use Rattle.std.specs.String.{string_bytes}
 use Rattle.rng_model.specs.DatatypeTests.{known_equates}
 use Rattle.rng_model.specs.Table.{tree_at, tree_over}
+use Rattle.rng_model.specs.declared.datatype.DatatypeValue.{DatatypeValue}
 use Rattle.rng_matching.specs.Derivatives.{is_excepted}
 use Rattle.rng_patterns.proofs.Taking.{past_end}
 use Rattle.rng_ways.specs.Datatypes.{type_at}
@@ -53,6 +54,7 @@ returns-in-Value t c =
     let s = c.args.text.now in
     let found = sym c.in-Some.ensures.value ∙ ap Some c.in-Value.is in
     let tree = c.in-Some.ensures.tree ∙ ap (tree_over (tree_at t0.patterns)) c.in-Value.is in
-    c.equate.ensures ∙ ap (λ v. known_equates (type_at datatypes c.args.except.0) v s) c.as_str.ensures.value
-    ∙ equal_there t0 datatypes c.requires.1.1.1 c.args.except.0 _ found s (string_bytes c.in-Value.value)
+    c.equate.ensures ∙ ap (λ v. known_equates (type_at datatypes c.args.except.0) v s) (c.as_str.ensures.value
+    ∙ ap (λ (value : DatatypeValue). string_bytes value.text) c.deref.ensures)
+    ∙ equal_there t0 datatypes c.requires.1.1.1 c.args.except.0 _ found s (string_bytes c.in-Value.value.value.text)
     ∙ sym (ap (λ p. is_excepted (reading_of t0) p s) tree)

@@ -7,6 +7,7 @@ use Rattle.rng_model.specs.Tree.{Simple, choice, group, s_joined, s_one_or_more}
 use Rattle.rng_matching.specs.Taking.{Same}
 use Rattle.rng_matching.specs.Derivatives.{group_of, is_nullable}
 use Rattle.rng_matching.proofs.FreeForms.{choice_all}
+use Rattle.rng_patterns.specs.PatternTable.{Longer}
 use Rattle.rng_patterns.specs.Trees.{choice_over, tree_of}
 use Rattle.rng_patterns.specs.declared.pattern.Facts.{Facts}
 use Rattle.rng_patterns.specs.declared.pattern.PatternNumber.{PatternNumber}
@@ -14,12 +15,14 @@ use Rattle.rng_patterns.proofs.Choices.{if_ok}
 use Rattle.rng_patterns.proofs.Taking.{choice_of_two}
 use Rattle.rng_patterns.proofs.Trees.{Longer-length, Longer-trans, tree_stays}
 use Rattle.rng_ways.specs.Kinds.{Obeys, connector_of, reading_of, weight}
+use Rattle.rng_ways.specs.KnownWays.{AreKnown}
 use Rattle.rng_ways.specs.Ways.{AreWaysOf}
 use Rattle.rng_ways.proofs.Adding.{either_member}
-use Rattle.rng_ways.proofs.Composing.{both_made, copies_made, first_made, group_made, member_made, opened_hands_on, opened_same, over_hands_on}
+use Rattle.rng_ways.proofs.Composing.{both_made, copies_made, first_made, group_made, made, member_made, opened_hands_on, opened_same, over_hands_on}
 use Rattle.rng_ways.proofs.Composing.{map_numbers, no_order_between, none_more, over_same, side_law, ways_of_same}
 use Rattle.rng_ways.proofs.Kept.{Obeys-hereditary, choice_has}
 use Rattle.rng_ways.proofs.KnownWays.{known_longer, known_more, those_known}
+use Rattle.rng_ways.proofs.Standing.{appended_stand}
 use Rattle.rng_ways.proofs.Nodes.{is_over, other_single, parts_there, single_alone}
 use Rattle.rng_ways.proofs.AttributeTakers.{candidates_longer}
 use Rattle.rng_ways.proofs.Weights.{member_less, opened_less, right_less}
@@ -256,24 +259,24 @@ ways_of_choice-members-preserved t c =
     let n0 = c.args.table.now in
     let before = c.members.table in
     let n1 = c.ways.new.table in
-    let n2 = c.add_filled.new.table in
     let ms : List PatternNumber = c.args.members.now in
     let i = c.members.member-index in
     let none : PatternNumber = record { 0 = 0 } in
     let f : PatternNumber → Simple ℕ = λ m. tree_of t0 n0 m.0 in
     let inside = c.requires.inside i none c.members-test.true in
     let is = tree_stays t0 n0 before (get_or ms i none).0 c.members.invariant.longer inside in
-    let longer1 = Longer-trans n0 before n1 c.members.invariant.longer c.in_ok-ways.ensures.longer in
     let cut = one_taken f ms i none c.members-test.true in
+    let some = side_law t0 before n1 c.args.kind (choice_all (map f (take i ms))) c.members.all.items c.in_ok-ways.ensures.longer c.members.invariant.ways in
+    let own = subst (AreWaysOf t0 n1 c.args.kind (f (get_or ms i none))) (sym c.as_slice.ensures)
+    (subst (λ p. AreWaysOf t0 n1 c.args.kind p c.in_ok-ways.ways.items) is c.in_ok-ways.ensures.ways) in
     record {
-      longer = Longer-trans n0 n1 n2 longer1 c.in_ok-add_filled.ensures.longer;
-      known = known_longer t0 n1 n2 c.args.kind c.in_ok-add_filled.ensures.longer c.ways.new.known c.in_ok-ways.ensures.known;
-      ways = subst (λ ps. AreWaysOf t0 n2 c.args.kind (choice_all ps) c.add_filled.new.all.items) cut
-          (member_made t0 n1 n2 c.args.kind (map f (take i ms)) (f (get_or ms i none)) c.as_slice.result.now c.members.all.items c.add_filled.new.all.items
-          (side_law t0 before n1 c.args.kind (choice_all (map f (take i ms))) c.members.all.items c.in_ok-ways.ensures.longer c.members.invariant.ways)
-          (subst (AreWaysOf t0 n1 c.args.kind (f (get_or ms i none))) (sym c.as_slice.ensures)
-          (subst (λ p. AreWaysOf t0 n1 c.args.kind p c.in_ok-ways.ways.items) is c.in_ok-ways.ensures.ways))
-          c.in_ok-add_filled.ensures.ways);
+      longer = Longer-trans n0 before n1 c.members.invariant.longer c.in_ok-ways.ensures.longer;
+      known = c.in_ok-ways.ensures.known;
+      ways = subst (λ ps. AreWaysOf t0 n1 c.args.kind (choice_all ps) c.extend_from_slice.new.self.items) cut
+          (member_made t0 n1 n1 c.args.kind (map f (take i ms)) (f (get_or ms i none)) c.as_slice.result.now c.members.all.items
+          c.extend_from_slice.new.self.items some own
+          (appended_stand n1 c.members.all.items c.as_slice.result.now c.extend_from_slice.new.self.items some.inside own.inside
+          c.in_ok-extend_from_slice.ensures.items));
     }
 
 pub ways_of_choice-is_idle-requires : goal.ways_of_choice-is_idle-requires
@@ -314,9 +317,20 @@ ways_of_choice-returns-clause-ways t c =
     let all = take_all c.members.member-index ms c.members-test.false in
     let h = subst (λ ms. AreWaysOf t0 c.members.table c.args.kind (choice_all (map
     (λ (m : PatternNumber). f m.0) ms)) c.members.all.items) all c.members.invariant.ways in
-    ways_of_same t0 c.members.table c.args.kind (choice_all (map f numbers)) (choice_over f numbers) c.members.all.items (over_same (reading_of t0) f numbers)
-    (over_hands_on f numbers)
-    (subst (λ ps. AreWaysOf t0 c.members.table c.args.kind (choice_all ps) c.members.all.items) (sym (map_numbers f ms)) h)
+    let whole = ways_of_same t0 c.members.table c.args.kind (choice_all (map f numbers)) (choice_over f numbers) c.members.all.items
+    (over_same (reading_of t0) f numbers) (over_hands_on f numbers)
+    (subst (λ ps. AreWaysOf t0 c.members.table c.args.kind (choice_all ps) c.members.all.items) (sym (map_numbers f ms)) h) in
+    let seen = subst (AreWaysOf t0 c.members.table c.args.kind (choice_over f numbers)) (sym c.as_slice-2.ensures.value) whole in
+    if_ok c.joined_ways.result _ _ (λ ws s. made t0 c.joined_ways.new.table c.args.kind (choice_over f numbers) ws.items _ s seen.law seen.kept)
+    c.joined_ways.ensures.ways
+
+pub ways_of_choice-returns-clause-known : goal.ways_of_choice-returns-clause-known
+ways_of_choice-returns-clause-known t c =
+    let t0 = c.args.grammar.now in
+    let base = c.members.table in
+    let new = c.joined_ways.new.table in
+    if_ok c.joined_ways.result (λ ws. Longer base new) (λ ws. AreKnown t0 new c.args.kind c.members.known)
+    (λ ws longer. known_longer t0 base new c.args.kind longer c.members.known c.members.invariant.known) c.joined_ways.ensures.longer
 
 pub ways_of_copies-returns-clause-ways : goal.ways_of_copies-returns-clause-ways
 ways_of_copies-returns-clause-ways t c =

@@ -10,7 +10,7 @@ use Rattle.rnc_syntax.specs.SyntaxView as syntax
 use Rattle.rnc_grammar.specs.View as tree
 use Rattle.rnc_grammar.proofs.ResolvedMembers.{components_row, fails, found, is_through, stops_at}
 use Rattle.rnc_grammar.proofs.FileTreeViews.{choice_of, data_except, group_of, interleave_of, plain_data}
-use Rattle.rnc_grammar.proofs.ResolvedViews.{choice_pattern_in, data_except_in, data_in, group_in, interleave_in}
+use Rattle.rnc_grammar.proofs.ResolvedViews.{choice_pattern_in, data_except_in, data_in, group_in, interleave_in, typed_with}
 use Rattle.rnc_grammar.proofs.resolving.Resolver.+resolved.Goals as goal
 
 pub pattern-returns-in_err-patterns-in-Group : goal.pattern-returns-in_err-patterns-in-Group
@@ -67,21 +67,21 @@ pattern-returns-in_ok-patterns-in-Choice t c =
     ∙ choice_pattern_in s c.in-Choice.all _ c.deref-in-Choice.ensures.value in
     found tree.pattern_of (trees.members choice) _ _ _ _ all c.in_ok-patterns-in-Choice.ensures (choice_of c.in_ok-patterns-in-Choice.field-0)
 
-pub pattern-returns-in_ok-parameters-in-Data : goal.pattern-returns-in_ok-parameters-in-Data
-pattern-returns-in_ok-parameters-in-Data t c =
+pub pattern-returns-in_ok-datatype-in-Data : goal.pattern-returns-in_ok-datatype-in-Data
+pattern-returns-in_ok-datatype-in-Data t c =
     let s = scope_view c.args.self.scope.now in
-    let seen = data_in s c.in-Data.type_name c.in-Data.parameters _ _ _ c.deref-in-Data.ensures.value c.in_ok-type_name-in-Data.ensures
-    c.in_ok-parameters-in-Data.ensures in
-    ap (λ p. pattern_in s (syntax.pattern_of p)) c.in-Data.is ∙ seen
-    ∙ ap Some (sym (plain_data c.in_ok-type_name-in-Data.type_name c.in_ok-parameters-in-Data.parameters))
+    let typed = typed_with _ _ _ _ c.in_ok-datatype-in-Data.ensures in
+    let seen = data_in s c.in-Data.type_name c.in-Data.parameters _ _ _ c.deref-in-Data.ensures.value typed.0 (ap Some typed.1) in
+    ap (λ p. pattern_in s (syntax.pattern_of p)) c.in-Data.is ∙ seen ∙ ap Some (sym (plain_data c.in_ok-datatype-in-Data.field-0))
 
 pub pattern-returns-in_ok-child-in-DataExcept : goal.pattern-returns-in_ok-child-in-DataExcept
 pattern-returns-in_ok-child-in-DataExcept t c =
     let s = scope_view c.args.self.scope.now in
+    let typed = typed_with _ _ _ _ c.in_ok-datatype-in-DataExcept.ensures in
     let seen = data_except_in s c.in-DataExcept.type_name c.in-DataExcept.parameters c.in-DataExcept.except _ _ _ _ _ c.deref-in-DataExcept.ensures.value
-    c.deref-in-DataExcept-2.ensures c.in_ok-type_name-in-DataExcept.ensures c.in_ok-parameters-in-DataExcept.ensures c.in_ok-child-in-DataExcept.ensures in
+    c.deref-in-DataExcept-2.ensures typed.0 (ap Some typed.1) c.in_ok-child-in-DataExcept.ensures in
     ap (λ p. pattern_in s (syntax.pattern_of p)) c.in-DataExcept.is ∙ seen
-    ∙ ap Some (sym (data_except c.in_ok-type_name-in-DataExcept.type_name c.in_ok-parameters-in-DataExcept.parameters c.in_ok-child-in-DataExcept.field-0))
+    ∙ ap Some (sym (data_except c.in_ok-datatype-in-DataExcept.datatype c.in_ok-child-in-DataExcept.field-0))
 
 pub components-returns-in_err-component : goal.components-returns-in_err-component
 components-returns-in_err-component t c =

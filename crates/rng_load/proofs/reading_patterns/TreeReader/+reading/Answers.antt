@@ -75,18 +75,17 @@ members-returns-clause-nested t c =
 pub pattern-returns-in-None-clause-pattern : goal.pattern-returns-in-None-clause-pattern
 pattern-returns-in-None-clause-pattern t c =
     let arm = c.in-Data in
-    let is : c.args.pattern.now ≡ trees.Data arm.type_name arm.parameters None = arm.is ∙ ap (trees.Data arm.type_name arm.parameters) c.in-None.is in
-    let read = plain_read (files_in c.args.self) c.args.levels c.args.uri.now (reverse c.args.way.now.items) c.args.pattern.now arm.type_name arm.parameters
-    c.deref-in-None.result.now c.deref-in-None.ensures.value is in
+    let is : c.args.pattern.now ≡ trees.Data arm.datatype None = arm.is ∙ ap (trees.Data arm.datatype) c.in-None.is in
+    let read = plain_read (files_in c.args.self) c.args.levels c.args.uri.now (reverse c.args.way.now.items) c.args.pattern.now arm.datatype
+    c.deref-in-None.result.now c.deref-in-None.ensures is in
     subst (λ r. IfOk c.data.result (λ p. schema_pattern_of p ≡ r)) read c.data.ensures
 
 pub pattern-returns-in_ok-except-in-Some-clause-pattern : goal.pattern-returns-in_ok-except-in-Some-clause-pattern
 pattern-returns-in_ok-except-in-Some-clause-pattern t c =
     let arm = c.in-Data in
-    let is : c.args.pattern.now ≡ trees.Data arm.type_name arm.parameters (Some c.in-Some.except) =
-    arm.is ∙ ap (trees.Data arm.type_name arm.parameters) c.in-Some.is in
+    let is : c.args.pattern.now ≡ trees.Data arm.datatype (Some c.in-Some.except) = arm.is ∙ ap (trees.Data arm.datatype) c.in-Some.is in
     let body : c.deref-in-Some.result.now ≡ c.in-Some.except.value = c.deref-in-Some.ensures in
-    let read = except_read (files_in c.args.self) c.args.levels c.args.uri.now (reverse c.args.way.now.items) c.args.pattern.now arm.type_name arm.parameters
-    c.deref-in-Some-2.result.now c.deref-in-Some-2.ensures.value c.in-Some.except c.deref-in-Some.result.now
+    let read = except_read (files_in c.args.self) c.args.levels c.args.uri.now (reverse c.args.way.now.items) c.args.pattern.now arm.datatype
+    c.deref-in-Some-2.result.now c.deref-in-Some-2.ensures c.in-Some.except c.deref-in-Some.result.now
     (schema_pattern_of c.in_ok-except-in-Some.except.value) is body c.in_ok-except-in-Some.ensures.pattern in
     subst (λ r. IfOk c.data_except.result (λ p. schema_pattern_of p ≡ r)) read c.data_except.ensures

@@ -1,4 +1,4 @@
-use Rattle.std.proofs.Common.{refl, ap, subst, ◌∙◌, [], map, Some}
+use Rattle.std.proofs.Common.{refl, ap, subst, ◌∙◌, [], map, string_bytes, Some}
 use Rattle.std.proofs.lemmas.List.{map_push}
 use Rattle.rng_model.specs.Patterns.{without_parameters}
 use Rattle.rng_simple.specs.LabelCodes.{IsPlaced, codes_of, value_code}
@@ -26,8 +26,8 @@ returns-in-Some-clause-is c =
     let p = subst (IsPlaced (codes_of c.args.self.now.value_codes) (codes_of c.place_of_code.new.codes) _) c.in-Some.is c.in_ok-label.ensures.placed in
     let code = c.in_ok-code.ensures in
     (label_found (λ v. value_code (value_of v)) value_of (no_datatype, []) c.args.self.now.values.items _
-    (without_parameters c.args.library.now c.args.name.now, c.args.text.now) (codes_of c.args.self.now.value_codes) c.in-Some.label d.values.same
-    (p.1 ∙ ap Some code) (λ y e. same_value (value_of y) c.args.library.now c.args.name.now c.args.text.now refl e)).1
+    (without_parameters (string_bytes c.args.value.now.library) (string_bytes c.args.value.now.name), string_bytes c.args.value.now.text) (codes_of c.args.self.now.value_codes) c.in-Some.label d.values.same
+    (p.1 ∙ ap Some code) (λ y e. same_value (value_of y) (string_bytes c.args.value.now.library) (string_bytes c.args.value.now.name) (string_bytes c.args.value.now.text) refl e)).1
 
 pub returns-clause-table : goal.returns-clause-table
 returns-clause-table c =

@@ -1,4 +1,6 @@
 use Rattle.std.proofs.Common.{◌∙◌, ap, arith, sym, Some}
+use Rattle.rng_model.specs.View.{class_of}
+use Rattle.rng_names.specs.Holding.{holds}
 use Rattle.rng_ways.proofs.AttributeTakers.{all_attributes_told, class_at, no_class_at, one_more_attribute}
 use Rattle.rng_ways.proofs.takers.Takers.of_attributes.Goals as goal
 
@@ -11,7 +13,8 @@ patterns-preserved c =
     let found = ap Some (sym c.in-Attribute.is) ∙ c.in-Some.ensures.value in record {
       count = c.add.ensures.count;
       told = one_more_attribute t c.args.keys.now c.patterns.takers c.add.new.self c.patterns.position c.add.ensures.stays
-          (λ q has. c.add.ensures.told q (class_at t q c.patterns.position _ _ found has)) c.patterns.invariant.told;
+          (λ q has. c.add.ensures.told q (ap (λ class. holds (class_of class) q) c.deref.ensures ∙ class_at t q c.patterns.position _ _ found has))
+          c.patterns.invariant.told;
     }
 
 pub patterns-preserved-in_default-pattern : goal.patterns-preserved-in_default-pattern
