@@ -100,7 +100,7 @@ impl PatternTable {
         ensures same { IfOk result (λ all. (t : Table) (s : Simple ℕ)
             → IsAlternativeOf (tree_of t self.now) all.items s ↔ IsAlternativeOf (tree_of t self.now) members.now s) }
     {
-        let mut all = Vec::new(alloc);
+        let mut all = Vec::with_capacity(alloc, members.len())?;
         for member in members {
             self.add_alternatives(*member, &mut all)?;
         }
@@ -169,15 +169,23 @@ impl PatternTable {
         Ok(absorbed)
     }
 
-    /// A pattern that this one absorbs: what stands behind a side that may be left out.
+    /// A pattern that this one absorbs: what stands behind a side that may be left out. A choice is none, since no alternative is one.
     fn absorbed_by(&self, pattern: PatternNumber) -> Option<PatternNumber>
         requires { pattern.0 < length self.now }
         ensures { IfSome result (λ m. IsAbsorbedBy self.now m pattern) }
     {
         match self.pattern(pattern) {
-            Pattern::Group(first, second) if self.facts(*first).nullable => Some(*second),
+            Pattern::Group(first, second)
+                if self.facts(*first).nullable && !self.is_choice(*second) => { Some(*second) }
             _ => None,
         }
+    }
+
+    /// Whether the pattern is a choice. Takes no memory.
+    fn is_choice(&self, number: PatternNumber) -> bool
+        requires { number.0 < length self.now }
+    {
+        matches!(self.pattern(number), Pattern::Choice(_))
     }
 
     /// A choice of alternatives.

@@ -74,14 +74,18 @@ fn is_idle(table: &PatternTable, candidates: Candidates, number: PatternNumber) 
     }
 }
 
+/// The most members of an interleave whose ways are kept: what many lead to are too many others.
+const MOST_KEPT_MEMBERS: u16 = 4;
+
 /// Whether the ways of a pattern are kept.
 fn is_kept(table: &PatternTable, number: PatternNumber) -> bool
     requires { number.0 < length table.now }
 {
-    matches!(
-        table.pattern(number),
-        Pattern::Choice(_) | Pattern::Group(_, _) | Pattern::OneOrMore(_)
-    )
+    match table.pattern(number) {
+        Pattern::Choice(_) | Pattern::Group(_, _) | Pattern::OneOrMore(_) => true,
+        Pattern::Interleave(_, _) => table.facts(number).members <= MOST_KEPT_MEMBERS,
+        _ => false,
+    }
 }
 
 /// The ways of a pattern, worked out.

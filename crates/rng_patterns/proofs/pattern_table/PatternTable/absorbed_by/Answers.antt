@@ -16,6 +16,13 @@ facts-requires c =
     let inside = c.requires in
     omega (arith, side, inside)
 
+pub is_choice-requires : goal.is_choice-requires
+is_choice-requires c =
+    let below = c.pattern.ensures.table.falls c.args.pattern.0 _ (c.pattern.ensures.found ∙ ap (λ p. Some (node_of p)) c.in-Group.is) in
+    let side = below.1 in
+    let inside = c.requires in
+    omega (arith, side, inside)
+
 pub returns-in-Group : goal.returns-in-Group
 returns-in-Group c =
     let ns = c.args.self.now in
