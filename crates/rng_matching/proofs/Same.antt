@@ -45,17 +45,17 @@ module _ (g : Reading) where
 
   -- ---- each constructor respects it
 
-  abbrev Implies : Simple ℕ → Simple ℕ → Type 0
+  abbrev pub Implies : Simple ℕ → Simple ℕ → Type 0
   Implies p q = (xs : List Attribute) (ns : List Item) → Takes g p xs ns → Takes g q xs ns
 
   on_choice : {p q r u : Simple ℕ} → Implies p r → Implies q u → Implies (s_joined choice p q) (s_joined choice r u)
   on_choice f h xs ns (t.first d) = t.first (f xs ns d)
   on_choice f h xs ns (t.second d) = t.second (h xs ns d)
 
-  on_group : {p q r u : Simple ℕ} → Implies p r → Implies q u → Implies (s_joined group p q) (s_joined group r u)
+  pub on_group : {p q r u : Simple ℕ} → Implies p r → Implies q u → Implies (s_joined group p q) (s_joined group r u)
   on_group f h xs ns (t.grouped d e i c) = t.grouped (f _ _ d) (h _ _ e) i c
 
-  on_interleave : {p q r u : Simple ℕ} → Implies p r → Implies q u → Implies (s_joined interleave p q) (s_joined interleave r u)
+  pub on_interleave : {p q r u : Simple ℕ} → Implies p r → Implies q u → Implies (s_joined interleave p q) (s_joined interleave r u)
   on_interleave f h xs ns (t.interleaved d e i c) = t.interleaved (f _ _ d) (h _ _ e) i c
 
   on_repeat : {p q : Simple ℕ} → Implies p q → Implies (s_one_or_more p) (s_one_or_more q)

@@ -7,6 +7,7 @@ mod PatternKinds
 pub mod Choices
 pub mod Alternatives
 mod Absorbing
+mod WiderParts
 mod OnlyMember
 mod Contents
 mod Keeping

@@ -24,10 +24,15 @@ abbrev pub IsAllowed : Bool → Simple ℕ → Type 0
 IsAllowed true p = HasAllowedMembers p
 IsAllowed false p = p ≡ s_not_allowed
 
+-- the outer pattern takes all that the inner one takes
+abbrev pub Covers : List Node → PatternNumber → PatternNumber → Type 0
+Covers ns outer inner = (t : Table) (g : Reading) (xs : List Attribute) (is : List Item) → Takes g (tree_of t ns inner.0) xs is
+    → Takes g (tree_of t ns outer.0) xs is
+
 -- the second pattern stands above the first and takes all that it takes
 pub record IsAbsorbedBy (ns : List Node) (number other : PatternNumber) : Type 0 where
   pub above : number.0 < other.0
-  pub takes : (t : Table) (g : Reading) (xs : List Attribute) (is : List Item) → Takes g (tree_of t ns number.0) xs is → Takes g (tree_of t ns other.0) xs is
+  pub takes : Covers ns other number
 
 -- each of the members is this one, a choice without notAllowed, or is notAllowed
 pub record IsOnlyMember (ns : List Node) (members : List PatternNumber) (only : PatternNumber) : Type 0 where

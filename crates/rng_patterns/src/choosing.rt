@@ -23,11 +23,12 @@ use std::collections::HashSet;
 
 impl PatternTable {
     /// A choice of the members; of none it is notAllowed, and of one that one. The order of members, and how often each
-    /// is there, make no difference. `q` beside `p, q` is left out where `p` may be left out.
+    /// is there, make no difference. `q` beside `p, q` is left out where `p` may be left out, and of two alternatives one that
+    /// the other one covers: as `a & c` beside `a & b? & c`, and each of them in front of the same.
     ///
     /// RELAX NG Specification, sections 6.2.1 and 4.20. It obeys the restrictions of section 7 where all members do. The
-    /// error is want of memory. Costs a sort of all alternatives, and one pass over the members where no two of them differ
-    /// that are not notAllowed.
+    /// error is want of memory. Costs a sort of all alternatives, or one pass over the members where no two of them differ
+    /// that are not notAllowed; two alternatives are gone through once more.
     pub fn choice(
         &mut self,
         alloc: Global,
@@ -53,6 +54,7 @@ impl PatternTable {
         }
         let mut alternatives = self.alternatives(alloc, members)?;
         self.remove_absorbed(alloc, &mut alternatives)?;
+        self.remove_covered(&mut alternatives);
         put_in_order(&mut alternatives)?;
         self.choice_of(alternatives)
     }

@@ -7,6 +7,7 @@
 #![tactic(auto)]
 
 mod choosing;
+mod covering;
 mod grammar;
 mod making;
 mod pattern;

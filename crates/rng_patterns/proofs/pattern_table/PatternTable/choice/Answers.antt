@@ -33,15 +33,22 @@ pub returns-in-Some-clause-inside : goal.returns-in-Some-clause-inside
 returns-in-Some-clause-inside c = only_inside c.args.self.now c.args.members.now c.in-Some.only c.in-Some.ensures c.requires
 
 -- what is put in order was an alternative before
+pub remove_covered-requires : goal.remove_covered-requires
+remove_covered-requires c =
+    all_within (λ m. m.0 < length c.args.self.now) c.in_ok-alternatives.alternatives.items c.remove_absorbed.new.alternatives.items
+    c.in_ok-remove_absorbed.ensures.within c.in_ok-alternatives.ensures.inside
+
 pub choice_of-requires-clause-inside : goal.choice_of-requires-clause-inside
 choice_of-requires-clause-inside c =
     all_within (λ m. m.0 < length c.args.self.now) c.in_ok-alternatives.alternatives.items c.put_in_order.new.numbers.items
-    (λ m h. c.in_ok-remove_absorbed.ensures.within m ((c.in_ok-put_in_order.ensures.same m).0 h)) c.in_ok-alternatives.ensures.inside
+    (λ m h. c.in_ok-remove_absorbed.ensures.within m (c.remove_covered.ensures.within m ((c.in_ok-put_in_order.ensures.same m).0 h)))
+    c.in_ok-alternatives.ensures.inside
 
 pub choice_of-requires-clause-members : goal.choice_of-requires-clause-members
 choice_of-requires-clause-members c = λ t.
     all_within (λ m. MayBeMember (tree_of t c.args.self.now m.0)) c.in_ok-alternatives.alternatives.items c.put_in_order.new.numbers.items
-    (λ m h. c.in_ok-remove_absorbed.ensures.within m ((c.in_ok-put_in_order.ensures.same m).0 h)) (c.in_ok-alternatives.ensures.members t)
+    (λ m h. c.in_ok-remove_absorbed.ensures.within m (c.remove_covered.ensures.within m ((c.in_ok-put_in_order.ensures.same m).0 h)))
+    (c.in_ok-alternatives.ensures.members t)
 
 pub returns-clause-alternatives : goal.returns-clause-alternatives
 returns-clause-alternatives c =
@@ -53,14 +60,14 @@ returns-clause-alternatives c =
     (λ n. (t : Table) (s : Simple ℕ) → HasAlternative (tree_of t c.choice_of.new.self n.0) s → IsAlternativeOf (tree_of t ns) c.args.members.now s)
     (λ n has t s h.
     (c.in_ok-alternatives.ensures.same t s).0
-    (as_sets (tree_of t ns) ordered all s (λ m i. c.in_ok-remove_absorbed.ensures.within m ((c.in_ok-put_in_order.ensures.same m).0 i)) ((has t s).0 h)))
+    (as_sets (tree_of t ns) ordered all s
+    (λ m i. c.in_ok-remove_absorbed.ensures.within m (c.remove_covered.ensures.within m ((c.in_ok-put_in_order.ensures.same m).0 i))) ((has t s).0 h)))
     c.choice_of.ensures.same
 
 pub returns-clause-matches : goal.returns-clause-matches
 returns-clause-matches c =
     let ns = c.args.self.now in
     let all = c.in_ok-alternatives.alternatives.items in
-    let left = c.remove_absorbed.new.alternatives.items in
     let ordered = c.put_in_order.new.numbers.items in
     let members = c.args.members.now in
     if_ok c.choice_of.result
@@ -71,9 +78,9 @@ returns-clause-matches c =
     let made = takes_some g (tree_of t ns) ordered (tree_of t c.choice_of.new.self n.0) (has t) xs ks in (
       λ d. let o = made.0 d in
           takes_within g (tree_of t ns) all members (λ s. (c.in_ok-alternatives.ensures.same t s).0) xs ks
-          (o.0, c.in_ok-remove_absorbed.ensures.within o.0 ((c.in_ok-put_in_order.ensures.same o.0).0 o.1), o.2),
-      λ d. let l = c.in_ok-remove_absorbed.ensures.takes t g xs ks
-          (takes_within g (tree_of t ns) members all (λ s. (c.in_ok-alternatives.ensures.same t s).1) xs ks d) in
+          (o.0, c.in_ok-remove_absorbed.ensures.within o.0 (c.remove_covered.ensures.within o.0 ((c.in_ok-put_in_order.ensures.same o.0).0 o.1)), o.2),
+      λ d. let l = c.remove_covered.ensures.takes t g xs ks (c.in_ok-remove_absorbed.ensures.takes t g xs ks
+          (takes_within g (tree_of t ns) members all (λ s. (c.in_ok-alternatives.ensures.same t s).1) xs ks d)) in
           made.1 (l.0, (c.in_ok-put_in_order.ensures.same l.0).1 l.1, l.2),
     ))
     c.choice_of.ensures.same
