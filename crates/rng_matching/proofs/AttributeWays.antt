@@ -213,7 +213,7 @@ module _ (g : Reading) where
   -- ---- repetitions (section 7.1.2)
 
   -- what a pattern takes without an attribute that it took: nothing at all, or what the pattern takes
-  data Remains (p : Simple ℕ) : List Attribute → List Item → Type 0 where
+  pub data Remains (p : Simple ℕ) : List Attribute → List Item → Type 0 where
     nothing : Remains p [] []
     some : {xs : List Attribute} {ns : List Item} → Takes g p xs ns → Remains p xs ns
 
@@ -234,7 +234,7 @@ module _ (g : Reading) where
       some (t.once (subst (λ l. Takes g p l ns) (left_is_all i) (subst (λ l. Takes g p xs l) (sym (append-nil ms) ∙ c) d)))
   beside_right p xs ys zs ms os ns d (some r) f i c = some (t.again d r f i c)
 
-  repeat_alone : (p : Simple ℕ) (a : Attribute) →
+  pub repeat_alone : (p : Simple ℕ) (a : Attribute) →
       ((xs : List Attribute) (ns : List Item) → Takes g p (a ∷ xs) ns → Takes g p (a ∷ []) [] × Remains p xs ns) →
       (xs : List Attribute) (ns : List Item) → Takes g (s_one_or_more p) (a ∷ xs) ns → Takes g p (a ∷ []) [] × Remains (s_one_or_more p) xs ns
   repeat_alone p a inside xs ns (t.once d) = let r = inside xs ns d in (r.0, remains_in p (s_one_or_more p) xs ns (λ xs ns d. t.once d) r.1)
@@ -244,7 +244,7 @@ module _ (g : Reading) where
       let r = repeat_alone p a inside _ _ e in (r.0, beside_right p _ _ _ _ _ _ d r.1 (λ s. f (document.later_right s)) i c)
 
   -- with no attribute in a group, the attribute is taken alone
-  attribute_alone : (p : Simple ℕ) → HasNoneGrouped p → (a : Attribute) (xs : List Attribute) (ns : List Item) → Takes g p (a ∷ xs) ns
+  pub attribute_alone : (p : Simple ℕ) → HasNoneGrouped p → (a : Attribute) (xs : List Attribute) (ns : List Item) → Takes g p (a ∷ xs) ns
       → Takes g p (a ∷ []) [] × Remains p xs ns
   attribute_alone s_not_allowed o a xs ns d = elim d [ ]
   attribute_alone s_empty o a xs ns d = elim d [ ]

@@ -27,3 +27,4 @@ pub mod LevelStates
 pub mod OpenElements
 pub mod LevelEvents
 pub mod LevelSteps
+pub mod RepeatedAttributes

@@ -44,9 +44,9 @@ module _ (old new : List Node) (longer : Longer old new) where
 
   -- what is left of one more pattern is known as well
   pub rests_more : {Z : Type 0} (known more : HashMap PatternNumber PatternNumber Z) (n rest : PatternNumber) → n.0 < length old
-      → AreRestsOf old known → IsClosed old new n rest
+      → AreRestsOf new known → IsClosed old new n rest
       → ((m r : PatternNumber) → HasRest more m r → HasRest known m r ⊎ ((m ≡ n) × (r ≡ rest))) → AreRestsOf new more
-  rests_more known more n rest inside all made within = λ m r h. ⊎_elim (λ a. rest_stays m r (all m r a))
+  rests_more known more n rest inside all made within = λ m r h. ⊎_elim (λ a. all m r a)
       (λ b. subst (λ m. IsRestOf new m r) (sym b.0) (subst (IsRestOf new n) (sym b.1) (rest_made n rest inside made))) (within m r h)
 
 pub no_rests : {Z : Type 0} (ns : List Node) (known : HashMap PatternNumber PatternNumber Z) → IsEmpty known → AreRestsOf ns known

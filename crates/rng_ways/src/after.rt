@@ -19,9 +19,9 @@ ghost use Rattle.rng_ways.specs.declared.way.Kind.TheVariants as kinds;
 ghost use Rattle.rng_ways.specs.declared.way.First.TheVariants as firsts;
 
 use crate::by_key::ways_by_key;
+use crate::closing::close;
 use crate::known::Known;
 use crate::leaves::{rest_of_leaf, takes_kind};
-use crate::rests::rest_of_tag;
 use crate::spans::add_spans;
 use crate::starting::number_at;
 use crate::texts::is_excepted;
@@ -179,7 +179,7 @@ pub fn after_tag(
             rest,
         )?;
     }
-    rest_of_tag(alloc, table, &mut known.rests, rest)
+    close(alloc, table, &mut known.rests, rest)
 }
 
 /// What is left of a pattern once this has come first.

@@ -1,8 +1,13 @@
 // Patterns once all attributes of a tag are taken.
-ghost use Rattle.std.specs.Prelude.{◌<◌, IfOk, OnOk, length};
+ghost use Rattle.std.specs.Prelude.{◌≡◌, ◌<◌, IfOk, OnOk, length, true};
+ghost use Rattle.rng_model.specs.Table.{Table};
 ghost use Rattle.rng_patterns.specs.PatternTable.{Longer};
+ghost use Rattle.rng_patterns.specs.Reduced.{has_attribute};
+ghost use Rattle.rng_patterns.specs.Trees.{tree_of};
 ghost use Rattle.rng_ways.specs.Closing.{IsChoice, IsClosed};
+ghost use Rattle.rng_ways.specs.KnownRests.{AreRestsOf};
 
+use crate::rests::{KnownRests, keep_rest, known_rest};
 use crate::ways::copied;
 use rng_model::OutOfMemory;
 use rng_patterns::{Pattern, PatternNumber, PatternTable};
@@ -10,38 +15,64 @@ use std::alloc::Global;
 
 /// What is left of a pattern once all attributes of a tag are taken: no attribute may be wanted any more.
 ///
-/// RELAX NG Specification, section 6.2. The error is want of memory. Costs a walk over the parts in which an attribute
-/// stands.
+/// RELAX NG Specification, section 6.2. The error is want of memory. It is worked out once for each part in which an attribute
+/// stands, however often that part stands in others, and then kept.
 #[cycle(closing)]
 pub fn close(
     alloc: Global,
     table: &mut PatternTable,
+    known: &mut KnownRests,
     number: PatternNumber,
 ) -> Result<PatternNumber, OutOfMemory>
-    requires { number.0 < length table.old }
+    requires inside { number.0 < length table.old }
+    requires known { AreRestsOf table.old known.old }
     ensures longer { OnOk result (Longer table.old table.new) }
+    ensures known { OnOk result (AreRestsOf table.new known.new) }
     ensures closed { IfOk result (IsClosed table.old table.new number) }
 {
     if !table.facts(number).attributes {
         return Ok(number);
     }
+    if let Some(rest) = known_rest(known, number) {
+        return Ok(rest);
+    }
+    let rest = close_parts(alloc, table, known, number)?;
+    keep_rest(known, number, rest)?;
+    Ok(rest)
+}
+
+/// The same of a pattern in which an attribute stands, of what is left of its parts.
+#[cycle(closing)]
+fn close_parts(
+    alloc: Global,
+    table: &mut PatternTable,
+    known: &mut KnownRests,
+    number: PatternNumber,
+) -> Result<PatternNumber, OutOfMemory>
+    requires inside { number.0 < length table.old }
+    requires known { AreRestsOf table.old known.old }
+    requires attribute { (t : Table) → has_attribute (tree_of t table.old number.0) ≡ true }
+    ensures longer { OnOk result (Longer table.old table.new) }
+    ensures known { OnOk result (AreRestsOf table.new known.new) }
+    ensures closed { IfOk result (IsClosed table.old table.new number) }
+{
     match table.pattern(number) {
-        Pattern::Choice(_) => close_choice(alloc, table, number),
+        Pattern::Choice(_) => close_choice(alloc, table, known, number),
         Pattern::Group(first, second) => {
             let (first, second) = (*first, *second);
-            let first = close(alloc, table, first)?;
-            let second = close(alloc, table, second)?;
+            let first = close(alloc, table, known, first)?;
+            let second = close(alloc, table, known, second)?;
             table.group(first, second)
         }
         Pattern::Interleave(first, second) => {
             let (first, second) = (*first, *second);
-            let first = close(alloc, table, first)?;
-            let second = close(alloc, table, second)?;
+            let first = close(alloc, table, known, first)?;
+            let second = close(alloc, table, known, second)?;
             table.interleave(first, second)
         }
         Pattern::OneOrMore(body) => {
             let body = *body;
-            let body = close(alloc, table, body)?;
+            let body = close(alloc, table, known, body)?;
             table.one_or_more(body)
         }
         _ => table.not_allowed(),
@@ -53,11 +84,14 @@ pub fn close(
 fn close_choice(
     alloc: Global,
     table: &mut PatternTable,
+    known: &mut KnownRests,
     number: PatternNumber,
 ) -> Result<PatternNumber, OutOfMemory>
     requires inside { number.0 < length table.old }
+    requires known { AreRestsOf table.old known.old }
     requires choice { IsChoice table.old number.0 }
     ensures longer { OnOk result (Longer table.old table.new) }
+    ensures known { OnOk result (AreRestsOf table.new known.new) }
     ensures closed { IfOk result (IsClosed table.old table.new number) }
 {
     let Pattern::Choice(members) = table.pattern(number) else {
@@ -66,7 +100,7 @@ fn close_choice(
     let members = copied(alloc, members.as_slice())?;
     let mut closed = Vec::new(alloc);
     'members: for member in &members {
-        closed.push(close(alloc, table, *member)?)?;
+        closed.push(close(alloc, table, known, *member)?)?;
     }
     table.choice(alloc, closed.as_slice())
 }

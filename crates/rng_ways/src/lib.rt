@@ -21,7 +21,6 @@ mod way;
 mod ways;
 
 pub use after::{after_tag, after_text};
-pub use closing::close;
 pub use known::{Known, KnownWays};
 pub use starting::start;
 pub use way::{Way, Ways};

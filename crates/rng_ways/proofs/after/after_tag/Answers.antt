@@ -17,13 +17,13 @@ attrs-preserved c = record {
   known = c.in_ok-rest.ensures.known;
 }
 
-pub rest_of_tag-requires-clause-known : goal.rest_of_tag-requires-clause-known
-rest_of_tag-requires-clause-known c = c.attrs.invariant.known.rests
+pub close-requires-clause-known : goal.close-requires-clause-known
+close-requires-clause-known c = c.attrs.invariant.known.rests
 
 pub returns-clause-after : goal.returns-clause-after
 returns-clause-after c =
-    if_ok c.rest_of_tag.result _ _ (λ n h. tag_behind c.args.grammar.now c.args.table.now c.attrs.table c.rest_of_tag.new.table c.args.attrs.now
-    c.attrs.attr-index c.args.number c.attrs.rest n c.attrs-test.false c.attrs.invariant.behind h) c.rest_of_tag.ensures.closed
+    if_ok c.close.result _ _ (λ n h. tag_behind c.args.grammar.now c.args.table.now c.attrs.table c.close.new.table c.args.attrs.now
+    c.attrs.attr-index c.args.number c.attrs.rest n c.attrs-test.false c.attrs.invariant.behind h) c.close.ensures.closed
 
 pub after-requires-clause-known : goal.after-requires-clause-known
 after-requires-clause-known c = c.attrs.invariant.known
@@ -32,8 +32,8 @@ pub returns-clause-known : goal.returns-clause-known
 returns-clause-known c =
     let t = c.args.grammar.now in
     let known = c.attrs.known in
-    if_ok c.rest_of_tag.result _ _ (λ n h.
-    let more = all_longer t c.args.keys.now c.attrs.table c.rest_of_tag.new.table h.0 known c.attrs.invariant.known in record {
+    if_ok c.close.result _ _ (λ n h.
+    let more = all_longer t c.args.keys.now c.attrs.table c.close.new.table h.0 known c.attrs.invariant.known in record {
       serve = more.serve;
       texts = more.texts;
       elements = more.elements;
@@ -43,4 +43,4 @@ returns-clause-known c =
       attribute_takers = more.attribute_takers;
       spans = more.spans;
       datatypes = more.datatypes;
-    }) (both_ok c.rest_of_tag.result _ _ c.rest_of_tag.ensures.longer c.rest_of_tag.ensures.known)
+    }) (both_ok c.close.result _ _ c.close.ensures.longer c.close.ensures.known)

@@ -10,17 +10,22 @@ use Rattle.rng_patterns.specs.Choices.{SomeTakes}
 use Rattle.rng_patterns.specs.PatternTable.{Longer}
 use Rattle.rng_patterns.specs.Trees.{tree_of}
 use Rattle.rng_ways.specs.Closing.{IsBareOfAttributes}
+use Rattle.rng_ways.specs.KnownRests.{AreRestsOf}
 use Rattle.rng_ways.proofs.closing.+closing.Given as goal
 
 abbrev pub decreases-close : goal.decreases-close
-decreases-close l = 2 * l.number.0 + 1
+decreases-close l = 3 * l.number.0 + 2
+
+abbrev pub decreases-close_parts : goal.decreases-close_parts
+decreases-close_parts l = 3 * l.number.0 + 1
 
 abbrev pub decreases-close_choice : goal.decreases-close_choice
-decreases-close_choice l = 2 * l.number.0
+decreases-close_choice l = 3 * l.number.0
 
 abbrev pub invariant-close_choice-members : goal.invariant-close_choice-members
 invariant-close_choice-members l = record {
   longer : Longer l.fn.table l.table;
+  known : AreRestsOf l.table l.known;
   inside : All (λ m. m.0 < length l.table) l.closed.items;
   takes : (t : Table) (g : Reading) (xs : List Attribute) (ns : List Item) → SomeTakes g (tree_of t l.table) l.closed.items xs ns
       ↔ Takes g (choice_all (map (λ m. closed (tree_of t l.fn.table m.0)) (take l.member-index l.member-items))) xs ns;
