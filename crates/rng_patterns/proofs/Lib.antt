@@ -1,6 +1,7 @@
 pub mod Trees
 mod EqualPatterns
 pub mod KnownFacts
+pub mod Subsequences
 mod Rows
 mod Putting
 mod PatternKinds
