@@ -7,8 +7,9 @@ mod Putting
 mod PatternKinds
 pub mod Choices
 pub mod Alternatives
-mod Absorbing
+mod Absorbed
 mod WiderParts
+mod AbsorbedSides
 mod OnlyMember
 mod Contents
 mod Keeping
