@@ -1,4 +1,4 @@
-// Which patterns match all that one of their sides matches.
+// Which patterns match all that a side of theirs matches.
 ghost use Rattle.std.specs.Prelude.{◌<◌, All, IfOk, IsTrue, List, OnOk, length, nat_eq};
 ghost use Rattle.std.specs.HashSet.{contains};
 ghost use Rattle.std.specs.List.{Contains};
@@ -16,7 +16,7 @@ use std::alloc::Global;
 use std::collections::HashSet;
 
 impl PatternTable {
-    /// Takes those away that another absorbs. The time is linear in their number and that of the members of their sides.
+    /// Takes those away that another absorbs. Takes a pass over them and over the members of their sides.
     pub(crate) fn remove_absorbed(
         &self,
         alloc: Global,
@@ -55,7 +55,7 @@ impl PatternTable {
         Ok(absorbed)
     }
 
-    /// Adds what the pattern absorbs: of a group or an interleave each side beside one that may be left out.
+    /// Adds what the pattern absorbs: of a group or an interleave each side, where the other one may be left out.
     fn add_absorbed(
         &self,
         pattern: PatternNumber,
@@ -73,7 +73,8 @@ impl PatternTable {
         }
     }
 
-    /// Adds a side where the other one may be left out, or, where the side is a choice, its members.
+    /// Adds one side of two, where the other one may be left out. Of a choice it adds the members, since no alternative is a
+    /// choice.
     fn add_side(
         &self,
         side: PatternNumber,

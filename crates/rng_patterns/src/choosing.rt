@@ -21,12 +21,12 @@ use std::alloc::Global;
 
 impl PatternTable {
     /// A choice of the members; of none it is notAllowed, and of one that one. The order of members, and how often each
-    /// is there, make no difference. A side of a group or an interleave is left out beside it where the other side may be left
-    /// out, and of two alternatives one that the other one covers: as `a & c` beside `a & b? & c`, and each of them in front
-    /// of the same.
+    /// is there, make no difference. A side of a group or an interleave is left out beside the whole where the other side may be
+    /// left out, as `q` beside `p?, q`; so is each member of such a side. Of two alternatives one is left out that the other
+    /// one covers: as `a & c` beside `a & b? & c`, and each of them in front of the same.
     ///
     /// RELAX NG Specification, sections 6.2.1 and 4.20. It obeys the restrictions of section 7 where all members do. The
-    /// error is want of memory. Costs a sort of all alternatives and a pass over those of their sides, or one pass over the
+    /// error is want of memory. Costs a sort of all alternatives and a pass over the members of their sides, or one pass over the
     /// members where no two of them differ that are not notAllowed; two alternatives are gone through once more.
     pub fn choice(
         &mut self,
