@@ -1,15 +1,15 @@
 -- What is known of a pattern, from what is known of its parts.
-use Rattle.std.proofs.Common.{◌≡◌, ℕ, ◌+◌, ◌<◌, ◌≤◌, All, length, take, get_or, arith, subst, refl, ap, ap₂, sym, ◌∙◌, Bool, true, false, ◌||◌, List}
+use Rattle.std.proofs.Common.{◌≡◌, ℕ, ◌+◌, ◌<◌, ◌≤◌, All, length, take, get_or, arith, subst, refl, ap, ap₂, sym, ◌∙◌, Bool, true, false, ◌&&◌, ◌||◌, List}
 use Rattle.std.proofs.Common.{◌^◌, [], ◌∷◌, ◌++◌, map, Option, Some, None, inl, inr}
-use Rattle.std.specs.List.{list_any}
+use Rattle.std.specs.List.{list_all, list_any}
 use Rattle.std.proofs.lemmas.List.{get_or-map, length-map, take_all, take_more}
-use Rattle.std.proofs.lemmas.List.Folds.{list_any_more}
+use Rattle.std.proofs.lemmas.List.Folds.{list_all_more, list_any_more}
 use Rattle.rng_model.specs.Tree as tree
 use Rattle.rng_model.specs.Table.{Table}
 use Rattle.rng_model.specs.declared.simple.Simple.{Simple}
 use Rattle.rng_model.specs.declared.simple.Simple.TheVariants as simple
 use Rattle.rng_matching.specs.Derivatives.{is_nullable}
-use Rattle.rng_patterns.specs.Facts.{HasElement, IsWithin, elements_of, joined_spans, members_of, no_span, one_span}
+use Rattle.rng_patterns.specs.Facts.{HasElement, IsWithin, elements_of, has_subsequences, joined_spans, members_of, no_span, one_span}
 use Rattle.rng_patterns.specs.PatternTable.{facts_of}
 use Rattle.rng_patterns.specs.Reduced.{has_attribute}
 use Rattle.rng_patterns.specs.Trees.{attribute_found, data_found, choice_over}
@@ -33,10 +33,24 @@ choice_attributes f [] = refl
 choice_attributes f (m ∷ []) = or_none (has_attribute (f m.0))
 choice_attributes f (m ∷ n ∷ ms) = ap (λ b. has_attribute (f m.0) || b) (choice_attributes f (n ∷ ms))
 
+and_all : (b : Bool) → (b && true) ≡ b
+and_all true = refl
+and_all false = refl
+
+pub choice_subsequences : (f : ℕ → tree.Simple ℕ) (ms : List PatternNumber)
+    → list_all (λ m. has_subsequences (f m.0)) ms ≡ has_subsequences (choice_over f (map (λ m. m.0) ms))
+choice_subsequences f [] = refl
+choice_subsequences f (m ∷ []) = and_all (has_subsequences (f m.0))
+choice_subsequences f (m ∷ n ∷ ms) = ap (λ b. has_subsequences (f m.0) && b) (choice_subsequences f (n ∷ ms))
+
 -- one more member
 pub member_more : (test : PatternNumber → Bool) (ms : List PatternNumber) (i : ℕ) (d : PatternNumber) (known fact : Bool) → i < length ms
     → known ≡ list_any test (take i ms) → fact ≡ test (get_or ms i d) → (known || fact) ≡ list_any test (take (i + 1) ms)
 member_more test ms i d known fact inside e f = ap₂ (λ a b. a || b) e f ∙ sym (list_any_more test ms i d inside)
+
+pub all_more : (test : PatternNumber → Bool) (ms : List PatternNumber) (i : ℕ) (d : PatternNumber) (known fact : Bool) → i < length ms
+    → known ≡ list_all test (take i ms) → fact ≡ test (get_or ms i d) → (known && fact) ≡ list_all test (take (i + 1) ms)
+all_more test ms i d known fact inside e f = ap₂ (λ a b. a && b) e f ∙ sym (list_all_more test ms i d inside)
 
 -- the elements of the members
 abbrev pub elements_among : (ℕ → tree.Simple ℕ) → List PatternNumber → Span
@@ -92,17 +106,21 @@ choice_members f (m ∷ n ∷ ms) two = refl
 -- all members
 pub all_members : (f : ℕ → tree.Simple ℕ) (ms : List PatternNumber) (i : ℕ) (known : Facts) → 2 ≤ length ms → length ms ≤ i
     → known.nullable ≡ list_any (λ m. is_nullable (f m.0)) (take i ms) → known.attributes ≡ list_any (λ m. has_attribute (f m.0)) (take i ms)
-    → known.elements ≡ elements_among f (take i ms) → known.members ≡ 1 → known ≡ facts_of (choice_over f (map (λ m. m.0) ms))
-all_members f ms i known two over n a e o =
+    → known.subsequences ≡ list_all (λ m. has_subsequences (f m.0)) (take i ms) → known.elements ≡ elements_among f (take i ms) → known.members ≡ 1
+    → known ≡ facts_of (choice_over f (map (λ m. m.0) ms))
+all_members f ms i known two over n a s e o =
     let all = take_all i ms over in
     same_facts known _ (n ∙ ap (list_any (λ m. is_nullable (f m.0))) all ∙ choice_nullable f ms)
     (a ∙ ap (list_any (λ m. has_attribute (f m.0))) all ∙ choice_attributes f ms)
+    (s ∙ ap (list_all (λ m. has_subsequences (f m.0))) all ∙ choice_subsequences f ms)
     (e ∙ ap (elements_among f) all ∙ choice_elements f ms) (o ∙ sym (choice_members f ms two))
   where
-    same_facts : (a b : Facts) → a.nullable ≡ b.nullable → a.attributes ≡ b.attributes → a.elements ≡ b.elements → a.members ≡ b.members → a ≡ b
-    same_facts a b n o e m =
-        ap₂ (λ x y. record { nullable = x; attributes = y; elements = a.elements; members = a.members }) n o
-        ∙ ap₂ (λ x y. record { nullable = b.nullable; attributes = b.attributes; elements = x; members = y }) e m
+    same_facts : (a b : Facts) → a.nullable ≡ b.nullable → a.attributes ≡ b.attributes → a.subsequences ≡ b.subsequences → a.elements ≡ b.elements
+        → a.members ≡ b.members → a ≡ b
+    same_facts a b n o s e m =
+        ap₂ (λ x y. record { nullable = x; attributes = y; subsequences = a.subsequences; elements = a.elements; members = a.members }) n o
+        ∙ ap (λ x. record { nullable = b.nullable; attributes = b.attributes; subsequences = x; elements = a.elements; members = a.members }) s
+        ∙ ap₂ (λ x y. record { nullable = b.nullable; attributes = b.attributes; subsequences = b.subsequences; elements = x; members = y }) e m
 
 -- an element that stands in the tree is within those that are known
 pub one_within : (k : ℕ) → IsWithin (one_span k) k
@@ -137,6 +155,7 @@ of_members P ms all k d inside =
 pub attribute_known : (t : Table) (o : Option Simple) → facts_of (attribute_found t o) ≡ record {
   nullable = false;
   attributes = true;
+  subsequences = true;
   elements = no_span;
   members = 1;
 }
@@ -158,6 +177,7 @@ attribute_known t (Some (simple.Choice a b)) = refl
 pub data_known : (t : Table) (o : Option Simple) → facts_of (data_found t o) ≡ record {
   nullable = false;
   attributes = false;
+  subsequences = true;
   elements = no_span;
   members = 1;
 }

@@ -1,13 +1,15 @@
 pub mod Trees
 mod EqualPatterns
 pub mod KnownFacts
+pub mod Subsequences
 mod Rows
 mod Putting
 mod PatternKinds
 pub mod Choices
 pub mod Alternatives
-mod Absorbing
+mod Absorbed
 mod WiderParts
+mod AbsorbedSides
 mod OnlyMember
 mod Contents
 mod Keeping

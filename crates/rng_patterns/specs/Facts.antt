@@ -1,7 +1,13 @@
--- What is known of a tree: which elements stand in it, and how many patterns an interleave joins.
-use Rattle.std.specs.Prelude.{◌≡◌, ◌⊎◌, ◌≤◌, ℕ, ◌+◌, ◌-◌, ◌^◌, min, max}
+-- What is known of a tree: which elements stand in it, how many patterns an interleave joins, and whether it takes the
+-- subsequences of what it takes.
+use Rattle.std.specs.Prelude.{◌≡◌, ◌⊎◌, ◌≤◌, ◌&&◌, ℕ, ◌+◌, ◌-◌, ◌^◌, List, ◌∷◌, Bool, true, min, max}
+use Rattle.rng_model.specs.Document.{Attribute, Item}
 use Rattle.rng_model.specs.Tree.{Simple, choice, group, interleave, s_not_allowed, s_empty, s_text, s_leaf, s_attribute, s_list, s_data}
 use Rattle.rng_model.specs.Tree.{s_data_except, s_value, s_one_or_more, s_joined}
+use Rattle.rng_matching.specs.Blanks.{IsBare}
+use Rattle.rng_matching.specs.Derivatives.{is_nullable}
+use Rattle.rng_matching.specs.Reading.{Reading}
+use Rattle.rng_matching.specs.Taking.{Takes}
 use Rattle.rng_patterns.specs.declared.pattern.Span.{Span}
 
 -- the element of this number stands in the tree, outside attributes, lists and excepts
@@ -65,3 +71,24 @@ members_of (s_one_or_more p) = 1
 members_of (s_joined choice p q) = 1
 members_of (s_joined group p q) = 1
 members_of (s_joined interleave p q) = min (members_of p + members_of q) (2 ^ 16 - 1)
+
+-- as its shape tells: with each sequence of items that the tree takes it takes each of its subsequences, but perhaps the
+-- empty one (blank strings about elements left aside)
+abbrev pub has_subsequences : Simple ℕ → Bool
+has_subsequences s_not_allowed = true
+has_subsequences s_empty = true
+has_subsequences s_text = true
+has_subsequences (s_leaf k) = true
+has_subsequences (s_attribute c p) = true
+has_subsequences (s_list p) = true
+has_subsequences (s_data d) = true
+has_subsequences (s_data_except d p) = true
+has_subsequences (s_value d v) = true
+has_subsequences (s_one_or_more p) = has_subsequences p
+has_subsequences (s_joined choice p q) = has_subsequences p && has_subsequences q
+has_subsequences (s_joined group p q) = (is_nullable p && has_subsequences p) && (is_nullable q && has_subsequences q)
+has_subsequences (s_joined interleave p q) = (is_nullable p && has_subsequences p) && (is_nullable q && has_subsequences q)
+
+-- what the tree takes with an item in front it takes without this item; blank strings about elements have gone before
+abbrev pub LosesFirst : Reading → Simple ℕ → Type 0
+LosesFirst g p = (xs : List Attribute) (n : Item) (ns : List Item) → IsBare (n ∷ ns) → Takes g p xs (n ∷ ns) → Takes g p xs ns

@@ -6,7 +6,7 @@ use Rattle.rng_model.specs.Tree.{Simple}
 use Rattle.rng_patterns.specs.Node.{Node, node_of}
 use Rattle.rng_patterns.specs.Node as node
 use Rattle.rng_matching.specs.Derivatives.{is_nullable}
-use Rattle.rng_patterns.specs.Facts.{elements_of, joined_spans, members_of}
+use Rattle.rng_patterns.specs.Facts.{elements_of, has_subsequences, joined_spans, members_of}
 use Rattle.rng_patterns.specs.Reduced.{AreReduced, has_attribute}
 use Rattle.rng_patterns.specs.Trees.{trees, tree_of}
 use Rattle.rng_patterns.specs.declared.pattern.Facts.{Facts}
@@ -44,13 +44,20 @@ IsNew ns n = (i : ℕ) → ¬ (slice_get ns i ≡ Some n)
 
 -- what is known of a tree
 abbrev pub facts_of : Simple ℕ → Facts
-facts_of s = record { nullable = is_nullable s; attributes = has_attribute s; elements = elements_of s; members = members_of s }
+facts_of s = record {
+  nullable = is_nullable s;
+  attributes = has_attribute s;
+  subsequences = has_subsequences s;
+  elements = elements_of s;
+  members = members_of s;
+}
 
 -- what is known of a group or an interleave, from what is known of its sides
 abbrev pub both_facts : Facts → Facts → ℕ → Facts
 both_facts a b members = record {
   nullable = a.nullable && b.nullable;
   attributes = a.attributes || b.attributes;
+  subsequences = (a.nullable && a.subsequences) && (b.nullable && b.subsequences);
   elements = joined_spans a.elements b.elements;
   members = members;
 }

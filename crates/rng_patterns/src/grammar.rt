@@ -57,7 +57,7 @@ impl PatternTable {
             Simple::NotAllowed => self.not_allowed(),
             Simple::Empty => self.empty(),
             Simple::Text => self.number_of(Pattern::Text),
-            Simple::Element(element) => self.number_of(Pattern::Element(*element)),
+            Simple::Element(element) => self.element(*element),
             Simple::Attribute(_, _) => self.number_of(Pattern::Attribute(position)),
             Simple::List(_) | Simple::Data(_) | Simple::DataExcept(_, _) | Simple::Value(_) => {
                 self.number_of(Pattern::Data(position))

@@ -1,7 +1,7 @@
 // Patterns made of others.
 ghost use Rattle.std.specs.Prelude.{◌≡◌, ◌<◌, IfOk, IfSome, IfNone, length};
 ghost use Rattle.rng_model.specs.Table.{Table};
-ghost use Rattle.rng_model.specs.Tree.{Connector, group, interleave, s_joined, s_one_or_more};
+ghost use Rattle.rng_model.specs.Tree.{Connector, group, interleave, s_joined, s_leaf, s_one_or_more};
 ghost use Rattle.rng_matching.specs.Derivatives as tree;
 ghost use Rattle.rng_matching.specs.Derivatives.{joined_of, repeat_of};
 ghost use Rattle.rng_matching.specs.Reading.{Reading};
@@ -12,9 +12,17 @@ ghost use Rattle.rng_patterns.specs.Trees.{tree_of};
 
 use crate::pattern::{Pattern, PatternNumber};
 use crate::pattern_table::PatternTable;
-use rng_model::OutOfMemory;
+use rng_model::{ElementId, OutOfMemory};
 
 impl PatternTable {
+    /// A ref to an element of the grammar. The error is want of memory. Costs one look-up.
+    pub fn element(&mut self, element: ElementId) -> Result<PatternNumber, OutOfMemory>
+        ensures longer { Longer self.old self.new }
+        ensures tree { IfOk result (λ n. Adds self.old self.new n.0 (λ t. s_leaf element.0)) }
+    {
+        self.number_of(Pattern::Element(element))
+    }
+
     /// Whether the pattern is notAllowed as a whole. Takes no memory.
     pub fn is_not_allowed(&self, number: PatternNumber) -> bool
         requires { number.0 < length self.now }

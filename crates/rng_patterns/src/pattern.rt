@@ -36,6 +36,9 @@ pub struct Facts {
     pub nullable: bool,
     /// An attribute stands in it, outside its elements, lists and excepts.
     pub attributes: bool,
+    /// With each sequence of items that it takes it takes each of its subsequences, but perhaps the empty one. Blank strings
+    /// about elements are left aside. No means that it was not found out.
+    pub subsequences: bool,
     /// How many patterns an interleave joins that are no interleaves themselves, or 65,535 where they are more; 1 for another
     /// pattern.
     pub members: u16,

@@ -6,7 +6,7 @@ ghost use Rattle.rng_model.specs.Tree.{s_not_allowed, s_empty};
 ghost use Rattle.rng_matching.specs.Reading.{Reading};
 ghost use Rattle.rng_matching.specs.Taking.{Takes};
 ghost use Rattle.rng_patterns.specs.Node.{node_of};
-ghost use Rattle.rng_patterns.specs.Facts.{HasElement, IsWithin};
+ghost use Rattle.rng_patterns.specs.Facts.{HasElement, IsWithin, LosesFirst};
 ghost use Rattle.rng_patterns.specs.PatternTable.{Adds, ArePartsBelow, IsNew, IsPatternTable, Longer, both_facts, facts_of, nodes_of};
 ghost use Rattle.rng_patterns.specs.Reduced.{AreReduced};
 ghost use Rattle.rng_patterns.specs.Trees.{choice_over, tree_of, tree_over};
@@ -74,6 +74,8 @@ impl PatternTable {
         ensures exact { (t : Table) → result ≡ facts_of (tree_of t self.now number.0) }
         ensures elements { (t : Table) (e : ℕ) → HasElement e (tree_of t self.now number.0) → IsWithin result.elements e }
         ensures nullable { (t : Table) (g : Reading) → IsTrue result.nullable ↔ Takes g (tree_of t self.now number.0) [] [] }
+        ensures subsequences { (t : Table) (g : Reading) → IsTrue result.nullable → IsTrue result.subsequences
+            → LosesFirst g (tree_of t self.now number.0) }
     {
         *row_at(&self.rows, number.0).1
     }
@@ -149,6 +151,7 @@ impl PatternTable {
             let facts = self.facts(*member);
             known.nullable |= facts.nullable;
             known.attributes |= facts.attributes;
+            known.subsequences &= facts.subsequences;
             known.elements = known.elements.joined(facts.elements);
         }
         known
@@ -185,6 +188,7 @@ impl PatternTable {
 const NOTHING_KNOWN: Facts = Facts {
     nullable: false,
     attributes: false,
+    subsequences: true,
     members: 1,
     elements: Span::NONE,
 };
@@ -196,6 +200,10 @@ fn both(first: Facts, second: Facts, members: u16) -> Facts
     Facts {
         nullable: first.nullable && second.nullable,
         attributes: first.attributes || second.attributes,
+        subsequences: first.nullable
+            && first.subsequences
+            && second.nullable
+            && second.subsequences,
         members,
         elements: first.elements.joined(second.elements),
     }

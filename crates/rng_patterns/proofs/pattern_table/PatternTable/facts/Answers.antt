@@ -6,6 +6,7 @@ use Rattle.rng_patterns.specs.declared.pattern.Facts.{Facts}
 use Rattle.rng_matching.proofs.Nullable.{nullable_exact}
 use Rattle.rng_patterns.proofs.KnownFacts.{elements_within}
 use Rattle.rng_patterns.proofs.Rows.{facts_there}
+use Rattle.rng_patterns.proofs.Subsequences.{loses_first}
 use Rattle.rng_patterns.proofs.pattern_table.PatternTable.facts.Goals as goal
 
 pub returns-clause-exact : goal.returns-clause-exact
@@ -20,3 +21,10 @@ returns-clause-nullable c = λ t g.
 pub returns-clause-elements : goal.returns-clause-elements
 returns-clause-elements c = λ t e h.
     subst (λ (f : Facts). IsWithin f.elements e) (sym (returns-clause-exact c t)) (elements_within (tree_of t c.args.self.now c.args.number.0) e h)
+
+pub returns-clause-subsequences : goal.returns-clause-subsequences
+returns-clause-subsequences c = λ t g n s.
+    let exact = returns-clause-exact c t in
+    loses_first g (tree_of t c.args.self.now c.args.number.0)
+    (sym (ap (λ (f : Facts). f.nullable) exact) ∙ n)
+    (sym (ap (λ (f : Facts). f.subsequences) exact) ∙ s)
