@@ -117,7 +117,7 @@ joined_same : (g : Reading) (joint : Joint) (p q : Simple ℕ) → Same g (joine
 joined_same g joints.Group p q = group_of-same g p q
 joined_same g joints.Interleave p q = interleave_of-same g p q
 
-joined_obeys : (joint : Joint) (place : Place) (p q : Simple ℕ) → Obeys place p → Obeys place q → Obeys place (joined_of (connector_of joint) p q)
+pub joined_obeys : (joint : Joint) (place : Place) (p q : Simple ℕ) → Obeys place p → Obeys place q → Obeys place (joined_of (connector_of joint) p q)
 joined_obeys joints.Group place p q h k = group_of-keeps (Obeys place) (Obeys-hereditary place) p q h k
 joined_obeys joints.Interleave place p q h k = interleave_of-keeps (Obeys place) (Obeys-hereditary place) p q h k
 

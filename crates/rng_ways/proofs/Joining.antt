@@ -73,13 +73,13 @@ ways_among f [] v c = absurd (let h = c.1 in omega (arith, h))
 ways_among f (w ∷ ws) v c =
     ⊎_elim (λ e. subst (λ x. Among (way_by f x) (ways_by f (w ∷ ws))) e here) (λ h. there (ways_among f ws v h)) (first_or_later w v ws c)
 
-each_way : (P Q : Simple ℕ → Type 0) (f : ℕ → Simple ℕ) (ws : List Way) → EachWay P Q (ways_by f ws) → (v : Way) → Contains ws v
+pub each_way : (P Q : Simple ℕ → Type 0) (f : ℕ → Simple ℕ) (ws : List Way) → EachWay P Q (ways_by f ws) → (v : Way) → Contains ws v
     → P (f v.leaf.0) × Q (f v.rest.0)
 each_way P Q f [] h v c = absurd (let k = c.1 in omega (arith, k))
 each_way P Q f (w ∷ ws) h v c =
     ⊎_elim (λ e. subst (λ (x : Way). P (f x.leaf.0) × Q (f x.rest.0)) e h.0) (λ k. each_way P Q f ws h.1 v k) (first_or_later w v ws c)
 
-all_ways : (P Q : Simple ℕ → Type 0) (f : ℕ → Simple ℕ) (ws : List Way) → ((v : Way) → Contains ws v → P (f v.leaf.0) × Q (f v.rest.0))
+pub all_ways : (P Q : Simple ℕ → Type 0) (f : ℕ → Simple ℕ) (ws : List Way) → ((v : Way) → Contains ws v → P (f v.leaf.0) × Q (f v.rest.0))
     → EachWay P Q (ways_by f ws)
 all_ways P Q f [] each = tt
 all_ways P Q f (w ∷ ws) each = (

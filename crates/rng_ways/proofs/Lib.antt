@@ -21,3 +21,5 @@ mod Behind
 mod Telling
 mod Pieces
 mod Tags
+mod FewerWays
+mod FewerLaws

@@ -7,3 +7,4 @@ pub mod KnownRests
 pub mod KnownWays
 pub mod Starting
 pub mod After
+pub mod FewerWays

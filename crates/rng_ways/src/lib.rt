@@ -9,6 +9,7 @@ mod after;
 mod by_key;
 mod closing;
 mod datatypes;
+mod fewer_ways;
 mod filling;
 mod known;
 mod leaves;

@@ -10,6 +10,7 @@ ghost use Rattle.rng_ways.specs.Takers.{AreCandidates};
 ghost use Rattle.rng_ways.specs.Ways.{AreWaysOf, IsHoleInside, filled};
 ghost use Rattle.rng_ways.specs.declared.way.Kind as kinds;
 
+use crate::fewer_ways::{repeated_ways, uncovered};
 use crate::filling::{add_filled, joined_ways};
 use crate::known::{KnownWays, copied_ways, keep, known_ways};
 use crate::leaves::{opened, ways_of_leaf};
@@ -230,7 +231,8 @@ fn ways_of_group(
     ways_of_group(alloc, grammar, table, known, candidates, kind, outer, rest)
 }
 
-/// The ways of a group to take an item first: those of its first side, and of the second where the first is nullable.
+/// The ways of a group to take an item first: those of its first side, and where that is nullable those by which the second side
+/// takes more.
 #[cycle(ways)]
 fn item_ways_of_group(
     alloc: Global,
@@ -265,6 +267,7 @@ fn item_ways_of_group(
         return Ok(all);
     }
     let seconds = ways(alloc, grammar, table, known, candidates, kind, second)?;
+    let seconds = uncovered(alloc, table, second, firsts.as_slice(), seconds)?;
     add_filled(alloc, table, Hole::Whole, seconds.as_slice(), &mut all)?;
     Ok(all)
 }
@@ -312,7 +315,8 @@ fn ways_of_both(
     Ok(all)
 }
 
-/// The ways of a oneOrMore, which has this number, with this body: those of a copy, with more copies behind it.
+/// The ways of a oneOrMore, which has this number, with this body: those of a copy, with more copies behind it; behind an
+/// attribute more copies are all that is left.
 #[cycle(ways)]
 fn ways_of_copies(
     alloc: Global,
@@ -336,6 +340,9 @@ fn ways_of_copies(
     let copies = ways(alloc, grammar, table, known, candidates, kind, body)?;
     let empty = table.empty()?;
     let more = table.choice(alloc, &[number, empty])?;
+    if let Kind::Attribute(_) = kind {
+        return repeated_ways(alloc, table, copies.as_slice(), more);
+    }
     let mut all = SmallVec::new(alloc);
     add_filled(
         alloc,

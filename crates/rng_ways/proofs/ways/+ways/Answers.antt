@@ -5,7 +5,7 @@ use Rattle.std.proofs.lemmas.List.{length-map, map-append, take_all}
 use Rattle.std.proofs.Math.Seq.{take-suc}
 use Rattle.rng_model.specs.Tree.{Simple, choice, group, s_joined, s_one_or_more}
 use Rattle.rng_matching.specs.Taking.{Same}
-use Rattle.rng_matching.specs.Derivatives.{group_of, is_nullable}
+use Rattle.rng_matching.specs.Derivatives.{behind, group_of, is_nullable}
 use Rattle.rng_matching.proofs.FreeForms.{choice_all}
 use Rattle.rng_patterns.specs.PatternTable.{Longer}
 use Rattle.rng_patterns.specs.Trees.{choice_over, tree_of}
@@ -16,12 +16,17 @@ use Rattle.rng_patterns.proofs.Taking.{choice_of_two}
 use Rattle.rng_patterns.proofs.Trees.{Longer-length, Longer-trans, tree_stays}
 use Rattle.rng_ways.specs.Kinds.{Obeys, connector_of, reading_of, weight}
 use Rattle.rng_ways.specs.KnownWays.{AreKnown}
-use Rattle.rng_ways.specs.Ways.{AreWaysOf}
+use Rattle.rng_ways.specs.FewerWays.{AreRepeated, AreUncovered}
+use Rattle.rng_ways.specs.Ways.{AreInside, AreWaysOf, StandFor, filled, ways_by}
+use Rattle.rng_ways.specs.declared.way.Hole.TheVariants as holes
+use Rattle.rng_ways.specs.declared.way.Joint.TheVariants as joints
 use Rattle.rng_ways.proofs.Adding.{either_member}
 use Rattle.rng_ways.proofs.Composing.{both_made, copies_made, first_made, group_made, made, member_made, opened_hands_on, opened_same, over_hands_on}
 use Rattle.rng_ways.proofs.Composing.{map_numbers, no_order_between, none_more, over_same, side_law, ways_of_same}
+use Rattle.rng_ways.proofs.FewerLaws.{left_inside, more_copies, repeated_made, uncovered_made}
 use Rattle.rng_ways.proofs.Kept.{Obeys-hereditary, choice_has}
 use Rattle.rng_ways.proofs.KnownWays.{known_longer, known_more, those_known}
+use Rattle.rng_ways.proofs.Offers.{inside_longer}
 use Rattle.rng_ways.proofs.Standing.{appended_stand}
 use Rattle.rng_ways.proofs.Nodes.{is_over, other_single, parts_there, single_alone}
 use Rattle.rng_ways.proofs.AttributeTakers.{candidates_longer}
@@ -205,27 +210,47 @@ item_ways_of_group-ways-requires-2 t c =
       ),
     )
 
+pub item_ways_of_group-uncovered-requires : goal.item_ways_of_group-uncovered-requires
+item_ways_of_group-uncovered-requires t c =
+    let n0 = c.args.table.now in
+    let n1 = c.ways.new.table in
+    let n2 = c.add_filled.new.table in
+    let n3 = c.ways-2.new.table in
+    let longer = Longer-trans n1 n2 n3 c.in_ok-add_filled.ensures.longer c.in_ok-seconds.ensures.longer in
+    let long = Longer-length n0 n3 (Longer-trans n0 n1 n3 c.in_ok-firsts.ensures.longer longer) in
+    let inside = c.requires.second in
+    record {
+      second = omega (arith, inside, long);
+      firsts = inside_longer n1 n3 c.as_slice-2.result.now longer (subst (AreInside n1) (sym c.as_slice-2.ensures) c.in_ok-firsts.ensures.ways.inside);
+    }
+
 pub item_ways_of_group-returns-clause-ways : goal.item_ways_of_group-returns-clause-ways
 item_ways_of_group-returns-clause-ways t c =
     let t0 = c.args.grammar.now in
     let n0 = c.args.table.now in
     let n1 = c.ways.new.table in
     let n2 = c.add_filled.new.table in
+    let n3 = c.ways-2.new.table in
     let p = tree_of t0 n0 c.args.first.0 in
     let q = tree_of t0 n0 c.args.second.0 in
     let longer2 = Longer-trans n0 n1 n2 c.in_ok-firsts.ensures.longer c.in_ok-add_filled.ensures.longer in
+    let longer13 = Longer-trans n1 n2 n3 c.in_ok-add_filled.ensures.longer c.in_ok-seconds.ensures.longer in
     let first_is = ap is_nullable (tree_stays t0 n0 n2 c.args.first.0 longer2 c.requires.first) in
     let told = ap (λ (f : Facts). f.nullable) (c.facts.ensures.exact t0) in
-    let a = subst (AreWaysOf t0 n1 c.args.kind p) (sym c.as_slice.ensures) c.in_ok-firsts.ensures.ways in
-    let n3 = c.ways-2.new.table in
+    let firsts = c.in_ok-firsts.firsts.items in
     let second_is = tree_stays t0 n0 n2 c.args.second.0 longer2 c.requires.second in
     let b = subst (λ q. AreWaysOf t0 n3 c.args.kind q c.in_ok-seconds.seconds.items) second_is c.in_ok-seconds.ensures.ways in
-    group_made t0 n1 n2 n3 c.add_filled-2.new.table c.args.kind c.args.second p q c.as_slice.result.now c.as_slice-2.result.now
-    c.new-all.result.items c.add_filled.new.all.items c.add_filled-2.new.all.items c.requires.kind
-    (sym first_is ∙ sym told ∙ not-false _ c.if-not-facts.false) c.new-all.ensures.items
-    (tree_stays t0 n0 n1 c.args.second.0 c.in_ok-firsts.ensures.longer c.requires.second) a
-    (subst (AreWaysOf t0 n3 c.args.kind q) (sym c.as_slice-2.ensures) b) c.in_ok-seconds.ensures.longer
-    c.in_ok-add_filled.ensures.ways c.in_ok-add_filled-2.ensures.ways
+    let left = subst (AreUncovered n3 c.args.second c.as_slice-2.result.now c.in_ok-seconds.seconds.items) (sym c.as_slice-3.ensures)
+    c.in_ok-seconds-2.ensures in
+    let uncovered = subst (λ ws. AreUncovered n3 c.args.second ws c.in_ok-seconds.seconds.items c.as_slice-3.result.now) c.as_slice-2.ensures left in
+    let some = subst (λ ws. StandFor n2 c.add_filled.new.all.items (λ t. ways_by (tree_of t n1) c.new-all.result.items
+    ++ behind (filled (tree_of t n1) (holes.First joints.Group c.args.second)) (ways_by (tree_of t n1) ws))) c.as_slice.ensures c.in_ok-add_filled.ensures.ways in
+    uncovered_made t0 n1 n3 longer13 c.args.second q firsts c.in_ok-seconds.seconds.items c.as_slice-3.result.now
+    (tree_stays t0 n0 n3 c.args.second.0 (Longer-trans n0 n1 n3 c.in_ok-firsts.ensures.longer longer13) c.requires.second)
+    c.in_ok-firsts.ensures.ways.inside uncovered n2 c.add_filled-2.new.table c.args.kind p c.new-all.result.items c.add_filled.new.all.items
+    c.add_filled-2.new.all.items c.requires.kind (sym first_is ∙ sym told ∙ not-false _ c.if-not-facts.false) c.new-all.ensures.items
+    (tree_stays t0 n0 n1 c.args.second.0 c.in_ok-firsts.ensures.longer c.requires.second) c.in_ok-firsts.ensures.ways b c.in_ok-seconds.ensures.longer
+    some c.in_ok-add_filled-2.ensures.ways
 
 pub ways_of_choice-ways-requires : goal.ways_of_choice-ways-requires
 ways_of_choice-ways-requires t c =
@@ -335,30 +360,82 @@ ways_of_choice-returns-clause-known t c =
 pub ways_of_copies-returns-clause-ways : goal.ways_of_copies-returns-clause-ways
 ways_of_copies-returns-clause-ways t c =
     let t0 = c.args.grammar.now in
-    let g = reading_of t0 in
     let n0 = c.args.table.now in
     let n1 = c.ways.new.table in
     let n2 = c.empty.new.self in
     let n3 = c.choice.new.self in
-    let n4 = c.add_filled.new.table in
     let p = tree_of t0 n0 c.args.body.0 in
-    let copies = tree_of t0 n0 c.args.number.0 in
     let more = c.in_ok-more.more in
     let longer2 = Longer-trans n0 n1 n2 c.in_ok-copies.ensures.longer c.in_ok-empty.ensures.longer in
     let longer13 = Longer-trans n1 n2 n3 c.in_ok-empty.ensures.longer c.in_ok-more.ensures.longer in
-    let number_is = tree_stays t0 n0 n2 c.args.number.0 longer2 c.requires.number ∙ c.requires.copies in
-    let empty_is = c.in_ok-empty.ensures.tree.is t0 in
-    let two = choice_of_two g (tree_of t0 n2) c.args.number c.in_ok-empty.empty (tree_of t0 n3 more.0) (λ xs ns. c.in_ok-more.ensures.matches t0 g xs ns) in
-    let same = subst (λ a. Same g (tree_of t0 n3 more.0) (s_joined choice (s_one_or_more p) a)) empty_is
-    (subst (λ a. Same g (tree_of t0 n3 more.0) (s_joined choice a (tree_of t0 n2 c.in_ok-empty.empty.0))) number_is two) in
+    let copies = more_copies t0 n2 n3 c.args.number c.in_ok-empty.empty more p
+    (tree_stays t0 n0 n2 c.args.number.0 longer2 c.requires.number ∙ c.requires.copies) (c.in_ok-empty.ensures.tree.is t0)
+    (λ g xs ns. c.in_ok-more.ensures.matches t0 g xs ns) (c.in_ok-more.ensures.alternatives t0) in
     let a = side_law t0 n1 n3 c.args.kind p c.in_ok-copies.copies.items longer13 c.in_ok-copies.ensures.ways in
+    let n4 = c.add_filled.new.table in
     subst (λ q. AreWaysOf t0 n4 c.args.kind q c.add_filled.new.all.items) (sym c.requires.copies)
-    (copies_made t0 n3 n4 c.args.kind more p c.as_slice.result.now c.new-all.result.items c.add_filled.new.all.items c.new-all.ensures.items same
-    (λ place o. choice_has (Obeys place) (Obeys-hereditary place) (tree_of t0 n2) (c.args.number ∷ c.in_ok-empty.empty ∷ []) (tree_of t0 n3 more.0)
-    (c.in_ok-more.ensures.alternatives t0)
-    (λ m k. either_member (λ n. Obeys place (tree_of t0 n2 n.0)) c.args.number c.in_ok-empty.empty m (subst (Obeys place) (sym number_is) o)
-    (subst (Obeys place) (sym empty_is) (Obeys-hereditary place).of_empty) k))
-    (subst (AreWaysOf t0 n3 c.args.kind p) (sym c.as_slice.ensures) a) c.in_ok-add_filled.ensures.ways)
+    (copies_made t0 n3 n4 c.args.kind more p c.as_slice-2.result.now c.new-all.result.items c.add_filled.new.all.items c.new-all.ensures.items copies.0 copies.1
+    (subst (AreWaysOf t0 n3 c.args.kind p) (sym c.as_slice-2.ensures) a) c.in_ok-add_filled.ensures.ways)
+
+pub item_ways_of_group-add_filled-requires-2-clause-ways : goal.item_ways_of_group-add_filled-requires-2-clause-ways
+item_ways_of_group-add_filled-requires-2-clause-ways t c =
+    let n3 = c.ways-2.new.table in
+    subst (AreInside n3) (sym c.as_slice-3.ensures)
+    (left_inside n3 c.args.second c.as_slice-2.result.now c.in_ok-seconds.seconds.items c.in_ok-seconds-2.seconds.items c.in_ok-seconds-2.ensures
+    c.in_ok-seconds.ensures.ways.inside)
+
+pub item_ways_of_group-add_filled-requires-2-clause-all : goal.item_ways_of_group-add_filled-requires-2-clause-all
+item_ways_of_group-add_filled-requires-2-clause-all t c =
+    inside_longer c.add_filled.new.table c.ways-2.new.table c.add_filled.new.all.items c.in_ok-seconds.ensures.longer c.in_ok-add_filled.ensures.ways.inside
+
+pub ways_of_copies-returns-in-Attribute-clause-known : goal.ways_of_copies-returns-in-Attribute-clause-known
+ways_of_copies-returns-in-Attribute-clause-known t c =
+    let n1 = c.ways.new.table in
+    let n2 = c.empty.new.self in
+    let n3 = c.choice.new.self in
+    let longer = Longer-trans n1 n2 n3 c.in_ok-empty.ensures.longer c.in_ok-more.ensures.longer in
+    if_ok c.repeated_ways.result _ _ (λ ws h. known_longer c.args.grammar.now n1 n3 c.args.kind longer c.ways.new.known c.in_ok-copies.ensures.known)
+    c.repeated_ways.ensures
+
+pub ways_of_copies-returns-in-Attribute-clause-ways : goal.ways_of_copies-returns-in-Attribute-clause-ways
+ways_of_copies-returns-in-Attribute-clause-ways t c =
+    let t0 = c.args.grammar.now in
+    let n0 = c.args.table.now in
+    let n1 = c.ways.new.table in
+    let n2 = c.empty.new.self in
+    let n3 = c.choice.new.self in
+    let p = tree_of t0 n0 c.args.body.0 in
+    let more = c.in_ok-more.more in
+    let longer2 = Longer-trans n0 n1 n2 c.in_ok-copies.ensures.longer c.in_ok-empty.ensures.longer in
+    let longer13 = Longer-trans n1 n2 n3 c.in_ok-empty.ensures.longer c.in_ok-more.ensures.longer in
+    let copies = more_copies t0 n2 n3 c.args.number c.in_ok-empty.empty more p
+    (tree_stays t0 n0 n2 c.args.number.0 longer2 c.requires.number ∙ c.requires.copies) (c.in_ok-empty.ensures.tree.is t0)
+    (λ g xs ns. c.in_ok-more.ensures.matches t0 g xs ns) (c.in_ok-more.ensures.alternatives t0) in
+    let a = side_law t0 n1 n3 c.args.kind p c.in_ok-copies.copies.items longer13 c.in_ok-copies.ensures.ways in
+    if_ok c.repeated_ways.result _ _ (λ ws h. subst (λ q. AreWaysOf t0 n3 c.args.kind q ws.items) (sym c.requires.copies)
+    (repeated_made t0 n3 c.in_ok-copies.copies.items ws.items more (subst (λ cs. AreRepeated n3 cs more ws.items) c.as_slice.ensures h) c.args.kind _
+    c.in-Attribute.is p c.in_ok-more.ensures.inside copies.0 copies.1 a)) c.repeated_ways.ensures
+
+pub ways_of_copies-repeated_ways-requires : goal.ways_of_copies-repeated_ways-requires
+ways_of_copies-repeated_ways-requires t c =
+    let n1 = c.ways.new.table in
+    let n2 = c.empty.new.self in
+    let n3 = c.choice.new.self in
+    subst (AreInside n3) (sym c.as_slice.ensures) (inside_longer n1 n3 c.in_ok-copies.copies.items
+    (Longer-trans n1 n2 n3 c.in_ok-empty.ensures.longer c.in_ok-more.ensures.longer) c.in_ok-copies.ensures.ways.inside)
+
+pub ways_of_copies-add_filled-requires : goal.ways_of_copies-add_filled-requires
+ways_of_copies-add_filled-requires t c =
+    let n1 = c.ways.new.table in
+    let n2 = c.empty.new.self in
+    let n3 = c.choice.new.self in
+    let none : AreInside n3 [] = λ k d lt. absurd (omega (arith, lt)) in
+    record {
+      hole = c.in_ok-more.ensures.inside;
+      ways = subst (AreInside n3) (sym c.as_slice-2.ensures) (inside_longer n1 n3 c.in_ok-copies.copies.items
+          (Longer-trans n1 n2 n3 c.in_ok-empty.ensures.longer c.in_ok-more.ensures.longer) c.in_ok-copies.ensures.ways.inside);
+      all = subst (AreInside n3) (sym c.new-all.ensures.items) none;
+    }
 
 pub ways_of_group-ways_of_group-requires : goal.ways_of_group-ways_of_group-requires
 ways_of_group-ways_of_group-requires t c =
