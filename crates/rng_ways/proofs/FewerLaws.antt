@@ -1,7 +1,6 @@
 -- Fewer ways are still the ways of a pattern: those of a repetition to take an attribute, and those of a group whose second side takes all
 -- subsequences of what it takes.
-use Rattle.std.proofs.Common.{◌≡◌, ◌↔◌, ◌⊎◌, ◌<◌, inl, inr, ⊎_elim, ℕ, List, [], ◌∷◌, ◌++◌, All, length, refl, sym, ap, subst, true, cond, arith}
-use Rattle.std.specs.List.{Contains}
+use Rattle.std.proofs.Common.{◌≡◌, ◌↔◌, ◌⊎◌, ◌<◌, inl, inr, ⊎_elim, ℕ, List, [], ◌∷◌, ◌++◌, length, refl, sym, ap, subst, true, cond}
 use Rattle.std.proofs.lemmas.List.Elements.{All-contains, All-contains_itself}
 use Rattle.rng_model.specs.Lists.{Among, here, there}
 use Rattle.rng_model.specs.Tree.{Simple, choice, group, s_empty, s_joined, s_one_or_more}
@@ -28,7 +27,7 @@ use Rattle.rng_patterns.specs.Trees.{tree_of}
 use Rattle.rng_patterns.specs.declared.pattern.PatternNumber.{PatternNumber}
 use Rattle.rng_patterns.proofs.Taking.{choice_of_two}
 use Rattle.rng_patterns.proofs.Trees.{tree_stays}
-use Rattle.rng_ways.specs.FewerWays.{AreRepeated, AreUncovered, HasOptionalRest, IsCovered}
+use Rattle.rng_ways.specs.FewerWays.{AreRepeated, AreUncovered, IsCovered}
 use Rattle.rng_ways.specs.Kinds.{IsLeafOf, IsOfItems, Obeys, reading_of}
 use Rattle.rng_ways.specs.Ways.{AreInside, AreKept, AreWays, AreWaysOf, IsInside, StandFor, filled, way_by, ways_by}
 use Rattle.rng_ways.specs.declared.way.Hole.TheVariants as holes

@@ -1,11 +1,10 @@
 -- Ways that others stand in for, way by way.
-use Rattle.std.proofs.Common.{◌≡◌, ◌⊎◌, inl, inr, ⊎_elim, ℕ, List, [], ◌∷◌, ◌++◌, length, refl, sym, ap, subst, arith}
+use Rattle.std.proofs.Common.{inl, inr, ⊎_elim, List, [], ◌∷◌, ◌++◌, refl, sym, ap, subst, arith}
 use Rattle.std.specs.List.{Contains}
 use Rattle.std.proofs.lemmas.List.Elements.{Contains-append_left, Contains-push, Contains-push_cases}
 use Rattle.rng_model.specs.Table.{Table}
 use Rattle.rng_matching.specs.Reading.{Reading}
 use Rattle.rng_matching.specs.Taking.{Takes}
-use Rattle.rng_patterns.specs.Facts.{LosesFirst}
 use Rattle.rng_patterns.specs.Node.{Node}
 use Rattle.rng_patterns.specs.Trees.{tree_of}
 use Rattle.rng_patterns.specs.declared.pattern.PatternNumber.{PatternNumber}

@@ -1,5 +1,5 @@
 -- Ways that others stand in for.
-use Rattle.std.specs.Prelude.{◌≡◌, ◌⊎◌, ℕ, List, []}
+use Rattle.std.specs.Prelude.{◌≡◌, ◌⊎◌, List, []}
 use Rattle.std.specs.List.{Contains}
 use Rattle.rng_model.specs.Table.{Table}
 use Rattle.rng_matching.specs.Reading.{Reading}

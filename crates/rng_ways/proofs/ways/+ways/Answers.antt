@@ -3,8 +3,7 @@ use Rattle.std.proofs.lemmas.Bool.{not-false, not-true}
 use Rattle.std.proofs.Math.ListN.{get_or-map}
 use Rattle.std.proofs.lemmas.List.{length-map, map-append, take_all}
 use Rattle.std.proofs.Math.Seq.{take-suc}
-use Rattle.rng_model.specs.Tree.{Simple, choice, group, s_joined, s_one_or_more}
-use Rattle.rng_matching.specs.Taking.{Same}
+use Rattle.rng_model.specs.Tree.{Simple, group, s_joined}
 use Rattle.rng_matching.specs.Derivatives.{behind, group_of, is_nullable}
 use Rattle.rng_matching.proofs.FreeForms.{choice_all}
 use Rattle.rng_patterns.specs.PatternTable.{Longer}
@@ -12,19 +11,16 @@ use Rattle.rng_patterns.specs.Trees.{choice_over, tree_of}
 use Rattle.rng_patterns.specs.declared.pattern.Facts.{Facts}
 use Rattle.rng_patterns.specs.declared.pattern.PatternNumber.{PatternNumber}
 use Rattle.rng_patterns.proofs.Choices.{if_ok}
-use Rattle.rng_patterns.proofs.Taking.{choice_of_two}
 use Rattle.rng_patterns.proofs.Trees.{Longer-length, Longer-trans, tree_stays}
-use Rattle.rng_ways.specs.Kinds.{Obeys, connector_of, reading_of, weight}
+use Rattle.rng_ways.specs.Kinds.{connector_of, reading_of, weight}
 use Rattle.rng_ways.specs.KnownWays.{AreKnown}
 use Rattle.rng_ways.specs.FewerWays.{AreRepeated, AreUncovered}
 use Rattle.rng_ways.specs.Ways.{AreInside, AreWaysOf, StandFor, filled, ways_by}
 use Rattle.rng_ways.specs.declared.way.Hole.TheVariants as holes
 use Rattle.rng_ways.specs.declared.way.Joint.TheVariants as joints
-use Rattle.rng_ways.proofs.Adding.{either_member}
-use Rattle.rng_ways.proofs.Composing.{both_made, copies_made, first_made, group_made, made, member_made, opened_hands_on, opened_same, over_hands_on}
+use Rattle.rng_ways.proofs.Composing.{both_made, copies_made, first_made, made, member_made, opened_hands_on, opened_same, over_hands_on}
 use Rattle.rng_ways.proofs.Composing.{map_numbers, no_order_between, none_more, over_same, side_law, ways_of_same}
 use Rattle.rng_ways.proofs.FewerLaws.{left_inside, more_copies, repeated_made, uncovered_made}
-use Rattle.rng_ways.proofs.Kept.{Obeys-hereditary, choice_has}
 use Rattle.rng_ways.proofs.KnownWays.{known_longer, known_more, those_known}
 use Rattle.rng_ways.proofs.Offers.{inside_longer}
 use Rattle.rng_ways.proofs.Standing.{appended_stand}
