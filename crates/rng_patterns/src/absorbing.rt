@@ -73,8 +73,8 @@ impl PatternTable {
         }
     }
 
-    /// Adds one side of two, where the other one may be left out. Of a choice it adds the members, since no alternative is a
-    /// choice.
+    /// Adds one side of two, where the other one may be left out, and of a choice the members, once: many alternatives may have
+    /// the same choice as a side.
     fn add_side(
         &self,
         side: PatternNumber,
@@ -88,9 +88,10 @@ impl PatternTable {
         if !self.facts(other).nullable {
             return Ok(());
         }
+        let added = absorbed.insert(side.0)?;
         match self.pattern(side) {
-            Pattern::Choice(members) => add_all(members.as_slice(), absorbed),
-            _ => add_all(&[side], absorbed),
+            Pattern::Choice(members) if added => add_all(members.as_slice(), absorbed),
+            _ => Ok(()),
         }
     }
 }
