@@ -109,7 +109,7 @@ module _ (t : Table) (old new : List Node) (longer : Longer old new) where
 
   pub candidates_longer : (kind : Kind) (c : Candidates) → AreCandidates t old kind c → AreCandidates t new kind c
   candidates_longer kind candidates.Any h = h
-  candidates_longer kind (candidates.Elements takers) h = h
+  candidates_longer kind (candidates.Elements takers alike) h = h
   candidates_longer kind (candidates.Attributes takers spans) h = (h.0, spans_longer spans.now h.1)
 
 -- ---- spans of wholes
@@ -165,6 +165,14 @@ other_none t f (pattern.Element e) h i j k l q has = has
 other_none t f (pattern.Attribute a) h i j k l q has = l a refl
 other_none t f (pattern.Data d) h i j k l q has = string_none (found_string t (slice_get t.patterns d.0)) q has
 
+-- what a list with one more has at a place
+pub pushed_cases : {A : Type 0} (xs : List A) (x : A) (k : ℕ) (s : A) → slice_get (xs ++ x ∷ []) k ≡ Some s
+    → (slice_get xs k ≡ Some s) ⊎ ((k ≡ length xs) × (x ≡ s))
+pushed_cases [] x zero s at = inr (refl, cc)
+pushed_cases [] x (suc k) s at = absurd (cc)
+pushed_cases (y ∷ xs) x zero s at = inl at
+pushed_cases (y ∷ xs) x (suc k) s at = ⊎_elim (λ a. inl a) (λ b. inr (ap suc b.0, b.1)) (pushed_cases xs x k s at)
+
 -- one more span
 pub span_added : (t : Table) (ns : List Node) (spans : List Span) (n : ℕ) (span : Span) → n < length ns → n ≡ length spans
     → AreSpansOf t ns spans → IsSpanOf t (tree_of t ns n) span → AreSpansOf t ns (spans ++ span ∷ [])
@@ -175,13 +183,6 @@ span_added t ns spans n span inside last all own = λ k s at. ⊎_elim
       subst (λ (x : Span). IsSpanOf t (tree_of t ns k) x) new.1 (subst (λ i. IsSpanOf t (tree_of t ns i) span) (last ∙ sym new.0) own),
     ))
     (pushed_cases spans span k s at)
-  where
-    pushed_cases : (xs : List Span) (x : Span) (k : ℕ) (s : Span) → slice_get (xs ++ x ∷ []) k ≡ Some s
-        → (slice_get xs k ≡ Some s) ⊎ ((k ≡ length xs) × (x ≡ s))
-    pushed_cases [] x zero s at = inr (refl, cc)
-    pushed_cases [] x (suc k) s at = absurd (cc)
-    pushed_cases (y ∷ xs) x zero s at = inl at
-    pushed_cases (y ∷ xs) x (suc k) s at = ⊎_elim (λ a. inl a) (λ b. inr (ap suc b.0, b.1)) (pushed_cases xs x k s at)
 
 -- ---- by key
 

@@ -61,12 +61,15 @@ module _ (t : Table) (ns : List Node) (copies all : List Way) (more : PatternNum
       let v = among_ways f all w a in
       let own = h.within v.0 v.1 in
       let copy = own.1 in
-      subst (λ (w : tree.Way). (w.rest ≡ f more.0) × MayBeAll g (ways_by f copies) w.leaf) v.2 (ap (λ (n : PatternNumber). f n.0) own.0, record {
-        way = way_by f copy.way;
-        among = ways_among f copies copy.way copy.contained;
-        same = ap (λ (n : PatternNumber). f n.0) copy.same;
-        ends = copy.optional t g;
-      })
+      subst (λ (w : tree.Way). (w.rest ≡ f more.0) × MayBeAll g (ways_by f copies) w.leaf) v.2 (
+        ap (λ (n : PatternNumber). f n.0) own.0,
+        record {
+          way = way_by f copy.way;
+          among = ways_among f copies copy.way copy.contained;
+          same = ap (λ (n : PatternNumber). f n.0) copy.same;
+          ends = copy.optional t g;
+        },
+      )
 
   repeated_inside : AreInside ns copies → more.0 < length ns → AreInside ns all
   repeated_inside inside below k d lt =

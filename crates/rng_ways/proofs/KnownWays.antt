@@ -149,6 +149,7 @@ all_longer t keys old new longer known all = record {
   attributes = by_key_longer IsAttributeKind t keys old new longer known.attributes all.attributes;
   rests = rests_longer old new longer known.rests all.rests;
   takers = all.takers;
+  alike = all.alike;
   attribute_takers = all.attribute_takers;
   spans = spans_longer t old new longer known.spans.items all.spans;
   datatypes = all.datatypes;

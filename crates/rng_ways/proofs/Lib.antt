@@ -23,3 +23,5 @@ mod Pieces
 mod Tags
 mod FewerWays
 mod FewerLaws
+mod LikeElements
+mod LikeLeaves

@@ -12,6 +12,7 @@ use Rattle.rng_patterns.specs.Node.{Node}
 use Rattle.rng_patterns.specs.Trees.{tree_of}
 use Rattle.rng_patterns.specs.declared.pattern.PatternNumber.{PatternNumber}
 use Rattle.rng_patterns.specs.contracts.pattern.PatternNumberPartialEq.TheImpl as same
+use Rattle.rng_ways.specs.Alike.{AreAlike}
 use Rattle.rng_ways.specs.Datatypes.{AreDatatypesOf}
 use Rattle.rng_ways.specs.KnownRests.{AreRestsOf}
 use Rattle.rng_ways.specs.Takers.{AreAllTold, AreAttributesTold, AreSpansOf}
@@ -65,7 +66,7 @@ abbrev pub AreKnownByKey : {Y Z : Type 0} → (Name → Kind → Type 0) → Tab
 AreKnownByKey Are t keys ns known = (k : NameKey) (kind : Kind) → Are (name_at keys k.0) kind → AreKnownFor t ns kind k known
 
 -- the keys serve, and so are all that are known of strings, of elements and of attributes, what is left once a tag is closed, the elements and the
--- attributes that may have a name, where the attributes of patterns stand, and the datatypes
+-- attributes that may have a name, the elements that take the same, where the attributes of patterns stand, and the datatypes
 pub record AreAllKnown (t : Table) (keys : Keys) (ns : List Node) (known : Known) : Type 0 where
   pub serve : KeysServe t keys
   pub texts : AreKnown t ns kinds.Text known.texts
@@ -73,6 +74,7 @@ pub record AreAllKnown (t : Table) (keys : Keys) (ns : List Node) (known : Known
   pub attributes : AreKnownByKey IsAttributeKind t keys ns known.attributes
   pub rests : AreRestsOf ns known.rests
   pub takers : AreAllTold t keys known.takers
+  pub alike : AreAlike t known.alike.items
   pub attribute_takers : AreAttributesTold t keys known.attribute_takers
   pub spans : AreSpansOf t ns known.spans.items
   pub datatypes : AreDatatypesOf t known.datatypes

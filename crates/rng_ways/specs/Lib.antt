@@ -1,4 +1,5 @@
 pub mod Kinds
+pub mod Alike
 pub mod Takers
 pub mod Ways
 pub mod Datatypes

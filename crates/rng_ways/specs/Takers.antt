@@ -12,6 +12,7 @@ use Rattle.rng_patterns.specs.Facts.{IsWithin, joined_spans}
 use Rattle.rng_patterns.specs.Node.{Node}
 use Rattle.rng_patterns.specs.Trees.{attribute_found, tree_of}
 use Rattle.rng_patterns.specs.declared.pattern.Span.{Span}
+use Rattle.rng_ways.specs.Alike.{AreAlike}
 use Rattle.rng_ways.specs.Kinds.{reading_of, takes_kind}
 use Rattle.rng_ways.specs.declared.takers.Takers.{Takers}
 use Rattle.rng_ways.specs.declared.way.Candidates.{Candidates}
@@ -65,7 +66,7 @@ AreAttributes t kinds.Text takers = ⊥
 -- so it is where anything is known
 abbrev pub AreCandidates : Table → List Node → Kind → Candidates → Type 0
 AreCandidates t ns kind candidates.Any = Unit {0}
-AreCandidates t ns kind (candidates.Elements takers) = AreElements t kind takers
+AreCandidates t ns kind (candidates.Elements takers alike) = AreElements t kind takers × AreAlike t alike.now
 AreCandidates t ns kind (candidates.Attributes takers spans) = AreAttributes t kind takers × AreSpansOf t ns spans.now
 
 -- ---- by key

@@ -7,12 +7,13 @@ ghost use Rattle.rng_patterns.specs.declared.pattern.PatternNumber.{PatternNumbe
 ghost use Rattle.rng_ways.specs.KnownWays.{AreAllKnown, HasKnown};
 ghost use Rattle.rng_ways.specs.declared.way.Way.{Way};
 
+use crate::alike::alike_elements;
 use crate::datatypes::Datatypes;
 use crate::rests::KnownRests;
 use crate::takers::Takers;
 use crate::way::{Way, Ways};
 use rng_keys::{NameKey, NameKeys};
-use rng_model::{OutOfMemory, SimpleGrammar};
+use rng_model::{ElementId, OutOfMemory, SimpleGrammar};
 use rng_patterns::{PatternNumber, Span};
 use smallvec::SmallVec;
 use std::alloc::Global;
@@ -36,6 +37,8 @@ pub struct Known {
     pub(crate) rests: KnownRests,
     /// The elements that may have a name, by its key.
     pub(crate) takers: Takers,
+    /// For each element the first one that takes the same.
+    pub(crate) alike: Vec<ElementId>,
     /// The attributes that may have a name, by its key.
     pub(crate) attribute_takers: Takers,
     /// Between which positions the attributes of patterns are, of the first patterns.
@@ -45,7 +48,7 @@ pub struct Known {
 }
 
 impl Known {
-    /// No ways are known, for a grammar that these keys of names serve. The error is want of memory. Costs a look-up for each element
+    /// No ways are known, for a grammar that these keys of names serve. The error is want of memory. Costs a few look-ups for each element
     /// and each attribute whose name class is one name, and a search for each data and each value.
     pub fn new(alloc: Global, grammar: &SimpleGrammar, keys: &NameKeys) -> Result<Self, OutOfMemory>
         requires { KeysServe grammar.now keys.now }
@@ -53,6 +56,7 @@ impl Known {
     {
         let takers = Takers::of_elements(alloc, grammar, keys)?;
         let attribute_takers = Takers::of_attributes(alloc, grammar, keys)?;
+        let alike = alike_elements(alloc, grammar, keys)?;
         let datatypes = Datatypes::new(alloc, grammar)?;
         Ok(Known {
             texts: HashMap::new(alloc),
@@ -60,6 +64,7 @@ impl Known {
             attributes: HashMap::new(alloc),
             rests: HashMap::new(alloc),
             takers,
+            alike,
             attribute_takers,
             spans: Vec::new(alloc),
             datatypes,

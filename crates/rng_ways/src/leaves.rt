@@ -6,9 +6,12 @@ ghost use Rattle.rng_matching.specs.Reading.{Reading};
 ghost use Rattle.rng_patterns.specs.PatternTable.{Adds, Longer};
 ghost use Rattle.rng_patterns.specs.Trees.{attribute_found, tree_of};
 ghost use Rattle.rng_ways.specs.Kinds.{IsAlone, reading_of, rest_of_leaf, takes_kind};
+ghost use Rattle.rng_ways.specs.Alike.{IsLikeLeaf};
+ghost use Rattle.rng_ways.specs.Takers.{AreCandidates};
 ghost use Rattle.rng_ways.specs.Ways.{AreWaysOf};
+ghost use Rattle.rng_ways.specs.declared.way.Kind as kinds;
 
-use crate::way::{Kind, Way, Ways};
+use crate::way::{Candidates, Kind, Way, Ways};
 use rng_model::{ElementId, OutOfMemory, PatternId, Simple, SimpleGrammar};
 use rng_names::contains;
 use rng_patterns::{Pattern, PatternNumber, PatternTable};
@@ -82,17 +85,19 @@ pub fn rest_of_leaf(
     table.empty()
 }
 
-/// The ways of a pattern that is not joined of others and does not repeat one.
+/// The ways of a pattern that is not joined of others and does not repeat one. Elements that take the same have one leaf.
 pub fn ways_of_leaf(
     alloc: Global,
     grammar: &SimpleGrammar,
     table: &mut PatternTable,
+    candidates: Candidates,
     kind: Kind,
     number: PatternNumber,
 ) -> Result<Ways, OutOfMemory>
     requires inside { number.0 < length table.old }
     requires leaf { IsAlone (tree_of grammar.now table.old number.0) }
-    ensures longer { Longer table.old table.new }
+    requires candidates { AreCandidates grammar.now table.old kind candidates }
+    ensures longer { OnOk result (Longer table.old table.new) }
     ensures ways { IfOk result (λ ws. AreWaysOf grammar.now table.new kind.entry (tree_of grammar.now table.old number.0) ws.items) }
 {
     let mut ways = SmallVec::new(alloc);
@@ -100,8 +105,32 @@ pub fn ways_of_leaf(
         return Ok(ways);
     }
     let rest = rest_of_leaf(table, number)?;
-    ways.push(Way { leaf: number, rest })?;
+    let leaf = like_leaf(table, candidates, number)?;
+    ways.push(Way { leaf, rest })?;
     Ok(ways)
+}
+
+/// The leaf that stands for all that take the same.
+fn like_leaf(
+    table: &mut PatternTable,
+    candidates: Candidates,
+    number: PatternNumber,
+) -> Result<PatternNumber, OutOfMemory>
+    requires { number.0 < length table.old }
+    ensures longer { Longer table.old table.new }
+    ensures leaf { IfOk result (λ leaf. (t : Table) (kind : kinds.Kind) → AreCandidates t table.old kind candidates.entry
+        → IsLikeLeaf t table.old table.new number leaf) }
+{
+    let Candidates::Elements(_, alike) = candidates else {
+        return Ok(number);
+    };
+    let Pattern::Element(element) = table.pattern(number) else {
+        return Ok(number);
+    };
+    match alike.get(element.0) {
+        Some(first) => table.element(*first),
+        None => Ok(number),
+    }
 }
 
 /// The sides of a group, where it is the first of another and that is opened to the right: not where a side that is

@@ -6,6 +6,7 @@
 #![tactic(auto)]
 
 mod after;
+mod alike;
 mod by_key;
 mod closing;
 mod datatypes;

@@ -4,6 +4,7 @@ ghost use Rattle.rng_keys.specs.Keys.{name_at};
 ghost use Rattle.rng_model.specs.View.{name_of};
 ghost use Rattle.rng_patterns.specs.PatternTable.{Longer};
 ghost use Rattle.rng_patterns.specs.Trees.{tree_of};
+ghost use Rattle.rng_ways.specs.Alike.{AreAlike};
 ghost use Rattle.rng_ways.specs.KnownWays.{AreAllKnown, AreKnownByKey, IsElementKind};
 ghost use Rattle.rng_ways.specs.declared.way.Kind.{Kind};
 ghost use Rattle.rng_ways.specs.Ways.{AreInside, AreWaysOf};
@@ -15,7 +16,7 @@ use crate::known::{Known, KnownByKey};
 use crate::leaves::element_takes;
 use crate::way::{Candidates, Kind, Way, Ways};
 use rng_keys::{NameKey, NameKeys};
-use rng_model::{Name, OutOfMemory, PatternId, SimpleGrammar};
+use rng_model::{ElementId, Name, OutOfMemory, PatternId, SimpleGrammar};
 use rng_patterns::{Pattern, PatternNumber, PatternTable, Span};
 use smallvec::SmallVec;
 use std::alloc::Global;
@@ -52,6 +53,7 @@ pub fn start(
         table,
         &mut known.elements,
         takers,
+        known.alike.as_slice(),
         key,
         number,
     )?;
@@ -68,6 +70,7 @@ fn element_ways(
     table: &mut PatternTable,
     known: &mut KnownByKey,
     takers: Span,
+    alike: &[ElementId],
     key: NameKey,
     number: PatternNumber,
 ) -> Result<Ways, OutOfMemory>
@@ -75,6 +78,7 @@ fn element_ways(
     requires key { key.0 < length keys.now.names }
     requires known { AreKnownByKey IsElementKind grammar.now keys.now table.old known.old }
     requires takers { AreOfKey grammar.now keys.now key.0 takers }
+    requires alike { AreAlike grammar.now alike.now }
     ensures longer { OnOk result (Longer table.old table.new) }
     ensures known { OnOk result (AreKnownByKey IsElementKind grammar.now keys.now table.new known.new) }
     ensures ways { IfOk result (λ ws. (kind : Kind) × IsElementKind (name_at keys.now key.0) kind
@@ -87,7 +91,7 @@ fn element_ways(
         table,
         known,
         key,
-        Candidates::Elements(takers),
+        Candidates::Elements(takers, alike),
         Kind::Element(name),
         number,
     )

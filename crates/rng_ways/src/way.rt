@@ -1,5 +1,5 @@
 // Ways to begin.
-use rng_model::{Attr, Name};
+use rng_model::{Attr, ElementId, Name};
 use rng_patterns::{PatternNumber, Span};
 use smallvec::SmallVec;
 
@@ -41,8 +41,9 @@ pub enum Kind<'a> {
 pub enum Candidates<'a> {
     /// Nothing is known.
     Any,
-    /// An element comes first: elements of the grammar with these numbers.
-    Elements(Span),
+    /// An element comes first: elements of the grammar with these numbers. For each element of the grammar there is one that takes
+    /// the same.
+    Elements(Span, &'a [ElementId]),
     /// An attribute comes first: attributes at these positions of the grammar. Where those of a pattern are is told by its
     /// number, of the first patterns of the table.
     Attributes(Span, &'a [Span]),

@@ -67,7 +67,7 @@ fn is_idle(table: &PatternTable, candidates: Candidates, number: PatternNumber) 
 {
     match candidates {
         Candidates::Any => false,
-        Candidates::Elements(own) => !own.may_meet(table.facts(number).elements),
+        Candidates::Elements(own, _) => !own.may_meet(table.facts(number).elements),
         Candidates::Attributes(own, spans) => match spans.get(number.0) {
             Some(span) => !own.may_meet(*span),
             None => false,
@@ -144,7 +144,7 @@ fn new_ways(
             let body = *body;
             ways_of_copies(alloc, grammar, table, known, candidates, kind, number, body)
         }
-        _ => ways_of_leaf(alloc, grammar, table, kind, number),
+        _ => ways_of_leaf(alloc, grammar, table, candidates, kind, number),
     }
 }
 

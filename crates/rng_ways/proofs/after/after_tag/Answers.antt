@@ -40,6 +40,7 @@ returns-clause-known c =
       attributes = more.attributes;
       rests = h.1;
       takers = more.takers;
+      alike = more.alike;
       attribute_takers = more.attribute_takers;
       spans = more.spans;
       datatypes = more.datatypes;

@@ -38,6 +38,7 @@ returns-clause-known c =
           c.key-key.result (kinds.Attribute c.name.result) c.ways_by_key.new.known c.name.ensures.name h.1.0 h.1.1;
       rests = more.rests;
       takers = more.takers;
+      alike = more.alike;
       attribute_takers = more.attribute_takers;
       spans = spans_longer t old new h.0 c.add_spans.new.spans.items (c.in_ok-add_spans.ensures t c.requires.known.spans);
       datatypes = more.datatypes;

@@ -35,6 +35,7 @@ returns-in-Text-clause-known c =
           c.args.known.now.attributes c.requires.known.attributes;
       rests = rests_longer c.args.table.now c.ways.new.table h.0 c.args.known.now.rests c.requires.known.rests;
       takers = c.requires.known.takers;
+      alike = c.requires.known.alike;
       attribute_takers = c.requires.known.attribute_takers;
       spans = spans_longer c.args.grammar.now c.args.table.now c.ways.new.table h.0 c.args.known.now.spans.items c.requires.known.spans;
       datatypes = c.requires.known.datatypes;

@@ -12,9 +12,11 @@ pub ways_by_key-requires-clause-known : goal.ways_by_key-requires-clause-known
 ways_by_key-requires-clause-known c = c.requires.known c.args.key (kinds.Element c.name-name.result) c.name-name.ensures.name
 
 pub ways_by_key-requires-clause-candidates : goal.ways_by_key-requires-clause-candidates
-ways_by_key-requires-clause-candidates c =
-    element_takers c.args.grammar.now c.args.keys.now c.args.key.0 (name_of c.name-name.result.now) c.name-name.ensures.own
-    (kinds.Element c.name-name.result) c.args.takers refl c.requires.takers
+ways_by_key-requires-clause-candidates c = (
+  element_takers c.args.grammar.now c.args.keys.now c.args.key.0 (name_of c.name-name.result.now) c.name-name.ensures.own
+      (kinds.Element c.name-name.result) c.args.takers refl c.requires.takers,
+  c.requires.alike,
+)
 
 pub returns-clause-known : goal.returns-clause-known
 returns-clause-known c =

@@ -1,6 +1,7 @@
 use Rattle.std.proofs.Common.{List, sym, subst}
 use Rattle.rng_keys.specs.Keys.{name_at}
 use Rattle.rng_patterns.specs.Trees.{tree_of}
+use Rattle.rng_ways.specs.Alike.{AreAlike}
 use Rattle.rng_ways.specs.Starting.{AreBodies}
 use Rattle.rng_ways.specs.Takers.{IsTold}
 use Rattle.rng_ways.specs.Ways.{AreInside}
@@ -18,10 +19,13 @@ pub element_ways-requires-clause-takers : goal.element_ways-requires-clause-take
 element_ways-requires-clause-takers c = λ e q is named.
     c.of-takers.ensures e (subst (λ k. IsTold c.args.known.now.takers k e) is (c.requires.known.takers e q named))
 
+pub element_ways-requires-clause-alike : goal.element_ways-requires-clause-alike
+element_ways-requires-clause-alike c = subst (AreAlike c.args.grammar.now) (sym c.as_slice.ensures.value) c.requires.known.alike
+
 pub add_starts-requires : goal.add_starts-requires
 add_starts-requires c = record {
   ready = ready_longer c.args.grammar.now c.args.table.now c.element_ways.new.table c.args.numbers.now c.in_ok-ways.ensures.longer c.requires.ready;
-  ways = subst (AreInside c.element_ways.new.table) (sym c.as_slice.ensures) c.in_ok-ways.ensures.ways.2.inside;
+  ways = subst (AreInside c.element_ways.new.table) (sym c.as_slice-2.ensures) c.in_ok-ways.ensures.ways.2.inside;
   none = c.new-starts.ensures.items;
 }
 
@@ -36,7 +40,7 @@ returns-clause-starts c =
     (element_law t new q p c.in_ok-ways.ways.items told.0 told.1 told.2)
     (λ o. element_kept t new q p c.in_ok-ways.ways.items told.0 told.1 told.2 places.Content o)
     (subst (λ (ws : List numbered.Way). AreBodies t new c.args.numbers.now q ws c.add_starts.new.starts.items)
-    c.as_slice.ensures (subst (λ q. AreBodies t new c.args.numbers.now q c.as_slice.result.now c.add_starts.new.starts.items) c.name-name.ensures.name
+    c.as_slice-2.ensures (subst (λ q. AreBodies t new c.args.numbers.now q c.as_slice-2.result.now c.add_starts.new.starts.items) c.name-name.ensures.name
     c.in_ok-add_starts.ensures.starts))
 
 pub returns-clause-known : goal.returns-clause-known
@@ -52,6 +56,7 @@ returns-clause-known c =
           c.requires.known.attributes;
       rests = rests_longer old new c.in_ok-ways.ensures.longer c.args.known.now.rests c.requires.known.rests;
       takers = c.requires.known.takers;
+      alike = c.requires.known.alike;
       attribute_takers = c.requires.known.attribute_takers;
       spans = spans_longer t old new c.in_ok-ways.ensures.longer c.args.known.now.spans.items c.requires.known.spans;
       datatypes = c.requires.known.datatypes;

@@ -106,6 +106,7 @@ new_ways-ways_of_copies-requires t c =
 pub new_ways-ways_of_leaf-requires : goal.new_ways-ways_of_leaf-requires
 new_ways-ways_of_leaf-requires t c = record {
   inside = c.requires.inside;
+  candidates = c.requires.candidates;
   leaf = single_alone c.args.grammar.now c.args.table.now c.args.number.0 c.pattern.result.now c.pattern.result.now c.pattern.ensures.table
       c.pattern.ensures.found refl
       (other_single c.pattern.result.now c.in_default.not-Choice c.in_default.not-Group c.in_default.not-Interleave c.in_default.not-OneOrMore);
@@ -531,8 +532,8 @@ ways-returns-then-is_idle-clause-ways t c =
 
 pub new_ways-returns-in_default : goal.new_ways-returns-in_default
 new_ways-returns-in_default t c = record {
-  longer = if_ok c.ways_of_leaf.result _ _ (λ ws h. c.ways_of_leaf.ensures.longer) c.ways_of_leaf.ensures.ways;
-  known = if_ok c.ways_of_leaf.result _ _ (λ ws h. known_longer c.args.grammar.now c.args.table.now c.ways_of_leaf.new.table c.args.kind
-      c.ways_of_leaf.ensures.longer c.args.known.now c.requires.known) c.ways_of_leaf.ensures.ways;
+  longer = c.ways_of_leaf.ensures.longer;
+  known = if_ok c.ways_of_leaf.result _ _ (λ ws longer. known_longer c.args.grammar.now c.args.table.now c.ways_of_leaf.new.table c.args.kind
+      longer c.args.known.now c.requires.known) c.ways_of_leaf.ensures.longer;
   ways = c.ways_of_leaf.ensures.ways;
 }

@@ -10,7 +10,7 @@ use Rattle.rng_ways.proofs.ways.is_idle.Goals as goal
 pub returns-in-Elements : goal.returns-in-Elements
 returns-in-Elements c = λ apart t kind among.
     let ns = c.args.table.now in
-    idle_elements t ns (tree_of t ns c.args.number.0) kind c.in-Elements.own (subst (AreCandidates t ns kind) c.in-Elements.is among) (λ e has within.
+    idle_elements t ns (tree_of t ns c.args.number.0) kind c.in-Elements.own (subst (AreCandidates t ns kind) c.in-Elements.is among).0 (λ e has within.
     let met = c.may_meet.ensures e within (c.facts.ensures.elements t e has) in
     let both : true ≡ false = sym met ∙ not-true _ apart in absurd (cc))
 

@@ -13,6 +13,7 @@ returns c = λ t keys old new all. record {
   attributes = none_by_key IsAttributeKind t keys new c.new-3.result c.new-3.ensures.empty;
   rests = no_rests new c.new-4.result c.new-4.ensures.empty;
   takers = all.takers;
+  alike = all.alike;
   attribute_takers = all.attribute_takers;
   spans = no_spans t new c.new-5.result.items c.new-5.ensures.items;
   datatypes = all.datatypes;

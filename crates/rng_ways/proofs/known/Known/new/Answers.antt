@@ -14,6 +14,7 @@ returns c =
       attributes = none_by_key IsAttributeKind t c.args.keys.now ns c.new-4.result c.new-4.ensures.empty;
       rests = no_rests ns c.new-5.result c.new-5.ensures.empty;
       takers = c.in_ok-takers.ensures;
+      alike = c.in_ok-alike.ensures;
       attribute_takers = c.in_ok-attribute_takers.ensures;
       spans = no_spans t ns c.new-6.result.items c.new-6.ensures.items;
       datatypes = c.in_ok-datatypes.ensures;
