@@ -166,7 +166,8 @@ class Programs(InFolder):
     def test_no_schema_and_no_program(self):
         self.assertEqual(self.judge("none.rnc", "--", "good.xml"), ("rncv-xml: rncv: cannot read file none.rnc\n", 4))
         out, _, status = self.run_in(HERE / "rncv-xml", "--rncv", "./none", "s.rnc", "--", "good.xml")
-        self.assertEqual((out, status), ("rncv-xml: No such file or directory: ./none\n", 4))
+        self.assertEqual((out, status), (
+            "rncv-xml: no program ./none: build it (README.md), and name it by --rncv or RNCV, or have it on PATH\n", 4))
 
     def test_a_program_can_be_required(self):
         _, errors, status = self.run_in("env", "RNCV_REQUIRED=1", HERE / "test.sh", "./none")

@@ -125,9 +125,8 @@ class Declarations:
 
     def check_tag(self, place):
         """Refuses a tag of which an attribute refers to an entity that is not declared."""
-        if not self.drops:
-            return
-        for text in self.feed.source():
+        values = ""
+        for text in self.feed.source() if self.drops else ():
             values, is_whole = values_of(text, 0) if text.startswith("<") else ("", True)
             if is_whole:
                 break

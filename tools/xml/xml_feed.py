@@ -110,24 +110,27 @@ class Feed:
 
     def take(self, piece):
         """Hands over a piece, with a seam in it where it goes on with a long comment or instruction."""
-        kind = self.long_kind() if len(self.kept) >= LONG_BYTES else None
-        is_whole = not self.units.startswith("utf-16") or len(self.kept) % 2 == 0
-        seam = SEAMS[self.units].match(piece) if kind and is_whole else None
-        if seam:
-            self.part(piece[:seam.end()], kind)
-            piece = piece[seam.end():]
+        if len(self.kept) >= LONG_BYTES:
+            piece = self.after_seam(piece)
         self.parse(piece, False)
         if len(self.kept) > TOKEN_BYTES:
             raise OutsideProfile(*self.here(), f"markup of more than {TOKEN_BYTES:,} bytes: outside the profile")
 
-    def long_kind(self):
-        """Which kind the unfinished token is, if it may be cut and does not end in what is kept."""
-        for kind in KINDS:
-            opens, closes = (text.encode(self.units) for text in (kind.opens, kind.closes))
-            if self.kept.startswith(opens):
-                target = self.kept[len(opens):len(opens) + 6].decode(self.units, "replace").lower()
-                return None if target.startswith("xml") or self.kept.find(closes, len(opens)) >= 0 else kind
-        return None
+    def after_seam(self, piece):
+        """Cuts the unfinished token at the first place in the piece where that can be, and returns the rest of the piece."""
+        kind = next((kind for kind in KINDS if self.kept.startswith(kind.opens.encode(self.units))), None)
+        is_aligned = self.units == "latin-1" or len(self.kept) % 2 == 0
+        seam = SEAMS[self.units].match(piece) if kind and is_aligned else None
+        if not seam or not self.goes_on(kind, seam[0]):
+            return piece
+        self.part(seam[0], kind)
+        return piece[seam.end():]
+
+    def goes_on(self, kind, data):
+        """Whether the unfinished token has its end neither in what is kept nor in the bytes behind that, and is no declaration `<?xml`."""
+        opens, closes = (text.encode(self.units) for text in (kind.opens, kind.closes))
+        begins = self.kept[len(opens):len(opens) + 6].decode(self.units, "replace").lower()
+        return not begins.startswith("xml") and (self.kept + data).find(closes, len(opens)) < 0
 
     def part(self, piece, kind):
         """Ends the token behind the piece, and opens one of its kind."""
@@ -163,9 +166,9 @@ class Feed:
         return Malformed(*place, f"malformed XML: {text}")
 
     def source(self):
-        """The document's text from the tag on that the parser is at: longer and longer pieces of what is kept."""
+        """The document's text from the tag on that the parser is at: longer and longer pieces of what is kept; none where that has no reference."""
         begin, size = self.parser.CurrentByteIndex - self.begin, 1_024
-        while True:
+        while self.kept.find(b"&", begin) >= 0:
             yield bytes(self.kept[begin:begin + size]).decode(self.encoding, "replace")
             if begin + size >= len(self.kept):
                 return
