@@ -15,7 +15,7 @@ def line_bytes(text):
 def binary(stream, name):
     """The bytes of a standard stream, which may be closed."""
     if stream is None:
-        raise OSError(errno.EBADF, os.strerror(errno.EBADF), name)
+        raise OSError(errno.EBADF, f"{name} is closed")
     return stream.buffer
 
 

@@ -109,6 +109,15 @@ def relative(name):
     return [urllib.parse.unquote_to_bytes(os.fsencode(parts.path))] if is_local else []
 
 
+def handed_in(path):
+    """The name by which a file that is given is handed in: its own. `rncv` takes UTF-8; another name is one that no file can mention."""
+    try:
+        path.decode("utf-8")
+        return path
+    except UnicodeDecodeError:
+        return b"\x01" + path.decode("utf-8", "backslashreplace").encode("utf-8")
+
+
 def target(name, path, given):
     """The file that is mentioned by this name in the file `path`: beside that, or handed in by the name itself; or none."""
     beside = [os.path.join(os.path.dirname(path), each) for each in relative(name)]
@@ -131,16 +140,21 @@ def place_of(path):
     return os.path.join(os.path.realpath(os.path.dirname(path)), os.path.basename(path))
 
 
+def meant(name, file, path):
+    return f"{text_of(name)!r} in {text_of(path)} is {'no file' if file is None else text_of(file)}"
+
+
 def collected(given):
     """The schema of the files that are given, the main one first, and of those that it mentions."""
-    schema = Schema(list(given), {name: name for name in given}, {name: name for name in given})
+    names = [handed_in(path) for path in given]
+    schema = Schema(names, dict(zip(names, given)), dict(zip(names, given)))
     found, read, waiting = {}, {place_of(given[0])}, [given[0]]
     while waiting and len(schema.names) <= COUNT:
         path = waiting.pop(0)
         for name in mentions(path):
             file = target(name, path, given)
             if name in found and not same(found[name][0], file):
-                raise Unclear(f"{text_of(name)!r} is one file in {text_of(found[name][1])}, and another or none in {text_of(path)}")
+                raise Unclear(" and ".join(meant(name, *pair) for pair in (found[name], (file, path))) + ": rncv takes one file for a name")
             if file is not None and place_of(file) not in read:
                 read.add(place_of(file))
                 waiting.append(file)
@@ -166,13 +180,18 @@ def laid_out(schema, top):
     os.makedirs(schema.folder)
     for name, path in schema.paths.items():
         try:
-            link(os.path.join(schema.folder, name), os.path.join(os.getcwdb(), path))
+            link(schema.folder, name, os.path.join(os.getcwdb(), path))
         except OSError:
             raise Unclear(f"{text_of(name)!r} cannot be a name of {text_of(path)} beside the schema's other names") from None
 
 
-def link(name, path):
-    """Makes the name lead to the path, where it does not yet. What is no file needs no link, and a link to a folder would lead out."""
-    if not same(name, path) and not os.path.isdir(path) and os.path.exists(path):
-        os.makedirs(os.path.dirname(name), exist_ok=True)
-        os.symlink(path, name)
+def link(folder, name, path):
+    """Makes the name lead to the path from the folder, where it does not yet. What is no file needs no link; one to a folder would lead out."""
+    at = os.path.join(folder, name)
+    if same(at, path) or os.path.isdir(path) or not os.path.exists(path):
+        return
+    if os.path.isabs(name):
+        raise FileExistsError
+    os.makedirs(os.path.dirname(at), exist_ok=True)
+    if not same(at, path):
+        os.symlink(path, at)
