@@ -60,7 +60,8 @@ class Declarations:
         self.parser, self.feed, self.refuse, self.tell = parser, feed, refuse, tell
         self.entities = Entities()
         self.standalone = self.drops = self.unread = False
-        self.external_dtd, self.attribute_list = (None, None), None
+        self.external_dtd = None, None
+        self.attribute_list = self.attribute_place = None
         parser.SetParamEntityParsing(2)
         parser.StartDoctypeDeclHandler = self.begins
         parser.EndDoctypeDeclHandler = self.ends
@@ -85,9 +86,9 @@ class Declarations:
         if text in ("<!ATTLIST", "<!ENTITY") and self.unread and not self.standalone:
             self.refuse(self.feed.here(), "a declaration behind a parameter entity that is not loaded")
         if text == "<!ATTLIST":
-            self.attribute_list = []
+            self.attribute_list, self.attribute_place = [], self.feed.here()
         elif self.attribute_list is not None and text == ">":
-            self.declared(self.entities.undeclared("".join(self.attribute_list)), self.feed.here())
+            self.declared(self.entities.undeclared("".join(self.attribute_list)), self.attribute_place)
             self.attribute_list = None
         elif self.attribute_list is not None:
             self.attribute_list.append(text)

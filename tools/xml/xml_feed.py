@@ -8,6 +8,7 @@ import xml.parsers.expat
 PIECE_BYTES = 65_536
 LONG_BYTES = 1_048_576
 TOKEN_BYTES = 16_777_216
+MARKS = (codecs.BOM_UTF8, codecs.BOM_UTF16_LE, codecs.BOM_UTF16_BE)
 GOES_ON = "rncv-xml-goes-on"
 BUILT_IN = ("utf-8", "utf-16", "utf-16-be", "utf-16-le", "iso8859-1", "ascii")
 NOT_MALFORMED = ("out of memory", "unknown encoding", "limit on input amplification factor (from DTD and entities) breached")
@@ -81,8 +82,8 @@ class Feed:
         return self.unshifted(self.parser.CurrentLineNumber, self.parser.CurrentColumnNumber)
 
     def unshifted(self, line, column):
-        """The place in the document, without what the seams of long tokens have added to this line."""
-        return line, column + 1 - (self.shift if line == self.shift_line else 0)
+        """The place in the document, without a byte order mark, and without what the seams of long tokens have added to this line."""
+        return line, max(1, column + 1 - (self.shift if line == self.shift_line else 0))
 
     def declared(self, encoding):
         """Takes the encoding that the document declares."""
@@ -100,12 +101,13 @@ class Feed:
         self.parse(b"" if self.units else self.first, True)
 
     def begun(self, piece):
-        """Finds the width of the characters in the first two bytes, which may come one by one."""
+        """Finds the width of the characters in the first bytes, which may come one by one."""
         self.first += piece
-        if len(self.first) < 2:
+        if len(self.first) < 4:
             return b""
         self.units = units_of(self.first)
         self.encoding = "utf-8" if self.units == "latin-1" else self.units
+        self.shift_line, self.shift = 1, int(self.first.startswith(MARKS))
         return self.first
 
     def take(self, piece):
