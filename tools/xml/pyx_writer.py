@@ -75,7 +75,7 @@ class PyxWriter:
         self.place(place, self.told(data[:1], place))
 
     def told(self, kind, place):
-        """Where that begins of which a line of this kind tells: the start behind whose tag it is the first line, else, of a start, the text before it."""
+        """Where that begins of which a line of this kind tells: the start behind whose tag it is the first line, or the text before a start."""
         if kind == b"A":
             return place
         tag, text = self.begun_tag, self.begun_text

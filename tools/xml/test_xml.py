@@ -114,7 +114,7 @@ class Conversion(unittest.TestCase):
                   "try: pyx_writer.convert(Source(), lambda line: None)\n"
                   "except pyx_writer.Malformed: print(resource.getrusage(resource.RUSAGE_SELF).ru_maxrss)\n")
         sizes = [int(subprocess.run([sys.executable, "-c", script, str(HERE), count], capture_output=True, check=True).stdout)
-                 for count in ("10", "100")]
+                 for count in ("5", "50")]
         self.assertLess(sizes[1] - sizes[0], 2_000)
 
 
@@ -126,7 +126,8 @@ class UnreadDtd(unittest.TestCase):
         for encoding, declared in (("utf-8", ""), ("utf-16", ""), ("latin-1", '<?xml version="1.0" encoding="ISO-8859-1"?>\n')):
             with self.subTest(xml=xml, encoding=encoding), self.assertRaises(pyx_writer.OutsideProfile) as fault:
                 pyx((declared + xml).encode(encoding))
-            self.assertEqual((fault.exception.line - bool(declared), fault.exception.column, fault.exception.what), (*place, f"{what}: outside the profile"))
+            found = fault.exception
+            self.assertEqual((found.line - bool(declared), found.column, found.what), (*place, f"{what}: outside the profile"))
 
     def undeclared(self, xml, place, name="ext"):
         self.outside(xml, place, f"entity {name!r} is not declared in the document itself")
@@ -214,7 +215,8 @@ class LongMarkup(unittest.TestCase):
             self.assertLess(time.monotonic() - begun, 4, begin)
 
     def test_limit(self):
-        for begin, unit in (('<a x="', " "), ("<a ", " "), ("<b", "b"), ("<?xml version='1.0' ", " "), ("<!DOCTYPE a [<!ENTITY e '", "x"), ("<a>&", "e")):
+        for begin, unit in (('<a x="', " "), ("<a ", " "), ("<b", "b"), ("<?xml version='1.0' ", " "), ("<!DOCTYPE a [<!ENTITY e '", "x"),
+                            ("<a>&", "e")):
             with self.subTest(begin=begin), self.assertRaisesRegex(pyx_writer.OutsideProfile, "markup of more than 16,777,216 bytes"):
                 pyx((begin + unit * 20_000_000).encode())
 
@@ -296,13 +298,15 @@ class Programs(InFolder):
         self.assertEqual((out, status), (
             "rncv-xml: no program ./none: build it (README.md), and name it by --rncv or RNCV, or have it on PATH\n", 4))
 
-    def shell(self, script, **more):
+    def shell(self, script):
         """A shell's run with both programs and `rncv` at hand: what it prints on both streams, and its status."""
         if not PROGRAM.exists():
             self.skipTest(f"no program at {PROGRAM}")
-        path = os.pathsep.join((str(HERE), os.environ["PATH"]))
-        run = subprocess.run(["bash", "-c", script], cwd=self.folder, stdin=subprocess.DEVNULL, stdout=subprocess.PIPE, stderr=subprocess.STDOUT, timeout=60,
-                             check=False, env={**os.environ, "PATH": path, "RNCV": str(PROGRAM.resolve())}, **more)
+        if not shutil.which("bash"):
+            self.skipTest("bash is not installed")
+        found = {"PATH": os.pathsep.join((str(HERE), os.environ["PATH"])), "RNCV": str(PROGRAM.resolve())}
+        run = subprocess.run(["bash", "-c", script], cwd=self.folder, stdin=subprocess.DEVNULL, stdout=subprocess.PIPE, stderr=subprocess.STDOUT,
+                             timeout=60, check=False, env={**os.environ, **found})
         return run.stdout.decode(), run.returncode
 
     def test_what_an_unread_dtd_could_change(self):
@@ -340,12 +344,13 @@ class Programs(InFolder):
             self.assertEqual(self.judge(b"s\xff.rnc", "--", b"good\xff.xml", env=environment), ("good\\xff.xml: valid\n", 0))
             self.assertEqual(self.judge("s.rnc", "--", b"none\xff.xml", env=environment), ("none\\xff.xml: No such file or directory\n", 4))
             self.assertEqual(self.judge(b"t\xff.rnc", "--", "good.xml", env=environment), ("refused S6 file t\\xff.rnc (docs/LANGUAGE.md)\n", 3))
-            self.assertEqual(self.run_in(HERE / "xml2pyx", b"none\xff.xml", env=environment)[1], "xml2pyx: No such file or directory: none\\xff.xml\n")
+            _, errors, _ = self.run_in(HERE / "xml2pyx", b"none\xff.xml", env=environment)
+            self.assertEqual(errors, "xml2pyx: No such file or directory: none\\xff.xml\n")
 
     def test_standard_input_that_is_not_there(self):
         twice = "-: standard input is named twice, and can be read only once\n"
         self.assertEqual(self.judge("s.rnc", "--", "-", "-", "good.xml", given=b'<a x=""/>'), (f"-: valid\n{twice}good.xml: valid\n", 4))
-        self.assertEqual(self.judge("-j", "3", "s.rnc", "--", "-", "-", given=b"<a/>")[0][-len(twice) - 12:], f"1:1: invalid\n{twice}"[-len(twice) - 12:])
+        self.assertEqual(self.judge("-j", "3", "s.rnc", "--", "-", "-", given=b"<a/>"), (f"-:1:1: invalid\n{twice}", 4))
         self.assertEqual(self.shell("rncv-xml s.rnc -- - good.xml <&-"), ("-: standard input is closed\ngood.xml: valid\n", 4))
         self.assertEqual(self.shell("xml2pyx - <&-"), ("xml2pyx: standard input is closed\n", 4))
 
@@ -365,12 +370,15 @@ class Programs(InFolder):
     def test_interrupt(self):
         if not PROGRAM.exists():
             self.skipTest(f"no program at {PROGRAM}")
-        for words in ((HERE / "rncv-xml", "--rncv", PROGRAM.resolve(), "s.rnc", "--", "good.xml", "-", *["good.xml"] * 9), (HERE / "xml2pyx", "-")):
-            with subprocess.Popen([str(word) for word in words], cwd=self.folder, stdin=subprocess.PIPE, stdout=subprocess.PIPE, stderr=subprocess.PIPE) as run:
-                if len(words) > 2:
+        begun = self.folder / "lines"
+        judging = "rncv-xml", "--rncv", PROGRAM.resolve(), "s.rnc", "--", "good.xml", "-", *["good.xml"] * 9
+        for words in (judging, ("xml2pyx", "-", "--lines", begun)):
+            with subprocess.Popen([HERE / words[0], *words[1:]], cwd=self.folder, stdin=subprocess.PIPE, stdout=subprocess.PIPE,
+                                  stderr=subprocess.PIPE) as run:
+                if words[0] == "rncv-xml":
                     self.assertEqual(run.stdout.readline(), b"good.xml: valid\n")
-                else:
-                    time.sleep(0.5)
+                while words[0] == "xml2pyx" and not begun.exists():
+                    time.sleep(0.01)
                 run.send_signal(signal.SIGINT)
                 self.assertEqual((run.wait(30), run.stdout.read(), run.stderr.read()), (130, b"", b""))
 
@@ -382,20 +390,20 @@ class Programs(InFolder):
     def test_where_the_program_is_looked_for(self):
         if not PROGRAM.exists():
             self.skipTest(f"no program at {PROGRAM}")
-        for place, words in (("path", "$*"), ("variable", "$*"), ("option", "$*"), ("top/crates/rncv/out", "$*")):
+        for place in ("path", "variable", "option", "top/crates/rncv/out"):
             (self.folder / place).mkdir(parents=True)
-            self.write(f"{place}/rncv", f"#!/bin/sh\necho {place} >&2\nexit 4\n".replace(words, ""))
+            self.write(f"{place}/rncv", f"#!/bin/sh\necho {place} >&2\nexit 4\n")
             (self.folder / place / "rncv").chmod(0o755)
         for folder in ("xml", "schema"):
             shutil.copytree(HERE.parent / folder, self.folder / "top/tools" / folder)
-        program, path = self.folder / "top/tools/xml/rncv-xml", str(self.folder / "path") + os.pathsep + os.environ["PATH"]
-        asked = "s.rnc", "--", "good.xml"
-        kept = {name: value for name, value in os.environ.items() if name != "RNCV"}
-        self.assertEqual(self.run_in(program, "--rncv", "option/rncv", *asked, env={**kept, "PATH": path, "RNCV": "variable/rncv"})[0], "rncv-xml: option\n")
-        self.assertEqual(self.run_in(program, *asked, env={**kept, "PATH": path, "RNCV": "variable/rncv"})[0], "rncv-xml: variable\n")
-        self.assertEqual(self.run_in(program, *asked, env={**kept, "PATH": path, "RNCV": ""})[0], "rncv-xml: top/crates/rncv/out\n")
+        program, asked = self.folder / "top/tools/xml/rncv-xml", ("s.rnc", "--", "good.xml")
+        kept = {**os.environ, "RNCV": "", "PATH": str(self.folder / "path") + os.pathsep + os.environ["PATH"]}
+        named = {**kept, "RNCV": "variable/rncv"}
+        self.assertEqual(self.run_in(program, "--rncv", "option/rncv", *asked, env=named)[0], "rncv-xml: option\n")
+        self.assertEqual(self.run_in(program, *asked, env=named)[0], "rncv-xml: variable\n")
+        self.assertEqual(self.run_in(program, *asked, env=kept)[0], "rncv-xml: top/crates/rncv/out\n")
         shutil.rmtree(self.folder / "top/crates")
-        self.assertEqual(self.run_in(program, *asked, env={**kept, "PATH": path})[0], "rncv-xml: path\n")
+        self.assertEqual(self.run_in(program, *asked, env=kept)[0], "rncv-xml: path\n")
         self.assertEqual(self.run_in(sys.executable, program, *asked, env={**kept, "PATH": "/none"})[::2], (
             "rncv-xml: no program rncv: build it (README.md), and name it by --rncv or RNCV, or have it on PATH\n", 4))
 
@@ -469,8 +477,8 @@ class SchemaFiles(InFolder):
         self.assertEqual(self.answer(main), (f"refused {clause}{' file ' + file if file else ''} (docs/LANGUAGE.md)\n", 3))
 
     def test_from_any_folder(self):
-        for folder, main, document in ((".", "sch/main.rnc", "good.xml"), ("sch", "main.rnc", "../good.xml"), ("sch", "../sch/main.rnc", "../good.xml"),
-                                       (".", "./sch/../sch/main.rnc", "good.xml"), ("/", self.folder / "sch/main.rnc", self.folder / "good.xml")):
+        for folder, main, document in ((".", "sch/main.rnc", "good.xml"), ("sch", "main.rnc", "../good.xml"),
+                                       ("sch", "../sch/main.rnc", "../good.xml"), (".", "./sch/../sch/main.rnc", "good.xml"), ("/", self.folder / "sch/main.rnc", self.folder / "good.xml")):
             self.assertEqual(self.judge(main, "--", document, cwd=self.folder / folder), (f"{document}: valid\n", 0))
         self.assertEqual(self.judge("sch/main.rnc", "--", "bad.xml")[1], 1)
         self.assertEqual(self.judge("sch/main.rnc", "--", "-", given=b'<a x=""/>'), ("-: valid\n", 0))
@@ -516,28 +524,31 @@ class SchemaFiles(InFolder):
     def test_names(self):
         self.schema("sch/-b.rnc", self.ELEMENT)
         self.schema("sch/b c/\u00e9.rnc", self.ELEMENT)
-        for mention in ('"-b.rnc"', '"b c/\u00e9.rnc"', '"b%20c/%C3%A9.rnc"', '"b " ~ \'c/\' ~ """\u00e9.rnc"""', r'"\x{62} c/\x{E9}.rnc"', f'"{self.folder}/sch/b.rnc"',
-                        f'"file://{self.folder}/sch/b.rnc"', f'"file://localhost{self.folder}/sch/b%20c/%C3%A9.rnc"', '"./../sch/none/../b.rnc"'):
-            for end in ("start = a", "{ }\nstart = a"):
-                self.schema("sch/top.rnc", f"# c\ninclude {mention} {end}")
-                self.assertEqual(self.answer("sch/top.rnc"), self.VALID, mention)
+        top, encoded = self.folder, "sch/b%20c/%C3%A9.rnc"
+        for mention in ('"-b.rnc"', '"b c/\u00e9.rnc" { }', '"b%20c/%C3%A9.rnc"', '"b " ~ \'c/\' ~ """\u00e9.rnc"""', r'"\x{62} c/\x{E9}.rnc"',
+                        f'"{top}/sch/b.rnc"', f'"file://{top}/sch/b.rnc"', f'"file://localhost{top}/{encoded}"', '"./../sch/none/../b.rnc"'):
+            self.schema("sch/top.rnc", f"# c\ninclude {mention} start = a")
+            self.assertEqual(self.answer("sch/top.rnc"), self.VALID, mention)
         self.schema("sch/e.rnc", "element a { attribute x { text }, (element b { empty } | text) }")
         self.schema("sch/top.rnc", 'start = external "e.rnc"')
         self.assertEqual(self.answer("sch/top.rnc"), self.VALID)
-        self.schema("sch/top.rnc", f'include "{self.folder}/sch/b%20c/%C3%A9.rnc" start = a')
+        self.schema("sch/top.rnc", f'include "{top}/{encoded}" start = a')
         self.assertEqual(self.answer("sch/top.rnc")[1], 4)
         self.assertEqual(sorted(path.name for path in (self.folder / "sch/b c").iterdir()), ["\u00e9.rnc"])
 
     def test_files_that_are_not_there(self):
-        for mention, shown in (("none.rnc", "sch/none.rnc"), ("../none.rnc", "none.rnc"), ("http://example.org/b.rnc", "http://example.org/b.rnc"), ("common", "sch/common"),
-                               ("urn:b.rnc", "urn:b.rnc"), ("file://example.org/b.rnc", "file://example.org/b.rnc"), ("b.rnc/c", "sch/b.rnc/c")):
+        (self.folder / "sch/folder").mkdir()
+        fetched = ((uri, uri) for uri in ("http://example.org/b.rnc", "urn:b.rnc", "file://example.org/b.rnc"))
+        beside = ("none.rnc", "sch/none.rnc"), ("../none.rnc", "none.rnc"), ("folder", "sch/folder"), ("b.rnc/c", "sch/b.rnc/c")
+        for mention, shown in (*beside, *fetched):
             self.schema("sch/top.rnc", f'include "{mention}" start = element a {{ empty }}')
             self.refused("S1", "sch/top.rnc", shown)
         self.assertEqual(self.answer("sch/none.rnc"), ("rncv-xml: rncv: cannot read file sch/none.rnc\n", 4))
         self.assertEqual(self.answer("sch"), ("rncv-xml: rncv: cannot read file sch\n", 4))
 
     def test_what_is_no_mention(self):
-        self.schema("sch/top.rnc", '# include "none.rnc"\n[ include "none.rnc" a = "include" [ external "none.rnc" ] ] include "b.rnc" [ a = "b" ] start = a')
+        annotation = '[ include "none.rnc" a = "include" [ external "none.rnc" ] ]'
+        self.schema("sch/top.rnc", f'# include "none.rnc"\n{annotation} include "b.rnc" [ a = "b" ] start = a')
         self.assertEqual(self.answer("sch/top.rnc"), self.VALID)
         self.schema("sch/top.rnc", r'include "b.rnc" \include = a start = \include | element include { attribute external { xsd:string "include" } }')
         self.assertEqual(self.answer("sch/top.rnc"), self.VALID)
@@ -556,8 +567,9 @@ class SchemaFiles(InFolder):
             for name, mention in texts.items():
                 self.schema(f"sch/{name}.rnc", f'include "{mention}"')
             self.refused("S9", "sch/c.rnc", "")
-        for number in range(66):
-            self.schema(f"sch/n{number}.rnc", f'include "n{number + 1}.rnc"' if number < 65 else "start = element a { attribute x { text }, any }\nany = element b { empty }")
+        for number in range(65):
+            self.schema(f"sch/n{number}.rnc", f'include "n{number + 1}.rnc"')
+        self.schema("sch/n65.rnc", f"start = a {self.ELEMENT}")
         self.refused("S2", "sch/n0.rnc", "sch/n0.rnc")
         self.refused("S2", "sch/n1.rnc", "sch/n1.rnc")
         self.assertEqual(self.answer("sch/n2.rnc"), self.VALID)
