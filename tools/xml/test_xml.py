@@ -477,8 +477,9 @@ class SchemaFiles(InFolder):
         self.assertEqual(self.answer(main), (f"refused {clause}{' file ' + file if file else ''} (docs/LANGUAGE.md)\n", 3))
 
     def test_from_any_folder(self):
-        for folder, main, document in ((".", "sch/main.rnc", "good.xml"), ("sch", "main.rnc", "../good.xml"),
-                                       ("sch", "../sch/main.rnc", "../good.xml"), (".", "./sch/../sch/main.rnc", "good.xml"), ("/", self.folder / "sch/main.rnc", self.folder / "good.xml")):
+        for folder, main, document in (
+                (".", "sch/main.rnc", "good.xml"), ("sch", "main.rnc", "../good.xml"), ("sch", "../sch/main.rnc", "../good.xml"),
+                (".", "./sch/../sch/main.rnc", "good.xml"), ("/", self.folder / "sch/main.rnc", self.folder / "good.xml")):
             self.assertEqual(self.judge(main, "--", document, cwd=self.folder / folder), (f"{document}: valid\n", 0))
         self.assertEqual(self.judge("sch/main.rnc", "--", "bad.xml")[1], 1)
         self.assertEqual(self.judge("sch/main.rnc", "--", "-", given=b'<a x=""/>'), ("-: valid\n", 0))
