@@ -374,7 +374,7 @@ class Programs(InFolder):
         judging = "rncv-xml", "--rncv", PROGRAM.resolve(), "s.rnc", "--", "good.xml", "-", *["good.xml"] * 9
         for words in (judging, ("xml2pyx", "-", "--lines", begun)):
             with subprocess.Popen([HERE / words[0], *words[1:]], cwd=self.folder, stdin=subprocess.PIPE, stdout=subprocess.PIPE,
-                                  stderr=subprocess.PIPE) as run:
+                                  stderr=subprocess.PIPE, preexec_fn=lambda: signal.signal(signal.SIGINT, signal.SIG_DFL)) as run:
                 if words[0] == "rncv-xml":
                     self.assertEqual(run.stdout.readline(), b"good.xml: valid\n")
                 while words[0] == "xml2pyx" and not begun.exists():
