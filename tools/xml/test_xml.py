@@ -170,6 +170,16 @@ class UnreadDtd(unittest.TestCase):
         harmless = '<!-- <!ENTITY e "v"> --><!ELEMENT a ANY><!NOTATION n SYSTEM "<!ENTITY"><?p <!ATTLIST a b CDATA "1"?>'
         self.assertEqual(pyx(f'<!DOCTYPE a [<!ENTITY % p SYSTEM "d">%p;{harmless}]><a/>'.encode())[0][-6:], b"(a\n)a\n")
 
+    def test_entities_that_grow(self):
+        laughs = '<!ENTITY e0 "ha">' + "".join(f'<!ENTITY e{number + 1} "{f"&e{number};" * 20}">' for number in range(9))
+        chain = '<!ENTITY e0 "&ext;">' + "".join(f'<!ENTITY e{number + 1} "&e{number};">' for number in range(20_000))
+        with self.assertRaisesRegex(pyx_writer.OutsideProfile, "not read: limit on input amplification"):
+            pyx(f"<!DOCTYPE a [{laughs}]><a>&e9;</a>".encode())
+        with self.assertRaisesRegex(pyx_writer.OutsideProfile, "entity 'ext' is not declared"):
+            pyx(f'<!DOCTYPE a SYSTEM "d" [{chain}<!ATTLIST a x CDATA "&e20000;">]><a/>'.encode())
+        with self.assertRaisesRegex(pyx_writer.Malformed, "recursive entity reference"):
+            pyx(b'<!DOCTYPE a [<!ENTITY e "&f;"><!ENTITY f "&e;">]><a x="&e;"/>')
+
     def test_a_document_that_stands_alone(self):
         declared = '<?xml version="1.0" standalone="yes"?>'
         subset = '<!ENTITY % p SYSTEM "d">%p;<!ATTLIST a own CDATA "d">'

@@ -4,6 +4,7 @@ Once a document has an external DTD or a reference to a parameter entity, expat 
 behind a parameter entity that is not read it drops declarations.
 """
 import re
+import xml.parsers.expat
 
 PREDEFINED = frozenset(("lt", "gt", "amp", "apos", "quot"))
 REFERENCE = re.compile(r"&([^#;&\s][^;&\s]*);")
@@ -62,7 +63,7 @@ class Declarations:
         self.standalone = self.drops = self.unread = False
         self.external_dtd = None, None
         self.attribute_list = self.attribute_place = None
-        parser.SetParamEntityParsing(2)
+        parser.SetParamEntityParsing(xml.parsers.expat.XML_PARAM_ENTITY_PARSING_ALWAYS)
         parser.StartDoctypeDeclHandler = self.begins
         parser.EndDoctypeDeclHandler = self.ends
         parser.EntityDeclHandler = self.entity
