@@ -109,17 +109,22 @@ def relative(name):
     return [urllib.parse.unquote_to_bytes(os.fsencode(parts.path))] if is_local else []
 
 
+def unmentioned(path):
+    """A name that no file can mention, since it has a character that XML does not have."""
+    return b"\x01" + path.decode("utf-8", "backslashreplace").encode("utf-8")
+
+
 def handed_in(path):
-    """The name by which a file that is given is handed in: its own. `rncv` takes UTF-8; another name is one that no file can mention."""
+    """The name by which a file that is given is handed in: its own, if that is UTF-8, as `rncv` wants it."""
     try:
         path.decode("utf-8")
         return path
     except UnicodeDecodeError:
-        return b"\x01" + path.decode("utf-8", "backslashreplace").encode("utf-8")
+        return unmentioned(path)
 
 
 def target(name, path, given):
-    """The file that is mentioned by this name in the file `path`: beside that, or handed in by the name itself; or none."""
+    """The file that is mentioned by this name in the file `path`: beside that, or given by the name itself; or none."""
     beside = [os.path.join(os.path.dirname(path), each) for each in relative(name)]
     candidates = [each for way in beside for each in (way, os.path.normpath(way)) if is_file(each)]
     candidates += [name] if name in given and kind_of(name) else []
@@ -152,7 +157,7 @@ def collected(given):
     while waiting and len(schema.names) <= COUNT:
         path = waiting.pop(0)
         for name in mentions(path):
-            file = target(name, path, given)
+            file = target(name, path, given[1:])
             if name in found and not same(found[name][0], file):
                 raise Unclear(" and ".join(meant(name, *pair) for pair in (found[name], (file, path))) + ": rncv takes one file for a name")
             if file is not None and place_of(file) not in read:
@@ -165,7 +170,10 @@ def collected(given):
 
 
 def add(schema, name, file, path):
-    """Takes a mentioned file into the schema by its name; of one that is not there only where it was looked for."""
+    """Takes a mentioned file into the schema by its name, which the main file yields; of one that is not there only where it was looked for."""
+    if name == schema.names[0] and file is not None and not same(file, schema.paths[name]):
+        schema.names[0] = unmentioned(name)
+        schema.paths[schema.names[0]], schema.shown[schema.names[0]] = schema.paths.pop(name), schema.shown.pop(name)
     if name not in schema.shown:
         schema.shown[name] = looked_for(name, path)
     if file is not None:

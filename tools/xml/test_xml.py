@@ -517,6 +517,19 @@ class SchemaFiles(InFolder):
         self.schema("sch/y.rnc", "a = element z { empty }")
         self.assertEqual(self.answer("sch/top.rnc"), self.VALID)
 
+    def test_a_file_with_the_name_of_the_main_file(self):
+        self.schema("top.rnc", 'include "low/x.rnc" start = a')
+        self.schema("low/x.rnc", 'include "top.rnc"')
+        self.schema("low/top.rnc", self.ELEMENT)
+        self.assertEqual(self.answer("top.rnc"), self.VALID)
+        self.schema("top.rnc", 'include "low/x.rnc" start =')
+        self.refused("S6", "top.rnc", "top.rnc")
+        self.schema("top.rnc", 'include "low/x.rnc" start = a')
+        self.schema("low/top.rnc", "a =")
+        self.refused("S6", "top.rnc", "low/top.rnc")
+        (self.folder / "low/top.rnc").unlink()
+        self.refused("S9", "top.rnc", "")
+
     def test_no_file_is_taken_for_another(self):
         self.schema("sch/top.rnc", 'include "common/x.rnc" include "y.rnc" start = a')
         self.schema("sch/common/x.rnc", 'include "y.rnc"')
