@@ -4,20 +4,11 @@ The PYX is that of docs/LANGUAGE.md. Memory is bounded by one tag and one piece 
 """
 import xml.parsers.expat
 
+from xml_entities import Declarations
+from xml_feed import GOES_ON, Feed, Malformed, OutsideProfile  # noqa: F401
+
 LINE_BYTES = 65_536
-PIECE_BYTES = 65_536
-
-
-class OutsideProfile(Exception):
-    """What the XML has and the profile does not, with its place (line and column from 1)."""
-
-    def __init__(self, line, column, what):
-        super().__init__(what)
-        self.line, self.column, self.what = line, column, what
-
-
-class Malformed(OutsideProfile):
-    """What expat says of XML that is not well formed."""
+TEXT_BYTES = 65_536
 
 
 def escaped(text):
@@ -53,33 +44,38 @@ class PyxWriter:
     """
 
     def __init__(self, put, place, tell):
-        self.put, self.place, self.tell = put, place, tell
+        self.put, self.place = put, place
         self.held, self.held_size, self.held_place = [], 0, None
         self.begun_tag = self.begun_text = None
-        self.parser = xml.parsers.expat.ParserCreate()
-        self.parser.ordered_attributes = True
-        self.parser.StartElementHandler = self.start
-        self.parser.EndElementHandler = self.end
-        self.parser.CharacterDataHandler = self.text
-        self.parser.ProcessingInstructionHandler = self.instruction
-        self.parser.ExternalEntityRefHandler = self.external
-        self.parser.StartDoctypeDeclHandler = self.doctype
-        self.parser.SkippedEntityHandler = self.skipped
+        parser = xml.parsers.expat.ParserCreate()
+        parser.ordered_attributes = True
+        parser.XmlDeclHandler = self.declaration
+        parser.StartElementHandler = self.start
+        parser.EndElementHandler = self.end
+        parser.CharacterDataHandler = self.text
+        parser.ProcessingInstructionHandler = self.instruction
+        self.feed = Feed(parser)
+        self.here = self.feed.here
+        self.declarations = Declarations(parser, self.feed, self.refuse, tell)
 
-    def here(self):
-        """The line and the column, from 1, of what the parser is at."""
-        return self.parser.CurrentLineNumber, self.parser.CurrentColumnNumber + 1
+    def refuse(self, place, what):
+        raise OutsideProfile(*place, f"{what}: outside the profile")
+
+    def declaration(self, version, encoding, standalone):
+        """The XML declaration. In a document that says that it stands alone expat drops nothing."""
+        self.declarations.standalone = standalone == 1
+        self.feed.declared(encoding)
 
     def line(self, data, place):
         """One PYX line; one that is too long is outside the profile."""
         if len(data) > LINE_BYTES:
             kind = "attribute" if data[:1] == b"A" else "name"
-            raise OutsideProfile(*place, f"{kind} of more than {LINE_BYTES:,} bytes: outside the profile")
+            self.refuse(place, f"{kind} of more than {LINE_BYTES:,} bytes")
         self.put(data + b"\n")
         self.place(place, self.told(data[:1], place))
 
     def told(self, kind, place):
-        """Where that begins of which a line of this kind tells: the start behind whose tag it is the first line, else, of a start, the text before it."""
+        """Where that begins of which a line of this kind tells: the start behind whose tag it is the first line, or the text before a start."""
         if kind == b"A":
             return place
         tag, text = self.begun_tag, self.begun_text
@@ -90,6 +86,8 @@ class PyxWriter:
     def start(self, name, attributes):
         self.text_ends()
         place = self.here()
+        if attributes:
+            self.declarations.check_tag(place)
         self.line(b"(" + name.encode("utf-8"), place)
         for key, value in zip(attributes[::2], attributes[1::2]):
             self.line(f"A{key} {escaped(value)}".encode("utf-8"), place)
@@ -104,7 +102,7 @@ class PyxWriter:
             self.held_place = self.here()
         self.held.append(text)
         self.held_size += len(text)
-        if self.held_size >= PIECE_BYTES:
+        if self.held_size >= TEXT_BYTES:
             self.text_ends()
 
     def text_ends(self):
@@ -116,33 +114,13 @@ class PyxWriter:
 
     def instruction(self, target, data):
         """A processing instruction vanishes; its line stands so that texts join across it, cut where it is long."""
+        if target == GOES_ON:
+            return
         self.text_ends()
         head = f"?{target} {data}" if data else f"?{target}"
         self.line(next(cut(head, LINE_BYTES)), self.here())
 
-    def doctype(self, name, system, public, has_internal):
-        """A document type; one with an external part is told, since that part is not loaded."""
-        if system is not None:
-            self.tell(*self.here(), f"the external DTD {system!r} is not loaded: its entities and attribute defaults are not there")
-
-    def external(self, context, base, system, public):
-        raise OutsideProfile(*self.here(), f"external entity {system!r} is not loaded")
-
-    def skipped(self, name, is_parameter):
-        raise OutsideProfile(*self.here(), f"entity {name!r} is not declared in the document itself")
-
-    def feed(self, data, is_last):
-        """Parses a piece of the document."""
-        try:
-            self.parser.Parse(data, is_last)
-        except xml.parsers.expat.ExpatError as fault:
-            text = xml.parsers.expat.ErrorString(fault.code)
-            raise Malformed(fault.lineno, fault.offset + 1, f"malformed XML: {text}") from None
-
 
 def convert(source, put, place=lambda own, told: None, tell=lambda line, column, what: None):
     """Reads the XML of the binary file `source` to its end and hands on its PYX lines."""
-    writer = PyxWriter(put, place, tell)
-    while piece := source.read(PIECE_BYTES):
-        writer.feed(piece, False)
-    writer.feed(b"", True)
+    PyxWriter(put, place, tell).feed.all_of(source)
