@@ -9,3 +9,4 @@ pub mod KnownWays
 pub mod Starting
 pub mod After
 pub mod FewerWays
+pub mod Excepts

@@ -362,10 +362,13 @@ fn data_takes(
             Place::List => Ok(false),
         },
         Simple::Data(_) => Ok(known.datatypes.allow(position, text)),
-        Simple::DataExcept(_, except) => Ok(
-            known.datatypes.allow(position, text)
-                && !is_excepted(grammar, &known.datatypes, *except, text),
-        ),
+        Simple::DataExcept(_, except) => {
+            if !known.datatypes.allow(position, text) {
+                return Ok(false);
+            }
+            let excepted = is_excepted(alloc, grammar, &known.datatypes, *except, text)?;
+            Ok(!excepted)
+        }
         Simple::Value(value) => { Ok(known.datatypes.equate(position, value.text.as_str(), text)) }
         _ => Ok(false),
     }

@@ -144,8 +144,8 @@ data_takes-returns-in-Data-clause-taken t c =
     tells_of_data (reading_of t0) c.args.place c.args.text _ (datatype_of c.in-Data.field-0.value) _ (ap (data_found t0) found)
     (c.allow.ensures ∙ allowed_there t0 c.args.known.now.datatypes c.requires.1.1.1.datatypes c.args.position.0 _ found c.args.text.now)
 
-pub data_takes-returns-then-allow-clause-taken : goal.data_takes-returns-then-allow-clause-taken
-data_takes-returns-then-allow-clause-taken t c =
+pub data_takes-returns-then-not-allow-clause-taken : goal.data_takes-returns-then-not-allow-clause-taken
+data_takes-returns-then-not-allow-clause-taken t c =
     let t0 = c.args.grammar.now in
     let g = reading_of t0 in
     let p = tree_at t0.patterns c.in-DataExcept.except in
@@ -153,10 +153,10 @@ data_takes-returns-then-allow-clause-taken t c =
     let own = c.allow-in-DataExcept.ensures
     ∙ allowed_there t0 c.args.known.now.datatypes c.requires.1.1.1.datatypes c.args.position.0 _ found c.args.text.now in
     tells_of_except g c.args.place c.args.text _ (datatype_of c.in-DataExcept.field-0.value) p _ (ap (data_found t0) found)
-    (ap not c.is_excepted.ensures ∙ ap (λ b. b && not (is_excepted g p c.args.text.now)) (sym c.if-allow.true ∙ own))
+    (ap (λ b. b && not (is_excepted g p c.args.text.now)) (sym c.if-not-allow.true ∙ own))
 
-pub data_takes-returns-else-allow-clause-taken : goal.data_takes-returns-else-allow-clause-taken
-data_takes-returns-else-allow-clause-taken t c =
+pub data_takes-returns-in_ok-excepted-in-DataExcept-clause-taken : goal.data_takes-returns-in_ok-excepted-in-DataExcept-clause-taken
+data_takes-returns-in_ok-excepted-in-DataExcept-clause-taken t c =
     let t0 = c.args.grammar.now in
     let g = reading_of t0 in
     let p = tree_at t0.patterns c.in-DataExcept.except in
@@ -164,7 +164,7 @@ data_takes-returns-else-allow-clause-taken t c =
     let own = c.allow-in-DataExcept.ensures
     ∙ allowed_there t0 c.args.known.now.datatypes c.requires.1.1.1.datatypes c.args.position.0 _ found c.args.text.now in
     tells_of_except g c.args.place c.args.text _ (datatype_of c.in-DataExcept.field-0.value) p _ (ap (data_found t0) found)
-    (c.if-allow.false ∙ ap (λ b. b && not (is_excepted g p c.args.text.now)) (sym c.if-allow.false ∙ own))
+    (ap not c.in_ok-excepted-in-DataExcept.ensures ∙ ap (λ b. b && not (is_excepted g p c.args.text.now)) (sym c.if-not-allow.false ∙ own))
 
 pub data_takes-returns-in-Value-clause-taken : goal.data_takes-returns-in-Value-clause-taken
 data_takes-returns-in-Value-clause-taken t c =
