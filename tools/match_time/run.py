@@ -131,6 +131,70 @@ def optional_attributes(draw):
     return f"element doc {{ element row {{ {wanted} }}* }}", root(rows)
 
 
+def attributes(prefixes, count):
+    """Declarations of these prefixes, each of a namespace of its own name, and so many attributes, of them in turn, or of none."""
+    declared = "".join(f"Axmlns:{prefix} {prefix}\n" for prefix in prefixes)
+    return declared + "".join(f"A{prefixes[i % len(prefixes)] + ':' if prefixes else ''}x{i} {i}\n" for i in range(count))
+
+
+def tag(inner):
+    return f"(doc\n{inner})doc\n"
+
+
+def nested_attributes(count):
+    return lambda draw: ("element doc { ((attribute * { text }*)*)* }", tag(attributes("", count)))
+
+
+def attributes_100_deep(count):
+    return lambda draw: (f"element doc {{ {'(' * 100}attribute * {{ text }}{')+' * 100} }}", tag(attributes("", count)))
+
+
+def two_namespaces(count):
+    schema = ('namespace p = "p" namespace q = "q" '
+              "element doc { (attribute p:* { text }* | attribute q:* { text }*)* }")
+    return lambda draw: (schema, tag(attributes("pq", count)))
+
+
+def overlapping_attributes(classes, count):
+    alternatives = " | ".join(f'(attribute * {{ token | "k{i}" }}+)*' for i in range(classes))
+    return lambda draw: (f"element doc {{ ({alternatives})* }}", tag(attributes("", count)))
+
+
+def groups_of_attributes(count):
+    schema = ('namespace p = "p" namespace q = "q" namespace r = "r" '
+              "element doc { (attribute p:* { text }+ | attribute z { text })*, (attribute q:* { text }* | attribute r:* { text }+)+ }")
+    return lambda draw: (schema, tag(attributes("pqr", count)))
+
+
+def levels(count, member, last):
+    """Of each level two ways, to the same next one and a member that may be left out."""
+    rules = (f"x{i} = (x{i + 1}, {member(f'y{i}')}?) | (x{i + 1}, {member(f'z{i}')}?)" for i in range(count))
+    return "\n".join(["start = element doc { x0 }", *rules, f"x{count} = {last}"])
+
+
+def levels_of_elements(count, given):
+    schema = levels(count, lambda name: f"element {name} {{ empty }}", "attribute w { text }?")
+    return lambda draw: (schema, root(element(draw.choice("yz") + str(i)) for i in reversed(range(given))))
+
+
+def levels_of_attributes(count, given):
+    schema = levels(count, lambda name: f"attribute {name} {{ text }}", "empty")
+    return lambda draw: (schema, tag("".join(f"A{draw.choice('yz')}{i} {i}\n" for i in draw.sample(range(count), given))))
+
+
+def equal_optionals(count):
+    members_of = ["element e { empty }?"] * count
+    joined = ", ".join(f"({', '.join(members_of[at:at + 500])})" for at in range(0, count, 500))
+    return lambda draw: (f"element doc {{ {joined} }}", root([element("e")] * count))
+
+
+def doubled(count, last, names, children):
+    """Definitions, each the next one twice."""
+    rules = [f"x{i} = x{i + 1}, x{i + 1}" for i in range(count)]
+    schema = "\n".join(["start = element doc { x0 }", *rules, f"x{count} = {last}"])
+    return lambda draw: (schema, root(element(draw.choice(names)) for _ in range(children)))
+
+
 WORKLOADS = [
     ("a list of 900 members", sequence(900)),
     ("a list of 20,000 members, in lists of 500", sequence(20_000)),
@@ -149,6 +213,25 @@ WORKLOADS = [
     ("2,000 children, an `a` 13 from the end", ambiguous(12)),
     ("2,000 children, 8 repetitions in one another", nested_repeats(8)),
     ("2,000 children, 100 repetitions in one another", nested_repeats(100)),
+    ("60 attributes, 3 repetitions in one another of those of any name", nested_attributes(60)),
+    ("250 attributes, 3 repetitions in one another of those of any name", nested_attributes(250)),
+    ("250 attributes, 100 repetitions in one another of those of any name", attributes_100_deep(250)),
+    ("180 attributes of two namespaces in turn", two_namespaces(180)),
+    ("250 attributes of two namespaces in turn", two_namespaces(250)),
+    ("240 attributes, 40 repetitions of those of any name", overlapping_attributes(40, 240)),
+    ("240 attributes of three namespaces, in two groups", groups_of_attributes(240)),
+    ("26 levels of two ways each, no child", levels_of_elements(26, 0)),
+    ("60 levels of two ways each, no child", levels_of_elements(60, 0)),
+    ("200 levels of two ways each, no child", levels_of_elements(200, 0)),
+    ("200 levels of two ways each, a child of each", levels_of_elements(200, 200)),
+    ("200 levels of two attributes each, 20 of them given", levels_of_attributes(200, 20)),
+    ("900 equal members that may be left out, and 900 children", equal_optionals(900)),
+    ("9,000 equal members that may be left out, in lists of 500, and 9,000 children", equal_optionals(9_000)),
+    ("990 definitions, each the next one twice, and 300 children", doubled(990, "element b { empty } | empty", "b", 300)),
+    ("990 definitions, each the next one twice, and 3,000 children", doubled(990, "element b { empty } | empty", "b", 3_000)),
+    ("990 definitions, each the next one twice, of one of two", doubled(990, "element b { empty } | element c { empty } | empty", "bc", 300)),
+    ("990 definitions, each the next one twice, of three that may be left out", doubled(990, "element b { empty }?, element c { empty }?, element d { empty }?", "bcd", 300)),
+    ("990 definitions, each the next one twice, of two interleaved", doubled(990, "element b { empty }? & element c { empty }?", "bc", 300)),
 ]
 
 
