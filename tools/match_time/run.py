@@ -188,11 +188,11 @@ def equal_optionals(count):
     return lambda draw: (f"element doc {{ {joined} }}", root([element("e")] * count))
 
 
-def doubled(count, last, names, children):
-    """Definitions, each the next one twice."""
+def doubled(count, last, choices, times):
+    """Definitions, each the next one twice; so many times the children that one of the choices names by their letters."""
     rules = [f"x{i} = x{i + 1}, x{i + 1}" for i in range(count)]
     schema = "\n".join(["start = element doc { x0 }", *rules, f"x{count} = {last}"])
-    return lambda draw: (schema, root(element(draw.choice(names)) for _ in range(children)))
+    return lambda draw: (schema, root(element(name) for _ in range(times) for name in draw.choice(choices)))
 
 
 WORKLOADS = [
@@ -232,6 +232,8 @@ WORKLOADS = [
     ("990 definitions, each the next one twice, of one of two", doubled(990, "element b { empty } | element c { empty } | empty", "bc", 300)),
     ("990 definitions, each the next one twice, of three that may be left out", doubled(990, "element b { empty }?, element c { empty }?, element d { empty }?", "bcd", 300)),
     ("990 definitions, each the next one twice, of two interleaved", doubled(990, "element b { empty }? & element c { empty }?", "bc", 300)),
+    ("32 definitions, each the next one twice, of two interleaved or none", doubled(32, "(element b { empty } & element c { empty })?", ["bc"], 6)),
+    ("60 definitions, each the next one twice, of a group of two or one", doubled(60, "(element b { empty }, element c { empty }) | element d { empty } | empty", ["bc", "d"], 30)),
 ]
 
 
