@@ -7,9 +7,8 @@ mod Putting
 mod PatternKinds
 pub mod Choices
 pub mod Alternatives
-mod Absorbed
+mod Absorbing
 mod WiderParts
-mod AbsorbedSides
 mod OnlyMember
 mod Contents
 mod Keeping

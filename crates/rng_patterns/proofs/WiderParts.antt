@@ -2,16 +2,16 @@
 use Rattle.std.proofs.Common.{◌≡◌, ◌⊎◌, ◌<◌, ◌≤◌, ℕ, List, [], ◌∷◌, Some, length, slice_get, slice_index_or, take, refl, subst, sym, ⊎_elim}
 use Rattle.std.proofs.Common.{inl, inr, arith}
 use Rattle.std.specs.List.{Contains, remove}
-use Rattle.std.proofs.lemmas.List.{append-nil}
 use Rattle.std.proofs.lemmas.List.Elements.{Contains-append_cases}
 use Rattle.rng_model.specs.Tree.{Simple}
 use Rattle.rng_model.specs.Document.{Attribute, Item}
 use Rattle.rng_model.specs.Table.{Table}
 use Rattle.rng_model.proofs.Interleaving.{left_alone, right_alone}
+use Rattle.rng_matching.specs.Reading.{Reading}
 use Rattle.rng_matching.specs.Taking.{Takes}
 use Rattle.rng_matching.specs.Taking as taking
 use Rattle.rng_matching.proofs.Same.{on_group, on_interleave}
-use Rattle.rng_patterns.specs.Choices.{Covers, MayBeLeftOut}
+use Rattle.rng_patterns.specs.Choices.{Covers}
 use Rattle.rng_patterns.specs.Node.{Node}
 use Rattle.rng_patterns.specs.Node as node
 use Rattle.rng_patterns.specs.PatternTable.{IsPatternTable}
@@ -21,7 +21,7 @@ use Rattle.rng_patterns.proofs.Choices.{only_one}
 use Rattle.rng_patterns.proofs.Trees.{tree_of-over_parts}
 
 module _ (ns : List Node) (table : IsPatternTable ns) where
-  pub over : (t : Table) (number : PatternNumber) (n : Node) → slice_get ns number.0 ≡ Some n → tree_of t ns number.0 ≡ tree_over t (tree_of t ns) n
+  over : (t : Table) (number : PatternNumber) (n : Node) → slice_get ns number.0 ≡ Some n → tree_of t ns number.0 ≡ tree_over t (tree_of t ns) n
   over t number n found = tree_of-over_parts t ns number.0 n (table.falls number.0 n found) found
 
   module _ (outer first second : PatternNumber) where
@@ -33,15 +33,6 @@ module _ (ns : List Node) (table : IsPatternTable ns) where
         subst (λ (p : Simple ℕ). Takes g p xs is) (sym (over t outer _ whole))
         (on_group g (covers t g) behind xs is (subst (λ (p : Simple ℕ). Takes g p xs is) (over t inner _ part) d))
 
-    module _ (whole : slice_get ns outer.0 ≡ Some (node.group first.0 second.0)) where
-      pub front_covers : MayBeLeftOut ns second → Covers ns outer first
-      front_covers none = λ t g xs is d. subst (λ (p : Simple ℕ). Takes g p xs is) (sym (over t outer _ whole))
-          (taking.grouped d (none t g) (left_alone xs) (append-nil is))
-
-      pub rest_covers : MayBeLeftOut ns first → Covers ns outer second
-      rest_covers none = λ t g xs is d. subst (λ (p : Simple ℕ). Takes g p xs is) (sym (over t outer _ whole))
-          (taking.grouped (none t g) d (right_alone xs) refl)
-
     module _ (whole : slice_get ns outer.0 ≡ Some (node.interleave first.0 second.0)) where
       pub interleave_covers : (inner one other : PatternNumber) → slice_get ns inner.0 ≡ Some (node.interleave one.0 other.0)
           → Covers ns first one → Covers ns second other → Covers ns outer inner
@@ -50,12 +41,14 @@ module _ (ns : List Node) (table : IsPatternTable ns) where
           (on_interleave g (covers_one t g) (covers_other t g) xs is (subst (λ (p : Simple ℕ). Takes g p xs is) (over t inner _ part) d))
 
       -- where the second side may be left out
-      pub first_covers : (inner : PatternNumber) → MayBeLeftOut ns second → Covers ns first inner → Covers ns outer inner
+      pub first_covers : (inner : PatternNumber) → ((t : Table) (g : Reading) → Takes g (tree_of t ns second.0) [] [])
+          → Covers ns first inner → Covers ns outer inner
       first_covers inner none covers = λ t g xs is d. subst (λ (p : Simple ℕ). Takes g p xs is) (sym (over t outer _ whole))
           (taking.interleaved (covers t g xs is d) (none t g) (left_alone xs) (left_alone is))
 
       -- where the first side may be left out
-      pub second_covers : (inner : PatternNumber) → MayBeLeftOut ns first → Covers ns second inner → Covers ns outer inner
+      pub second_covers : (inner : PatternNumber) → ((t : Table) (g : Reading) → Takes g (tree_of t ns first.0) [] [])
+          → Covers ns second inner → Covers ns outer inner
       second_covers inner none covers = λ t g xs is d. subst (λ (p : Simple ℕ). Takes g p xs is) (sym (over t outer _ whole))
           (taking.interleaved (none t g) (covers t g xs is d) (right_alone xs) (right_alone is))
 

@@ -1,6 +1,5 @@
 -- The alternatives that patterns have among them.
-use Rattle.std.specs.Prelude.{◌≡◌, ◌⊎◌, ℕ, ◌<◌, ◌≤◌, List, [], Bool, true, false, IsTrue, nat_eq}
-use Rattle.std.specs.HashSet.{HashSet, contains}
+use Rattle.std.specs.Prelude.{◌≡◌, ◌⊎◌, ℕ, ◌<◌, List, Bool, true, false}
 use Rattle.std.specs.List.{Contains}
 use Rattle.rng_model.specs.Tree.{Simple, s_not_allowed}
 use Rattle.rng_model.specs.Document.{Attribute, Item}
@@ -30,23 +29,10 @@ abbrev pub Covers : List Node → PatternNumber → PatternNumber → Type 0
 Covers ns outer inner = (t : Table) (g : Reading) (xs : List Attribute) (is : List Item) → Takes g (tree_of t ns inner.0) xs is
     → Takes g (tree_of t ns outer.0) xs is
 
--- no attribute and no item is needed
-abbrev pub MayBeLeftOut : List Node → PatternNumber → Type 0
-MayBeLeftOut ns number = (t : Table) (g : Reading) → Takes g (tree_of t ns number.0) [] []
-
--- the second pattern does not stand below the first and takes all that it takes
-pub record TakesNoMore (ns : List Node) (number other : PatternNumber) : Type 0 where
-  pub not_below : number.0 ≤ other.0
-  pub takes : Covers ns other number
-
 -- the second pattern stands above the first and takes all that it takes
 pub record IsAbsorbedBy (ns : List Node) (number other : PatternNumber) : Type 0 where
   pub above : number.0 < other.0
   pub takes : Covers ns other number
-
--- what the second set of numbers has beside the first has P
-abbrev pub AddsOnly : {Z : Type 0} → HashSet ℕ Z → HashSet ℕ Z → (PatternNumber → Type 0) → Type 0
-AddsOnly old new P = (m : PatternNumber) → IsTrue (contains nat_eq new m.0) → IsTrue (contains nat_eq old m.0) ⊎ P m
 
 -- each of the members is this one, a choice without notAllowed, or is notAllowed
 pub record IsOnlyMember (ns : List Node) (members : List PatternNumber) (only : PatternNumber) : Type 0 where

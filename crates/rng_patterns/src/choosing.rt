@@ -1,5 +1,6 @@
 // Choices of patterns, as sets.
-ghost use Rattle.std.specs.Prelude.{◌≡◌, ◌⊎◌, ◌<◌, ◌↔◌, All, IfOk, IfSome, OnOk, ℕ, List, length, map};
+ghost use Rattle.std.specs.Prelude.{◌≡◌, ◌⊎◌, ◌<◌, ◌↔◌, All, IfOk, IfSome, IsTrue, OnOk, ℕ, List, length, map, nat_eq};
+ghost use Rattle.std.specs.HashSet.{contains};
 ghost use Rattle.std.specs.List.{Contains};
 ghost use Rattle.std.specs.List.Sorted.{IsStrictlyIncreasing};
 ghost use Rattle.rng_model.specs.Document.{Attribute, Item};
@@ -8,7 +9,7 @@ ghost use Rattle.rng_model.specs.Tree.{Simple, s_not_allowed};
 ghost use Rattle.rng_matching.specs.Restricted.{IsRestricted, IsTyped};
 ghost use Rattle.rng_matching.specs.Reading.{Reading};
 ghost use Rattle.rng_matching.specs.Taking.{Takes};
-ghost use Rattle.rng_patterns.specs.Choices.{IsAllowed, IsAlternativeOf, IsOnlyMember, SomeTakes};
+ghost use Rattle.rng_patterns.specs.Choices.{IsAbsorbedBy, IsAllowed, IsAlternativeOf, IsOnlyMember, SomeTakes};
 ghost use Rattle.rng_patterns.specs.PatternTable.{Longer};
 ghost use Rattle.rng_patterns.specs.Reduced.{HasAlternative, IsReducedChoice, MayBeMember};
 ghost use Rattle.rng_patterns.specs.Trees.{tree_of};
@@ -18,16 +19,16 @@ use crate::pattern::{Pattern, PatternNumber};
 use crate::pattern_table::PatternTable;
 use rng_model::OutOfMemory;
 use std::alloc::Global;
+use std::collections::HashSet;
 
 impl PatternTable {
     /// A choice of the members; of none it is notAllowed, and of one that one. The order of members, and how often each
-    /// is there, make no difference. A side of a group or an interleave is left out beside the whole where the other side may be
-    /// left out, as `q` beside `p?, q`; so is each member of such a side. Of two alternatives one is left out that the other
-    /// one covers: as `a & c` beside `a & b? & c`, and each of them in front of the same.
+    /// is there, make no difference. `q` beside `p, q` is left out where `p` may be left out, and of two alternatives one that
+    /// the other one covers: as `a & c` beside `a & b? & c`, and each of them in front of the same.
     ///
     /// RELAX NG Specification, sections 6.2.1 and 4.20. It obeys the restrictions of section 7 where all members do. The
-    /// error is want of memory. Costs a sort of all alternatives and a pass over the members of their sides, or one pass over the
-    /// members where no two of them differ that are not notAllowed; two alternatives are gone through once more.
+    /// error is want of memory. Costs a sort of all alternatives, or one pass over the members where no two of them differ
+    /// that are not notAllowed; two alternatives are gone through once more.
     pub fn choice(
         &mut self,
         alloc: Global,
@@ -127,6 +128,66 @@ impl PatternTable {
             _ => all.push(member)?,
         }
         Ok(())
+    }
+
+    /// Takes those away that another absorbs. The time is linear.
+    fn remove_absorbed(
+        &self,
+        alloc: Global,
+        alternatives: &mut Vec<PatternNumber>,
+    ) -> Result<(), OutOfMemory>
+        requires { All (λ m. m.0 < length self.now) alternatives.old.items }
+        ensures within { OnOk result ((m : PatternNumber) → Contains alternatives.new.items m → Contains alternatives.old.items m) }
+        ensures takes { OnOk result ((t : Table) (g : Reading) (xs : List Attribute) (ns : List Item)
+            → SomeTakes g (tree_of t self.now) alternatives.old.items xs ns → SomeTakes g (tree_of t self.now) alternatives.new.items xs ns) }
+    {
+        if alternatives.len() < 2 {
+            return Ok(());
+        }
+        let absorbed = self.absorbed(alloc, alternatives.as_slice())?;
+        if absorbed.is_empty() {
+            return Ok(());
+        }
+        alternatives.retain(|alternative| !absorbed.contains(&alternative.0));
+        Ok(())
+    }
+
+    /// The numbers of patterns that one of the alternatives absorbs.
+    fn absorbed(
+        &self,
+        alloc: Global,
+        alternatives: &[PatternNumber],
+    ) -> Result<HashSet<usize>, OutOfMemory>
+        requires { All (λ m. m.0 < length self.now) alternatives.now }
+        ensures { IfOk result (λ absorbed. (m : PatternNumber) → IsTrue (contains nat_eq absorbed m.0)
+            → (other : PatternNumber) × Contains alternatives.now other × IsAbsorbedBy self.now m other) }
+    {
+        let mut absorbed = HashSet::new(alloc);
+        'alternatives: for alternative in alternatives {
+            if let Some(number) = self.absorbed_by(*alternative) {
+                absorbed.insert(number.0)?;
+            }
+        }
+        Ok(absorbed)
+    }
+
+    /// A pattern that this one absorbs: what stands behind a side that may be left out. A choice is none, since no alternative is one.
+    fn absorbed_by(&self, pattern: PatternNumber) -> Option<PatternNumber>
+        requires { pattern.0 < length self.now }
+        ensures { IfSome result (λ m. IsAbsorbedBy self.now m pattern) }
+    {
+        match self.pattern(pattern) {
+            Pattern::Group(first, second)
+                if self.facts(*first).nullable && !self.is_choice(*second) => { Some(*second) }
+            _ => None,
+        }
+    }
+
+    /// Whether the pattern is a choice. Takes no memory.
+    fn is_choice(&self, number: PatternNumber) -> bool
+        requires { number.0 < length self.now }
+    {
+        matches!(self.pattern(number), Pattern::Choice(_))
     }
 
     /// A choice of alternatives.

@@ -1,10 +1,11 @@
 // Which patterns match all that others match, as far as their shape tells.
-ghost use Rattle.std.specs.Prelude.{◌≡◌, ◌<◌, All, IsTrue, List, length};
+ghost use Rattle.std.specs.Prelude.{◌≡◌, ◌<◌, [], All, IsTrue, List, length};
 ghost use Rattle.std.specs.List.{Contains};
 ghost use Rattle.rng_model.specs.Document.{Attribute, Item};
 ghost use Rattle.rng_model.specs.Table.{Table};
 ghost use Rattle.rng_matching.specs.Reading.{Reading};
-ghost use Rattle.rng_patterns.specs.Choices.{Covers, MayBeLeftOut, SomeTakes};
+ghost use Rattle.rng_matching.specs.Taking.{Takes};
+ghost use Rattle.rng_patterns.specs.Choices.{Covers, SomeTakes};
 ghost use Rattle.rng_patterns.specs.Trees.{tree_of};
 ghost use Rattle.rng_patterns.specs.declared.pattern.PatternNumber.{PatternNumber};
 
@@ -69,7 +70,7 @@ impl PatternTable {
         requires side { side.0 < length self.now }
         requires other { other.0 < length self.now }
         requires inner { inner.0 < length self.now }
-        ensures { IsTrue result → MayBeLeftOut self.now other }
+        ensures { IsTrue result → (t : Table) (g : Reading) → Takes g (tree_of t self.now other.0) [] [] }
     {
         let other = self.facts(other);
         let inner = self.facts(inner);

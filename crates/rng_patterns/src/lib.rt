@@ -6,7 +6,6 @@
 //! matching (section 6.2), as `rng_matching` has them.
 #![tactic(auto)]
 
-mod absorbing;
 mod choosing;
 mod covering;
 mod grammar;
