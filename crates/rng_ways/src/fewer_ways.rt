@@ -3,6 +3,7 @@ ghost use Rattle.std.specs.Prelude.{◌≡◌, ◌<◌, All, IfOk, length, true}
 ghost use Rattle.rng_ways.specs.FewerWays.{AreRepeated, AreUncovered, HasOptionalRest};
 ghost use Rattle.rng_ways.specs.Ways.{AreInside};
 
+use crate::leaves::is_group;
 use crate::way::{Way, Ways};
 use rng_model::OutOfMemory;
 use rng_patterns::{PatternNumber, PatternTable};
@@ -38,7 +39,8 @@ pub fn repeated_ways(
 /// The ways of the second side of a group that say more than those of the first side.
 ///
 /// Where the second side takes all subsequences of what it takes, what is left of it behind a leaf is no more than it is itself,
-/// and so than what is left where the first side has the same leaf and may end behind it. The error is want of memory. Costs a
+/// and so than what is left where the first side has the same leaf and may end behind it. All ways of a side that is no group are
+/// kept: of those of a repetition there are few, and they lead back to the same states. The error is want of memory. Costs a
 /// comparison of each way with those of the first side.
 pub fn uncovered(
     alloc: Global,
@@ -52,7 +54,7 @@ pub fn uncovered(
     ensures { IfOk result (λ left. AreUncovered table.now second firsts.now seconds.items left.items) }
 {
     let facts = table.facts(second);
-    if !facts.nullable || !facts.subsequences {
+    if !facts.nullable || !facts.subsequences || !is_group(table, second) {
         return Ok(seconds);
     }
     let mut left = SmallVec::new(alloc);
