@@ -1,12 +1,11 @@
 // Ways that others stand in for.
 ghost use Rattle.std.specs.Prelude.{◌≡◌, ◌<◌, All, IfOk, length, true};
 ghost use Rattle.rng_ways.specs.FewerWays.{AreRepeated, AreUncovered, HasOptionalRest};
-ghost use Rattle.rng_ways.specs.Ways.{AreInside};
+ghost use Rattle.rng_ways.specs.Ways.{AreInside, IsInside};
 
-use crate::leaves::is_group;
 use crate::way::{Way, Ways};
 use rng_model::OutOfMemory;
-use rng_patterns::{PatternNumber, PatternTable};
+use rng_patterns::{Pattern, PatternNumber, PatternTable};
 use smallvec::SmallVec;
 use std::alloc::Global;
 
@@ -39,8 +38,7 @@ pub fn repeated_ways(
 /// The ways of the second side of a group that say more than those of the first side.
 ///
 /// Where the second side takes all subsequences of what it takes, what is left of it behind a leaf is no more than it is itself,
-/// and so than what is left where the first side has the same leaf and may end behind it. All ways of a side that is no group are
-/// kept: of those of a repetition there are few, and they lead back to the same states. The error is want of memory. Costs a
+/// and so than what is left where the first side has the same leaf and may end behind it. The error is want of memory. Costs a
 /// comparison of each way with those of the first side.
 pub fn uncovered(
     alloc: Global,
@@ -51,19 +49,46 @@ pub fn uncovered(
 ) -> Result<Ways, OutOfMemory>
     requires second { second.0 < length table.now }
     requires firsts { AreInside table.now firsts.now }
+    requires seconds { AreInside table.now seconds.items }
     ensures { IfOk result (λ left. AreUncovered table.now second firsts.now seconds.items left.items) }
 {
     let facts = table.facts(second);
-    if !facts.nullable || !facts.subsequences || !is_group(table, second) {
+    if !facts.nullable || !facts.subsequences {
         return Ok(seconds);
     }
     let mut left = SmallVec::new(alloc);
     'seconds: for way in seconds.as_slice() {
-        if !has_optional_rest(table, firsts, way.leaf) {
+        if !is_covered(table, second, firsts, *way) {
             left.push(*way)?;
         }
     }
     Ok(left)
+}
+
+/// Whether a way of the second side is left out: one with its leaf may end behind that. A way that leads back to the second side, as
+/// those of a repetition do, is kept, since its states come again. Takes no memory.
+fn is_covered(table: &PatternTable, second: PatternNumber, firsts: &[Way], way: Way) -> bool
+    requires firsts { AreInside table.now firsts.now }
+    requires way { IsInside table.now way }
+    ensures { result ≡ true → HasOptionalRest table.now firsts.now way.leaf }
+{
+    if leads_back(table, way.rest, second) {
+        return false;
+    }
+    has_optional_rest(table, firsts, way.leaf)
+}
+
+/// Whether a pattern is another one, or a group that ends with it. Takes no memory.
+fn leads_back(table: &PatternTable, rest: PatternNumber, second: PatternNumber) -> bool
+    requires { rest.0 < length table.now }
+{
+    if rest == second {
+        return true;
+    }
+    match table.pattern(rest) {
+        Pattern::Group(_, behind) => *behind == second,
+        _ => false,
+    }
 }
 
 /// Whether some way with this leaf may end behind it. Takes no memory.

@@ -151,7 +151,7 @@ pub fn opened(table: &PatternTable, first: PatternNumber) -> Option<(PatternNumb
 }
 
 /// Whether a pattern is a group.
-pub fn is_group(table: &PatternTable, number: PatternNumber) -> bool
+fn is_group(table: &PatternTable, number: PatternNumber) -> bool
     requires { number.0 < length table.now }
 {
     matches!(table.pattern(number), Pattern::Group(_, _))

@@ -5,7 +5,7 @@ use Rattle.rng_ways.specs.declared.way.Way.{Way}
 use Rattle.rng_ways.proofs.FewerWays.{one_covered, one_left}
 use Rattle.rng_ways.proofs.Joining.{one_more_taken, way_to}
 use Rattle.rng_ways.proofs.fewer_ways.uncovered.Goals as goal
-use Rattle.rng_ways.proofs.fewer_ways.uncovered.Goals.{then-not-has_optional_rest+in_ok-push, else-not-has_optional_rest}
+use Rattle.rng_ways.proofs.fewer_ways.uncovered.Goals.{then-not-is_covered+in_ok-push, else-not-is_covered}
 
 pub seconds-preserved : goal.seconds-preserved
 seconds-preserved c =
@@ -19,17 +19,17 @@ seconds-preserved c =
     let next = one_more_taken ways i none c.seconds-test.true in
     let nullable : IsTrue c.facts-facts.result.nullable = not-false _ c.if-not-facts.false in
     let closed : IsTrue c.facts-facts.result.subsequences = not-false _ c.if-not-facts-2.false in
-    elim c.if-not-has_optional_rest.branch [
-      | then-not-has_optional_rest+in_ok-push w ↦
-          let e : c.if-not-has_optional_rest.left.items ≡ left ++ way ∷ [] = search rules in
+    elim c.if-not-is_covered.branch [
+      | then-not-is_covered+in_ok-push w ↦
+          let e : c.if-not-is_covered.left.items ≡ left ++ way ∷ [] = search rules in
           subst (AreUncovered ns c.args.second firsts (take (i + 1) ways)) (sym e)
           (subst (λ ws. AreUncovered ns c.args.second firsts ws (left ++ way ∷ [])) next (one_left ns c.args.second firsts (take i ways) way left c.seconds.invariant))
-      | else-not-has_optional_rest w ↦
-          let has : c.has_optional_rest.result ≡ true = search rules in
-          let e : c.if-not-has_optional_rest.left.items ≡ left = search rules in
+      | else-not-is_covered w ↦
+          let has : c.is_covered.result ≡ true = search rules in
+          let e : c.if-not-is_covered.left.items ≡ left = search rules in
           subst (AreUncovered ns c.args.second firsts (take (i + 1) ways)) (sym e)
           (subst (λ ws. AreUncovered ns c.args.second firsts ws left) next (one_covered ns c.args.second firsts (take i ways) way left (record {
             loses = λ t g. c.facts-facts.ensures.subsequences t g nullable closed;
-            first = c.has_optional_rest.ensures has;
+            first = c.is_covered.ensures has;
           }) c.seconds.invariant))
     ]

@@ -219,6 +219,7 @@ item_ways_of_group-uncovered-requires t c =
     record {
       second = omega (arith, inside, long);
       firsts = inside_longer n1 n3 c.as_slice-2.result.now longer (subst (AreInside n1) (sym c.as_slice-2.ensures) c.in_ok-firsts.ensures.ways.inside);
+      seconds = c.in_ok-seconds.ensures.ways.inside;
     }
 
 pub item_ways_of_group-returns-clause-ways : goal.item_ways_of_group-returns-clause-ways
