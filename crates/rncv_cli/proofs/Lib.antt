@@ -1,7 +1,6 @@
 mod Beginning
 mod CommandLine
 mod CommandLineExamples
-mod FailedFlush
 mod FormWalk
 mod Matches
 mod WordKinds

@@ -12,14 +12,6 @@ fault_of_run causes.Memory = Memory
 fault_of_run causes.Read = Read
 fault_of_run causes.Write = Write
 
--- what a run may answer
-abbrev pub IsMemoryOrDevice : Fault → Type 0
-IsMemoryOrDevice Memory = ⊤
-IsMemoryOrDevice Read = ⊤
-IsMemoryOrDevice Write = ⊤
-IsMemoryOrDevice (File name) = ⊥
-IsMemoryOrDevice Usage = ⊥
-
 -- what reading the words may answer
 abbrev pub IsMemoryOrUsage : Fault → Type 0
 IsMemoryOrUsage Memory = ⊤

@@ -1,6 +1,5 @@
 // From the words of a command line to one line.
-ghost use Rattle.std.specs.Prelude.{◌-◌, ◌^◌, ◌<◌, vec_len, IfOk, IfErr};
-ghost use Rattle.rng_model.specs.Device.{device_inner, device_failures};
+ghost use Rattle.std.specs.Prelude.{◌<◌, vec_len, IfOk, IfErr};
 ghost use Rattle.rng_run.specs.Run.{WritesAnswer};
 ghost use Rattle.rncv_cli.specs.Answering.{IsAnswerOver, IsAnswerOverSome, LeavesWritten};
 ghost use Rattle.rncv_cli.specs.Faults.{IsFaultOver};
@@ -9,9 +8,8 @@ use crate::command_line::words_of;
 use crate::fault::Fault;
 use crate::invocation::Words;
 use crate::schema_files::read_files;
-use crate::streams::run_and_flush;
 use rng_model::Device;
-use rng_run::Status;
+use rng_run::{Status, run};
 use std::io::{Read, Write};
 use std::rt::{Env, Files};
 
@@ -56,33 +54,14 @@ pub fn answer_words<F: Files + AllocGlobal, R: Read + Drop, W: Write>(
     ensures written { IfErr result.0 (λ fault. LeavesWritten (IsAnswerOver words.command words.files.items (R.remaining reader))
         fault (W.contents writer) (W.contents result.1)) }
 {
+    let mut input = Device::new(reader);
     let mut output = Device::new(writer);
-    let answer = answer_over(rt, words, Device::new(reader), &mut output);
+    let answer = match read_files(rt, words.files) {
+        Ok(files) => {
+            let files = files.as_slice();
+            run(rt.alloc(), words.command, files, &mut input, &mut output).map_err(Fault::from)
+        }
+        Err(fault) => Err(fault),
+    };
     (answer, output.into_inner())
-}
-
-/// The same over devices.
-fn answer_over<F: Files + AllocGlobal, R: Read + Drop, W: Write>(
-    rt: &F,
-    words: Words,
-    mut input: Device<R>,
-    output: &mut Device<W>,
-) -> Result<Status, Fault>
-    requires files { 0 < vec_len words.files }
-    requires input { device_failures input < 2 ^ 64 - 1 }
-    requires output { device_failures output.old < 2 ^ 64 - 1 }
-    ensures answer { IfOk result (λ status. WritesAnswer (IsAnswerOver words.command words.files.items (R.remaining (device_inner input)))
-        status (W.contents (device_inner output.old)) (W.contents (device_inner output.new))) }
-    ensures fault { IfErr result (IsFaultOver words.files.items) }
-    ensures written { IfErr result (λ fault. LeavesWritten (IsAnswerOver words.command words.files.items (R.remaining (device_inner input)))
-        fault (W.contents (device_inner output.old)) (W.contents (device_inner output.new))) }
-{
-    let files = read_files(rt, words.files)?;
-    run_and_flush(
-        rt.alloc(),
-        words.command,
-        files.as_slice(),
-        &mut input,
-        output,
-    )
 }

@@ -1,11 +1,9 @@
 -- The verdict on all files, from what is known once each is read.
-use Rattle.std.proofs.Common.{◌≡◌, refl, sym, subst, ap, ℕ, List, IfSome}
-use Rattle.rng_model.specs.declared.fault.SchemaFault.{SchemaFault}
-use Rattle.rng_model.specs.declared.fault.SchemaFault.TheVariants as faults
+use Rattle.std.proofs.Common.{◌≡◌, refl, sym, subst, ap, ℕ, List}
 use Rattle.rng_load.specs.MentionPaths.{BreaksMentions}
 use Rattle.rng_load.specs.Loading.{TakenFiles, hrefs_in, BreaksIncludes, BreaksTogether, mentions_break, includes_break, FilesVerdict, file_breaks}
 use Rattle.rng_load.specs.Loading.{together_break, are_taken, IsFilesVerdict, IsTheFilesVerdict}
-use Rattle.rng_load.specs.LoadingFaults.{IsTheReading, verdict_of_fault}
+use Rattle.rng_load.specs.LoadingFaults.{IsTheReading}
 use Rattle.rng_load.specs.SchemaFile.{Name, NamedFile}
 
 same_files : {r s : TakenFiles} → are_taken r ≡ are_taken s → r ≡ s
@@ -24,13 +22,6 @@ module _ (files : List NamedFile) (main : Name) where
     only (file_breaks g j) h = r.only (file_breaks g j) h
     only (together_break j) h = absurd (file_or_all (r.only (are_taken h.0) h.1))
     only (are_taken read) h = absurd (file_or_all (r.only (are_taken read) h.0))
-
-  -- a fault once the files are read
-  pub not_read : (fault : SchemaFault) → IfSome (verdict_of_fault fault) (IsTheReading files main)
-      → IfSome (verdict_of_fault fault) (IsTheFilesVerdict files main)
-  not_read (faults.File clause name) r = file_first _ clause r
-  not_read (faults.Clause clause) r = absurd r.is
-  not_read faults.Memory r = tt
 
   module _ (read : TakenFiles) (r : IsTheReading files main (are_taken read)) where
     pub mentions_first : BreaksMentions (hrefs_in read) main → IsTheFilesVerdict files main (together_break 9)

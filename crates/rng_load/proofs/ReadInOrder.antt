@@ -6,12 +6,12 @@ use Rattle.std.specs.String.{string_eq}
 use Rattle.indexmap.specs.IndexMap.{insert_entry}
 use Rattle.std.proofs.lemmas.List.{length-append, length-map, map-append}
 use Rattle.rng_model.specs.Lists.{Among}
-use Rattle.rng_model.specs.declared.fault.SchemaFault.{SchemaFault}
-use Rattle.rng_model.specs.declared.fault.SchemaFault.TheVariants as faults
 use Rattle.rnc_grammar.specs.declared.file_tree.FileTree as declared
 use Rattle.rnc_grammar.specs.View.{file_of}
 use Rattle.rng_load.specs.Loading.{TakenFiles, with_name, hrefs_of, file_breaks}
-use Rattle.rng_load.specs.LoadingFaults.{IsNamedTree, IsTheReading, verdict_of_fault}
+use Rattle.rng_load.specs.LoadingFaults.{IsNamedTree, IsTheReading, verdict_of_reading}
+use Rattle.rng_load.specs.declared.fault.ReadingFault.{ReadingFault}
+use Rattle.rng_load.specs.declared.fault.ReadingFault.TheVariants as readings
 use Rattle.rng_load.specs.SchemaFile.{Name, NamedFile, breaks, has_tree, IsTheFileVerdict}
 use Rattle.rng_load.proofs.NamesAdded.{entry_goes_last}
 use Rattle.rng_load.proofs.TakenFiles.{IsFirm, more_firm, firm_taken, fresh, few_taken, first_broken, first_of}
@@ -52,11 +52,10 @@ module _ (files : List NamedFile) (main : Name) (es : Entries) (names : List Nam
       (first_broken files main (string_bytes name) clause (record { before = entries_of es; names = names; firm = firm; next = at; broken = v }))
 
   -- a file without a tree ends the walk
-  pub as_told : (f : Name) → f ≡ string_bytes name → (fault : SchemaFault) → IsNamedTree files main f (Err fault)
-      → IfSome (verdict_of_fault fault) (IsTheReading files main)
-  as_told f e (faults.File clause told) t = breaks_here clause told (t.0 ∙ e) (subst (λ g. IsTheFileVerdict files main g (breaks clause)) e t.1)
-  as_told f e (faults.Clause clause) t = absurd t
-  as_told f e faults.Memory t = tt
+  pub as_told : (f : Name) → f ≡ string_bytes name → (fault : ReadingFault) → IsNamedTree files main f (Err fault)
+      → IfSome (verdict_of_reading fault) (IsTheReading files main)
+  as_told f e (readings.File clause told) t = breaks_here clause told (t.0 ∙ e) (subst (λ g. IsTheFileVerdict files main g (breaks clause)) e t.1)
+  as_told f e readings.Memory t = tt
 
   module _ (tree : declared.FileTree) (f : Name) (same : f ≡ string_bytes name) (told : IsTheFileVerdict files main f (has_tree (file_of tree))) where
     abbrev v : IsTheFileVerdict files main (string_bytes name) (has_tree (file_of tree))

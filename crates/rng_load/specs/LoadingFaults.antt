@@ -8,6 +8,8 @@ use Rattle.rnc_grammar.specs.declared.file_tree.FileTree as declared
 use Rattle.rnc_grammar.specs.View.{file_of}
 use Rattle.rng_load.specs.FilesView.{taken_files_of}
 use Rattle.rng_load.specs.Loading.{FilesVerdict, file_breaks, together_break, are_taken, AreTaken, IsFirstBroken}
+use Rattle.rng_load.specs.declared.fault.ReadingFault.{ReadingFault}
+use Rattle.rng_load.specs.declared.fault.ReadingFault.TheVariants as readings
 use Rattle.rng_load.specs.SchemaFile.{Name, NamedFile, breaks, has_tree, IsTheFileVerdict}
 
 -- the verdict that a fault tells, unless memory ran out
@@ -16,7 +18,17 @@ verdict_of_fault (faults.File clause name) = Some (file_breaks (string_bytes nam
 verdict_of_fault (faults.Clause clause) = Some (together_break clause)
 verdict_of_fault faults.Memory = None
 
+-- the verdict that is told where files are not all read
+abbrev pub verdict_of_reading : ReadingFault → Option FilesVerdict
+verdict_of_reading (readings.File clause name) = Some (file_breaks (string_bytes name) clause)
+verdict_of_reading readings.Memory = None
+
 module _ {S : Type 0} where
+  -- what is told of files that are read in load order
+  abbrev pub order_of : Result (IndexMap (String Global) declared.FileTree S) ReadingFault → Option FilesVerdict
+  order_of (Ok trees) = Some (are_taken (taken_files_of trees))
+  order_of (Err fault) = verdict_of_reading fault
+
   -- what is told of files with their trees
   abbrev pub reading_of : Result (IndexMap (String Global) declared.FileTree S) SchemaFault → Option FilesVerdict
   reading_of (Ok trees) = Some (are_taken (taken_files_of trees))
@@ -34,8 +46,7 @@ pub record IsTheReading (files : List NamedFile) (main : Name) (v : FilesVerdict
   pub only : (other : FilesVerdict) → IsReading files main other → v ≡ other
 
 -- what is told of the file of this name, unless memory ran out: its tree, or the clause that it breaks first, with its name
-abbrev pub IsNamedTree : List NamedFile → Name → Name → Result declared.FileTree SchemaFault → Type 0
+abbrev pub IsNamedTree : List NamedFile → Name → Name → Result declared.FileTree ReadingFault → Type 0
 IsNamedTree files main f (Ok tree) = IsTheFileVerdict files main f (has_tree (file_of tree))
-IsNamedTree files main f (Err (faults.File clause name)) = (string_bytes name ≡ f) × IsTheFileVerdict files main f (breaks clause)
-IsNamedTree files main f (Err (faults.Clause clause)) = ⊥
-IsNamedTree files main f (Err faults.Memory) = Unit {0}
+IsNamedTree files main f (Err (readings.File clause name)) = (string_bytes name ≡ f) × IsTheFileVerdict files main f (breaks clause)
+IsNamedTree files main f (Err readings.Memory) = Unit {0}

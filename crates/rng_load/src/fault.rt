@@ -1,11 +1,13 @@
-// Why a file of a schema has no tree.
+// Why a file of a schema, or one of its files, has no tree.
 ghost use Rattle.std.specs.Prelude.{◌≡◌};
 ghost use Rattle.rng_load.specs.FileFaults.{fault_of_parse, fault_of_text};
+ghost use Rattle.rng_load.specs.declared.fault.ReadingFault.TheVariants as readings;
 
 use rnc_grammar::ParseFault;
 use rnc_text::TextFault;
+use rng_model::OutOfMemory;
 
-/// Why a file of a schema has no tree.
+/// Why a file of a schema, or one of its files, has no tree.
 #[derive(Clone, Copy)]
 pub enum FileFault {
     /// The file breaks this clause, 1 to 8.
@@ -33,5 +35,25 @@ impl From<ParseFault> for FileFault {
             ParseFault::At { clause, .. } | ParseFault::Clause(clause) => FileFault::Clause(clause),
             ParseFault::Memory => FileFault::Memory,
         }
+    }
+}
+
+/// Why the files of a schema are not all read.
+#[derive(Drop)]
+pub enum ReadingFault {
+    /// The file of this name is the first to break a clause by itself, and this is the first that it breaks: 1 to 8.
+    File { clause: u8, name: String },
+    /// There was no memory for what had to be kept.
+    Memory,
+}
+
+impl<E: Drop> From<E> for ReadingFault
+where
+    OutOfMemory: From<E>,
+{
+    ghost from_gives = { λ _ e. e ≡ readings.Memory };
+
+    fn from(_e: E) -> ReadingFault {
+        ReadingFault::Memory
     }
 }

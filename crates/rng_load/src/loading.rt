@@ -7,6 +7,7 @@ ghost use Rattle.rng_load.specs.Loading.{IsTheFilesVerdict};
 ghost use Rattle.rng_load.specs.LoadingFaults.{reading_of};
 ghost use Rattle.rng_load.specs.PlacedGrammars.{schema_of};
 
+use crate::fault::ReadingFault;
 use crate::includes::breaks_includes;
 use crate::order::load_in_order;
 use crate::paths::breaks_mentions;
@@ -65,7 +66,11 @@ fn load_files(
 ) -> Result<IndexMap<String, FileTree>, SchemaFault>
     ensures { IfSome (reading_of result) (IsTheFilesVerdict (named_files files.now) main.now) }
 {
-    let trees = load_in_order(alloc, files, main)?;
+    let trees = match load_in_order(alloc, files, main) {
+        Ok(trees) => trees,
+        Err(ReadingFault::File { clause, name }) => return Err(SchemaFault::File { clause, name }),
+        Err(ReadingFault::Memory) => return Err(SchemaFault::Memory),
+    };
     if breaks_mentions(alloc, &trees, main)? {
         return Err(SchemaFault::Clause(9));
     }

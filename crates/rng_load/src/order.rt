@@ -3,30 +3,30 @@ ghost use Rattle.std.specs.Prelude.{◌≡◌, fold, map, string_bytes, IfOk, If
 ghost use Rattle.rnc_grammar.specs.View.{file_of};
 ghost use Rattle.rng_load.specs.FilesView.{names_of, named_files, taken_files_of};
 ghost use Rattle.rng_load.specs.Loading.{hrefs_of, with_name};
-ghost use Rattle.rng_load.specs.LoadingFaults.{IsNamedTree, IsTheReading, reading_of};
+ghost use Rattle.rng_load.specs.LoadingFaults.{IsNamedTree, IsTheReading, order_of};
 
-use crate::fault::FileFault;
+use crate::fault::{FileFault, ReadingFault};
 use crate::mentioned::hrefs;
 use crate::put::put;
 use crate::reading::tree_of_file;
 use indexmap::{IndexMap, IndexSet};
 use rnc_grammar::FileTree;
-use rng_model::{OutOfMemory, SchemaFault};
+use rng_model::OutOfMemory;
 use std::alloc::Global;
 
 /// The files that the main one reaches, by name in load order, each with its tree.
 ///
 /// The load order begins with the main file; then, for each file in load order, come the files that it mentions, in the
 /// order of its tokens, each that is not there yet. `File` names the first file in load order that breaks a clause by
-/// itself, and its least clause, 1 to 8; what comes after it is not looked at. `Clause` is not answered.
+/// itself, and its least clause, 1 to 8; what comes after it is not looked at.
 ///
 /// Each file is decoded and parsed once, however often it is mentioned.
 pub fn load_in_order(
     alloc: Global,
     files: &[(String, Vec<u8>)],
     main: &str,
-) -> Result<IndexMap<String, FileTree>, SchemaFault>
-    ensures { IfSome (reading_of result) (IsTheReading (named_files files.now) main.now) }
+) -> Result<IndexMap<String, FileTree>, ReadingFault>
+    ensures { IfSome (order_of result) (IsTheReading (named_files files.now) main.now) }
 {
     let mut names = IndexSet::new(alloc);
     names.insert(String::from_str(alloc, main)?)?;
@@ -46,16 +46,16 @@ fn named_tree(
     files: &[(String, Vec<u8>)],
     main: &str,
     name: &str,
-) -> Result<FileTree, SchemaFault>
+) -> Result<FileTree, ReadingFault>
     ensures { IsNamedTree (named_files files.now) main.now name.now result }
 {
     match tree_of_file(alloc, files, main, name) {
         Ok(tree) => Ok(tree),
-        Err(FileFault::Clause(clause)) => Err(SchemaFault::File {
+        Err(FileFault::Clause(clause)) => Err(ReadingFault::File {
             clause,
             name: String::from_str(alloc, name)?,
         }),
-        Err(FileFault::Memory) => Err(SchemaFault::Memory),
+        Err(FileFault::Memory) => Err(ReadingFault::Memory),
     }
 }
 

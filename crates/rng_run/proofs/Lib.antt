@@ -2,5 +2,6 @@ mod AnswerLines
 mod LoadedSchemas
 mod Documents
 mod DocumentVerdict
+mod FailedFlush
 mod GoodSchemas
 mod UnknownNames

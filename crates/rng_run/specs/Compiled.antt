@@ -1,4 +1,4 @@
--- What a schema is compiled to for a command: what is told of it alone, its printed simple form, or the grammar by which documents are judged.
+-- What a schema that breaks no clause is compiled to for a command: what is told of it alone, its printed simple form, or the grammar by which documents are judged.
 use Rattle.rng_model.specs.Schema.{Schema}
 use Rattle.rng_model.specs.SchemaClauses.{IsLeastClause}
 use Rattle.rng_model.specs.SchemaForm.{IsOnlySimpleGrammarOf}
@@ -7,7 +7,7 @@ use Rattle.rng_model.specs.Table.{Table, grammar_of}
 use Rattle.rng_model.specs.declared.fault.SchemaFault.{SchemaFault}
 use Rattle.rng_model.specs.declared.fault.SchemaFault.TheVariants as faults
 use Rattle.rng_matching.specs.Laws.{BreaksNone}
-use Rattle.rng_run.specs.Answer.{refused, printed, schema_ok}
+use Rattle.rng_run.specs.Answer.{printed, schema_ok}
 use Rattle.rng_run.specs.Run.{IsTold, JudgesDocuments}
 use Rattle.rng_run.specs.declared.compiling.Compiled.{Compiled}
 use Rattle.rng_run.specs.declared.compiling.Compiled.TheVariants as compiled
@@ -22,7 +22,6 @@ pub record IsGrammarFor (command : Command) (s : Schema) (g : Table) : Type 0 wh
 
 -- it is told of the schema, or documents are judged by it
 abbrev pub IsCompiled : Command → Schema → Compiled → Type 0
-IsCompiled command s (compiled.Refused clause) = IsTold command s (refused clause)
 IsCompiled command s compiled.Good = IsTold command s schema_ok
 IsCompiled command s (compiled.Printed text) = IsTold command s (printed text.items)
 IsCompiled command s (compiled.Grammar g) = IsGrammarFor command s g

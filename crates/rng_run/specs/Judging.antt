@@ -1,10 +1,14 @@
--- Which names a grammar does not know, and what is said of a document by a matcher.
+-- Which names a grammar does not know, what is said of a document by a matcher, and of a run where no document was judged.
 use Rattle.std.specs.Prelude.{ℕ}
 use Rattle.rng_model.specs.Names.{In, Name, NameClass}
 use Rattle.rng_model.specs.Restrictions.{ClassIn}
 use Rattle.rng_model.specs.Table.{Grammar}
 use Rattle.rng_matcher.specs.declared.outcome.Outcome.{Outcome}
 use Rattle.rng_matcher.specs.declared.outcome.Outcome.TheVariants as outcome
+use Rattle.rng_run.specs.declared.judging.JudgeFault.{JudgeFault}
+use Rattle.rng_run.specs.declared.judging.JudgeFault.TheVariants as judging
+use Rattle.rng_run.specs.declared.running.RunFault.{RunFault}
+use Rattle.rng_run.specs.declared.running.RunFault.TheVariants as running
 use Rattle.rng_run.specs.declared.answer.Verdict.{Verdict}
 use Rattle.rng_run.specs.declared.answer.Verdict.TheVariants.{Valid, Invalid}
 
@@ -15,3 +19,7 @@ IsUnknownTo g name = (k : ℕ) (c : NameClass) → ClassIn g k c → ¬ (In c na
 abbrev pub verdict_of : Outcome → Verdict
 verdict_of outcome.Valid = Valid
 verdict_of (outcome.Invalid line) = Invalid line
+
+abbrev pub fault_of_judging : JudgeFault → RunFault
+fault_of_judging judging.Read = running.Read
+fault_of_judging judging.Memory = running.Memory

@@ -11,17 +11,15 @@ ghost use Rattle.rng_run.specs.Compiled.{IsCompiled, IsLeastFault};
 
 use crate::running::Command;
 use rng_load::Schema;
-use rng_model::{OutOfMemory, SchemaFault, SimpleGrammar};
+use rng_model::{SchemaFault, SimpleGrammar};
 use rng_print::printed_text;
 use rng_rules::restrict;
 use rng_simple::simplify_schema;
 use std::alloc::Global;
 
-/// What a schema is compiled to.
+/// What a schema that breaks no clause is compiled to.
 #[derive(Drop)]
 pub enum Compiled {
-    /// The clause that is told of it.
-    Refused(u8),
     /// It breaks no clause, and no more is asked.
     Good,
     /// Its simple form, printed.
@@ -30,21 +28,17 @@ pub enum Compiled {
     Grammar(SimpleGrammar),
 }
 
-/// The grammar by which the command judges documents, or what is told of the schema.
+/// The grammar by which the command judges documents, or what is told of the schema; or the least clause that it breaks, 11 to 27.
 pub(crate) fn compile(
     alloc: Global,
     command: Command,
     schema: Schema,
-) -> Result<Compiled, OutOfMemory>
+) -> Result<Compiled, SchemaFault>
     requires { IsWellPlaced (schema_of schema) }
-    ensures { IfOk result (IsCompiled command (schema_of schema)) }
+    ensures compiled { IfOk result (IsCompiled command (schema_of schema)) }
+    ensures broken { IfErr result (IsLeastFault (schema_of schema)) }
 {
-    let grammar = match good_grammar(alloc, schema) {
-        Ok(grammar) => grammar,
-        Err(SchemaFault::Clause(clause)) => return Ok(Compiled::Refused(clause)),
-        Err(SchemaFault::File { .. }) => unreachable!(),
-        Err(SchemaFault::Memory) => return Err(OutOfMemory),
-    };
+    let grammar = good_grammar(alloc, schema)?;
     match command {
         Command::Check => Ok(Compiled::Good),
         Command::Simple => Ok(Compiled::Printed(printed_text(alloc, &grammar)?)),

@@ -26,6 +26,14 @@ pub(crate) enum JudgeFault {
     Memory,
 }
 
+impl From<OutOfMemory> for JudgeFault {
+    ghost from_gives = { λ cause fault. fault ≡ JudgeFault.Memory };
+
+    fn from(_cause: OutOfMemory) -> JudgeFault {
+        JudgeFault::Memory
+    }
+}
+
 /// What the document that a reader has left is by a grammar that obeys the restrictions.
 ///
 /// `Malformed` names the broken clause of least line, and there of least number. Of one line: 1 where no line feed ends

@@ -1,8 +1,9 @@
 // From files and a document to an answer.
-ghost use Rattle.std.specs.Prelude.{◌≡◌, ◌-◌, ◌^◌, ◌<◌, length, IfOk, IfErr, OnOk, IsErrOf};
-ghost use Rattle.rng_model.specs.Device.{device_inner, device_failures};
+ghost use Rattle.std.specs.Prelude.{◌≡◌, ◌-◌, ◌^◌, ◌<◌, Some, length, true, IfOk, IfErr, OnOk, IsErrOf};
+ghost use Rattle.rng_model.specs.Device.{device_inner, device_failures, device_flushed};
 ghost use Rattle.rng_run.specs.Answer.{status_of};
-ghost use Rattle.rng_run.specs.AnswerView.{answer_of};
+ghost use Rattle.rng_run.specs.AnswerView.{answer_of, refusal_of};
+ghost use Rattle.rng_run.specs.Judging.{fault_of_judging};
 ghost use Rattle.rng_load.specs.FilesView.{named_files};
 ghost use Rattle.rng_load.specs.Loading.{FilesVerdict, IsTheFilesVerdict};
 ghost use Rattle.rng_load.specs.PlacedGrammars.{schema_of};
@@ -40,8 +41,19 @@ pub enum RunFault {
     Memory,
 }
 
-/// Does what the command asks for with the schema of these files, of which the first is the main one, and writes what it
-/// answers: one line, or a simple form.
+impl From<JudgeFault> for RunFault {
+    ghost from_gives = { λ cause fault. fault ≡ fault_of_judging cause };
+
+    fn from(cause: JudgeFault) -> RunFault {
+        match cause {
+            JudgeFault::Read => RunFault::Read,
+            JudgeFault::Memory => RunFault::Memory,
+        }
+    }
+}
+
+/// Does what the command asks for with the schema of these files, of which the first is the main one, writes what it
+/// answers, one line or a simple form, and flushes the output.
 ///
 /// The line is `refused Sk file NAME` where a file breaks a clause by itself, with the first such file in load order
 /// and the clause that it breaks first, 1 to 8; else `refused S9` or `refused S10` where the files break that together,
@@ -53,7 +65,8 @@ pub enum RunFault {
 /// and no element starts before with a name that no element of the schema's simple form may have. A line feed ends it. A
 /// refused schema leaves the input unread; the bytes of files that are not reached from the main one are not looked at.
 /// `RunFault::Read` and `RunFault::Write` come only where that device counted a failed call, `RunFault::Memory` only where
-/// neither did; after `Read` and `Memory` nothing was written, after `Write` a beginning of the answer was. A document is read
+/// neither did; after `Read` and `Memory` nothing was written, after `Write` a beginning of the answer was, or all of it where
+/// the flush failed. A document is read
 /// to its end, or in pieces of 32,768 bytes to the one with the first fault, and judged as it goes by: no more of it is kept
 /// than a tag, a text, the open elements, and what the matcher keeps. The files are kept whole; time is what `load` takes,
 /// and then what `simplify_schema` and `restrict` take, and `Matcher` for each event.
@@ -75,6 +88,8 @@ pub fn run<R: Read, W: Write>(
         (IsAnswer command (named_files files.now) (main_name files.now) (R.remaining (device_inner input.old)) (R.remaining (device_inner input.new)))
         status (W.contents (device_inner output.old)) (W.contents (device_inner output.new))) }
 
+    ensures flushed { OnOk result (device_flushed output.new ≡ true) }
+
     // Where no document is judged by the files, none is read.
     ensures unread { (verdict : FilesVerdict) → IsTheFilesVerdict (named_files files.now) (main_name files.now) verdict → JudgesNone command (main_name files.now) verdict → input.new ≡ input.old }
 
@@ -93,6 +108,9 @@ pub fn run<R: Read, W: Write>(
         return Err(RunFault::Memory);
     };
     if write_whole(output, text.as_slice()).is_err() {
+        return Err(RunFault::Write);
+    }
+    if output.flush().is_err() {
         return Err(RunFault::Write);
     }
     Ok(status)
@@ -116,20 +134,17 @@ fn answer_for<R: Read>(
     files: &[(String, Vec<u8>)],
     main: &str,
     input: &mut Device<R>,
-) -> Result<Answer, RunFault>
+) -> Result<Answer, JudgeFault>
     requires { device_failures input.old < 2 ^ 64 - 1 }
     ensures calm { OnOk result (device_failures input.new ≡ device_failures input.old) }
     ensures unread { (verdict : FilesVerdict) → IsTheFilesVerdict (named_files files.now) main.now verdict → JudgesNone command main.now verdict → input.new ≡ input.old }
-    ensures read { IsErrOf result RunFault.Read → device_failures input.old < device_failures input.new }
-    ensures memory { IsErrOf result RunFault.Memory → device_failures input.new ≡ device_failures input.old }
-    ensures no_write { IsErrOf result RunFault.Write → ⊥ }
+    ensures read { IsErrOf result JudgeFault.Read → device_failures input.old < device_failures input.new }
+    ensures memory { IsErrOf result JudgeFault.Memory → device_failures input.new ≡ device_failures input.old }
     ensures answer { IfOk result (λ answer. IsAnswer command (named_files files.now) main.now (R.remaining (device_inner input.old)) (R.remaining (device_inner input.new)) (answer_of answer)) }
 {
     match load(alloc, files, main) {
         Ok(schema) => answer_by(alloc, command, schema, input),
-        Err(SchemaFault::File { clause, name }) => Ok(Answer::RefusedFile { clause, name }),
-        Err(SchemaFault::Clause(clause)) => Ok(Answer::Refused(clause)),
-        Err(SchemaFault::Memory) => Err(RunFault::Memory),
+        Err(fault) => Ok(refusal(fault)?),
     }
 }
 
@@ -139,26 +154,32 @@ fn answer_by<R: Read>(
     command: Command,
     schema: Schema,
     input: &mut Device<R>,
-) -> Result<Answer, RunFault>
+) -> Result<Answer, JudgeFault>
     requires placed { IsWellPlaced (schema_of schema) }
     requires input { device_failures input.old < 2 ^ 64 - 1 }
     ensures calm { OnOk result (device_failures input.new ≡ device_failures input.old) }
     ensures unread { ¬ (JudgesDocuments command (schema_of schema)) → input.new ≡ input.old }
-    ensures read { IsErrOf result RunFault.Read → device_failures input.old < device_failures input.new }
-    ensures memory { IsErrOf result RunFault.Memory → device_failures input.new ≡ device_failures input.old }
-    ensures no_write { IsErrOf result RunFault.Write → ⊥ }
+    ensures read { IsErrOf result JudgeFault.Read → device_failures input.old < device_failures input.new }
+    ensures memory { IsErrOf result JudgeFault.Memory → device_failures input.new ≡ device_failures input.old }
     ensures answer { IfOk result (λ answer. IsAnswerBy command (schema_of schema) (R.remaining (device_inner input.old)) (R.remaining (device_inner input.new)) (answer_of answer)) }
 {
-    let grammar = match compile(alloc, command, schema) {
-        Ok(Compiled::Grammar(grammar)) => grammar,
-        Ok(Compiled::Refused(clause)) => return Ok(Answer::Refused(clause)),
-        Ok(Compiled::Good) => return Ok(Answer::SchemaOk),
-        Ok(Compiled::Printed(text)) => return Ok(Answer::Printed(text)),
-        Err(OutOfMemory) => return Err(RunFault::Memory),
-    };
-    match document_verdict(alloc, &grammar, input) {
-        Ok(verdict) => Ok(Answer::Judged(verdict)),
-        Err(JudgeFault::Read) => Err(RunFault::Read),
-        Err(JudgeFault::Memory) => Err(RunFault::Memory),
+    match compile(alloc, command, schema) {
+        Ok(Compiled::Grammar(grammar)) => {
+            Ok(Answer::Judged(document_verdict(alloc, &grammar, input)?))
+        }
+        Ok(Compiled::Good) => Ok(Answer::SchemaOk),
+        Ok(Compiled::Printed(text)) => Ok(Answer::Printed(text)),
+        Err(fault) => Ok(refusal(fault)?),
+    }
+}
+
+/// The answer that tells a fault of a schema.
+fn refusal(fault: SchemaFault) -> Result<Answer, OutOfMemory>
+    ensures { IfOk result (λ answer. refusal_of fault ≡ Some (answer_of answer)) }
+{
+    match fault {
+        SchemaFault::File { clause, name } => Ok(Answer::RefusedFile { clause, name }),
+        SchemaFault::Clause(clause) => Ok(Answer::Refused(clause)),
+        SchemaFault::Memory => Err(OutOfMemory),
     }
 }

@@ -1,25 +1,22 @@
-use Rattle.std.proofs.lemmas.Result.{err_from_is_err_and}
 use Rattle.rng_load.specs.FilesView.{named_files, taken_files_of}
-use Rattle.rng_load.proofs.FilesVerdict.{not_read, mentions_first, includes_next, none_broken}
+use Rattle.rng_load.proofs.FilesVerdict.{file_first, mentions_first, includes_next, none_broken}
 use Rattle.rng_load.proofs.HandedIn.{is_not}
 use Rattle.rng_load.proofs.loading.load_files.Goals as goal
 
-pub returns-in_err-trees : goal.returns-in_err-trees
-returns-in_err-trees c =
-    let p = err_from_is_err_and c.from_residual.result c.from_residual.ensures.1 in
-    rw (p.1, p.2) (not_read (named_files c.args.files.now) c.args.main.now c.in_err-trees.field-0.0 c.in_err-trees.ensures)
+pub returns-in-Err-File : goal.returns-in-Err-File
+returns-in-Err-File c = file_first (named_files c.args.files.now) c.args.main.now _ _ c.in-Err-File.ensures
 
 pub returns-then-branch : goal.returns-then-branch
 returns-then-branch c =
-    mentions_first (named_files c.args.files.now) c.args.main.now (taken_files_of c.in_ok-trees.trees) c.in_ok-trees.ensures
+    mentions_first (named_files c.args.files.now) c.args.main.now (taken_files_of c.in-Ok.trees) c.in-Ok.ensures
     (c.in_ok-breaks_mentions.ensures.0 c.if-branch.true)
 
 pub returns-then-branch-2 : goal.returns-then-branch-2
 returns-then-branch-2 c =
-    includes_next (named_files c.args.files.now) c.args.main.now (taken_files_of c.in_ok-trees.trees) c.in_ok-trees.ensures
+    includes_next (named_files c.args.files.now) c.args.main.now (taken_files_of c.in-Ok.trees) c.in-Ok.ensures
     (λ b. is_not c.if-branch.false (c.in_ok-breaks_mentions.ensures.1 b)) (c.in_ok-breaks_includes.ensures.0 c.if-branch-2.true)
 
 pub returns : goal.returns
 returns c =
-    none_broken (named_files c.args.files.now) c.args.main.now (taken_files_of c.in_ok-trees.trees) c.in_ok-trees.ensures
+    none_broken (named_files c.args.files.now) c.args.main.now (taken_files_of c.in-Ok.trees) c.in-Ok.ensures
     (λ b. is_not c.if-branch.false (c.in_ok-breaks_mentions.ensures.1 b)) (λ b. is_not c.if-branch-2.false (c.in_ok-breaks_includes.ensures.1 b))
