@@ -5,14 +5,18 @@ use Rattle.rng_run.specs.declared.answer.Status.TheVariants.{Good, Invalid, Malf
 use Rattle.rncv_cli.specs.declared.fault.Fault.{Fault}
 use Rattle.rncv_cli.specs.declared.fault.Fault.TheVariants.{Memory, Read, Write, File, Usage}
 
+-- words that are no command line are told apart from all other faults
+abbrev pub fault_status : Fault → ℕ
+fault_status Memory = 4
+fault_status Read = 4
+fault_status Write = 4
+fault_status (File name) = 4
+fault_status Usage = 5
+
 -- by the status where a run found an answer, else by the fault
 abbrev pub exit_status_of : Result Status Fault → ℕ
 exit_status_of (Ok Good) = 0
 exit_status_of (Ok Invalid) = 1
 exit_status_of (Ok Malformed) = 2
 exit_status_of (Ok Refused) = 3
-exit_status_of (Err Memory) = 4
-exit_status_of (Err Read) = 4
-exit_status_of (Err Write) = 4
-exit_status_of (Err (File name)) = 4
-exit_status_of (Err Usage) = 5
+exit_status_of (Err fault) = fault_status fault

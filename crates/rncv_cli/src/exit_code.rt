@@ -7,8 +7,7 @@ use crate::fault::Fault;
 use rng_run::Status;
 use std::process::ExitCode;
 
-/// The exit status: 0 to 3 by the status of a run that found an answer, 5 where the words are no command line of the program,
-/// else 4. Takes no memory.
+/// The exit status: 0 to 3 by the status of a run that found an answer, else that of the fault (`Fault::status`). Takes no memory.
 pub fn exit_of(answer: &Result<Status, Fault>) -> ExitCode
     ensures { exit_status result ≡ exit_status_of answer.now }
 {
@@ -17,8 +16,7 @@ pub fn exit_of(answer: &Result<Status, Fault>) -> ExitCode
         Ok(Status::Invalid) => 1,
         Ok(Status::Malformed) => 2,
         Ok(Status::Refused) => 3,
-        Err(Fault::Usage) => 5,
-        Err(Fault::Memory | Fault::Read | Fault::Write | Fault::File(_)) => 4,
+        Err(fault) => fault.status(),
     };
     ExitCode::from(status)
 }

@@ -1,6 +1,7 @@
 // Why the program ends without an answer.
 ghost use Rattle.std.specs.Prelude.{◌≡◌, ◌↔◌, IsTrue};
 ghost use Rattle.std.specs.IoError.{error_kind};
+ghost use Rattle.rncv_cli.specs.ExitStatus.{fault_status};
 ghost use Rattle.rncv_cli.specs.Faults.{fault_of_run};
 
 use rng_run::RunFault;
@@ -26,6 +27,18 @@ pub enum Fault {
     /// The words are no command line of the program.
     #[error("usage: rncv valid|check|simple FILES..")]
     Usage,
+}
+
+impl Fault {
+    /// The exit status of a program that ends with the fault: 5 where the words are no command line, else 4. Takes no memory.
+    pub fn status(&self) -> u8
+        ensures { result ≡ fault_status self.now }
+    {
+        match self {
+            Fault::Usage => 5,
+            Fault::Memory | Fault::Read | Fault::Write | Fault::File(_) => 4,
+        }
+    }
 }
 
 impl From<RunFault> for Fault {
