@@ -52,12 +52,17 @@ for crate in $(below "$@"); do
 done
 status=0
 for name; do
+  if [ ! -d "crates/$name/edits" ]; then
+    echo "$name: NOT TRIED: nothing of its edits/ is committed, or it was named twice"
+    status=1
+    continue
+  fi
   rm -rf "crates/$name/must-fail"
-  mv "crates/$name/edits" "crates/$name/must-fail" || exit 1
+  mv "crates/$name/edits" "crates/$name/must-fail"
   rt must-fail "$name" >"$room/log" 2>&1 || status=1
   sed -n 's/^rt: must-fail \([^ ]*\)\.edit: /\1: /p' "$room/log" >"$room/lines"
   cat "$room/lines"
-  for edit in crates/"$name"/must-fail/*; do
+  for edit in crates/"$name"/must-fail/*.edit; do
     edit=$name/$(basename "$edit" .edit)
     grep -q "^$edit: " "$room/lines" || { echo "$edit: NOT TRIED"; status=1; untried=yes; }
   done
