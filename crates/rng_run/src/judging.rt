@@ -5,10 +5,11 @@ ghost use Rattle.rng_model.specs.DatatypeTests.{text_tests};
 ghost use Rattle.rng_model.specs.Device.{device_inner, device_failures};
 ghost use Rattle.rng_model.specs.Table.{grammar_of, IsValidBy};
 ghost use Rattle.rng_model.specs.Texts.{texts_of};
-ghost use Rattle.rng_run.specs.Judging.{IsUnknownTo};
+ghost use Rattle.rng_run.specs.Judging.{IsUnknownTo, fault_of_judging};
 ghost use Rattle.rng_run.specs.Verdict.{IsJudgedBy, malformed_by};
 
 use crate::answer::Verdict;
+use crate::running::RunFault;
 use crate::streams::{DocumentFault, take_document};
 use pyx::PyxFault;
 use rng_derivatives::matcher;
@@ -31,6 +32,17 @@ impl From<OutOfMemory> for JudgeFault {
 
     fn from(_cause: OutOfMemory) -> JudgeFault {
         JudgeFault::Memory
+    }
+}
+
+impl From<JudgeFault> for RunFault {
+    ghost from_gives = { λ cause fault. fault ≡ fault_of_judging cause };
+
+    fn from(cause: JudgeFault) -> RunFault {
+        match cause {
+            JudgeFault::Read => RunFault::Read,
+            JudgeFault::Memory => RunFault::Memory,
+        }
     }
 }
 

@@ -3,7 +3,6 @@ ghost use Rattle.std.specs.Prelude.{◌≡◌, ◌-◌, ◌^◌, ◌<◌, Some, 
 ghost use Rattle.rng_model.specs.Device.{device_inner, device_failures, device_flushed};
 ghost use Rattle.rng_run.specs.Answer.{status_of};
 ghost use Rattle.rng_run.specs.AnswerView.{answer_of, refusal_of};
-ghost use Rattle.rng_run.specs.Judging.{fault_of_judging};
 ghost use Rattle.rng_load.specs.FilesView.{named_files};
 ghost use Rattle.rng_load.specs.Loading.{FilesVerdict, IsTheFilesVerdict};
 ghost use Rattle.rng_load.specs.PlacedGrammars.{schema_of};
@@ -39,17 +38,6 @@ pub enum RunFault {
     Write,
     /// There was no memory for what the run had to keep.
     Memory,
-}
-
-impl From<JudgeFault> for RunFault {
-    ghost from_gives = { λ cause fault. fault ≡ fault_of_judging cause };
-
-    fn from(cause: JudgeFault) -> RunFault {
-        match cause {
-            JudgeFault::Read => RunFault::Read,
-            JudgeFault::Memory => RunFault::Memory,
-        }
-    }
 }
 
 /// Does what the command asks for with the schema of these files, of which the first is the main one, writes what it
