@@ -22,7 +22,7 @@ IsValid g d = IsValidBy g.grammar (texts_of g.tests) (item_of d)
 abbrev pub CannotBeValid : Reading → List Event → Type 0
 CannotBeValid g es = (more : List Event) (bytes : List ℕ) (d : Placed) → IsPyxDocument bytes d → events_of d ≡ es ++ more → ¬ (IsValid g d)
 
--- with one of the events, at this line, nothing valid can begin any more; none before it is the start of an element that the grammar has no name for
+-- after one of the events, at this line, no continuation is valid; none before it is the start of an element that the grammar has no name for
 pub record FailsAt (g : Reading) (es : List Event) (line : ℕ) : Type 0 where
   pub before : List Event
   pub kind : EventKind

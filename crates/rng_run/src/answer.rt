@@ -12,7 +12,7 @@ pub enum Verdict {
     Valid,
     /// The clause that is broken first, 1 to 13, and its line: 1 is the first, and 0 says that there is none.
     Malformed { clause: u8, line: u64 },
-    /// The line, from 1, with which nothing valid can begin any more.
+    /// The line, from 1, after which no continuation is valid.
     Invalid(u64),
 }
 

@@ -54,7 +54,7 @@ impl From<JudgeFault> for RunFault {
 /// tag, 8 for an end tag that does not fit, 9 for a text outside the root or a start tag after it, 10 for a limit that
 /// is passed. Of a tag, at its last line: 11 for a declaration that is not allowed or a prefix that is not declared, 12
 /// for two attributes of one name. 13 is an input that ends without a root or with an element open. `Invalid` has a line
-/// with which nothing valid can begin any more. Reading stops at the piece with the line of a fault, and goes on to the end
+/// after which no continuation is valid. Reading stops at the piece with the line of a fault, and continues to the end
 /// where there is none. No more is kept of the document than the lines of a tag, a text, the names that are open, and
 /// what the matcher keeps.
 ///
