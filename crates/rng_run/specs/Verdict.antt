@@ -27,8 +27,8 @@ StartsUnknown IsUnknown (a_start name attrs) = IsUnknown name
 StartsUnknown IsUnknown (a_string text) = ⊥
 StartsUnknown IsUnknown an_end = ⊥
 
--- The bytes are a document, and n is one of its lines: nothing that begins with its lines up to this one is valid, and no element starts before it with
--- a name that no element may have.
+-- The bytes are a document, and n is one of its lines: nothing that begins with its lines up to this one is valid, and the start of no element
+-- with a name that no element may have is told before it.
 pub record IsInvalidFrom (IsValid : Item → Type 0) (IsUnknown : Name → Type 0) (bytes : List ℕ) (n : ℕ) : Type 0 where
   pub document : Placed
   pub is_document : IsPyxDocument bytes document

@@ -50,7 +50,7 @@ pub enum RunFault {
 /// document is that `input` has left: `malformed Pk line N` with its first fault where it
 /// is no document; else `valid` exactly if it matches the schema by the rules of section 6 of the RELAX NG Specification, read
 /// over the files as they are written; else `invalid line N`, where nothing that begins with its lines up to line N is valid,
-/// and no element starts before with a name that no element of the schema's simple form may have. A line feed ends it. A
+/// and the start of no element with a name that no element of the schema's simple form may have is told before. A line feed ends it. A
 /// refused schema leaves the input unread; the bytes of files that are not reached from the main one are not looked at.
 /// `RunFault::Read` and `RunFault::Write` come only where that device counted a failed call, `RunFault::Memory` only where
 /// neither did; after `Read` and `Memory` nothing was written, after `Write` a beginning of the answer was, or all of it where
