@@ -4,7 +4,8 @@ use Rattle.rng_load.proofs.HandedIn.{is_not}
 use Rattle.rng_load.proofs.loading.load_files.Goals as goal
 
 pub returns-in-Err-File : goal.returns-in-Err-File
-returns-in-Err-File c = file_first (named_files c.args.files.now) c.args.main.now _ _ (rw c.in-Err-File.field-0-is at c.in-Err-File.ensures)
+returns-in-Err-File c = rw c.in-Err-File.field-0-is
+    (file_first (named_files c.args.files.now) c.args.main.now _ _ (rw c.in-Err-File.field-0-is at c.in-Err-File.ensures))
 
 pub returns-then-branch : goal.returns-then-branch
 returns-then-branch c =
