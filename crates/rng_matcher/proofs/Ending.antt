@@ -1,12 +1,13 @@
 -- The end of an element, one way out after another, in a table that grows.
-use Rattle.std.proofs.Common.{◌≡◌, ◌↔◌, ◌⊎◌, inl, inr, ℕ, ◌<◌, ◌+◌, zero, suc, List, [], ◌∷◌, ◌++◌, length, map, take, refl}
+use Rattle.std.proofs.Common.{◌≡◌, ◌↔◌, ◌⊎◌, inl, inr, ℕ, ◌<◌, ◌+◌, zero, suc, List, [], ◌∷◌, ◌++◌, drop, length, map, take, refl, ⊎_elim}
 use Rattle.std.proofs.Common.{sym, ap, ◌∙◌, subst, Bool, true, ◌||◌, ◌&&◌, All}
 use Rattle.std.proofs.Common.{slice_get, slice_set, slice_index_or, replicate, Contains, Some, arith}
 use Rattle.std.specs.List.{AllZip}
 use Rattle.std.specs.Option.{option_map}
 use Rattle.std.proofs.lemmas.Option.{same_Some, slice_get-map, slice_get-get_or, slice_get_within}
-use Rattle.std.proofs.lemmas.List.{length-set, length-replicate, map-append, take_more, get_or-set_same}
-use Rattle.std.proofs.lemmas.List.Elements.{All-weaker, All-cons, All-head, All-nil, All-take, All-map, All-contains, All-set, All-replicate}
+use Rattle.std.proofs.lemmas.List.{length-set, length-replicate, drop_more, take_more, get_or-set_same}
+use Rattle.std.proofs.lemmas.List.Elements.{All-weaker, All-cons, All-head, All-nil, All-drop, All-map, All-contains, All-set, All-replicate}
+use Rattle.std.proofs.lemmas.List.Elements.{Contains-append_left, Contains-append_right, Contains-push, Contains-push_cases}
 use Rattle.rng_model.specs.Tree.{Simple}
 use Rattle.rng_model.specs.Document.{Item}
 use Rattle.rng_model.specs.Texts.{is_blank}
@@ -174,25 +175,43 @@ only_ended g good around trees links rest outside o within is =
     (subst (λ ls. AddsEnded g good around trees trees ls (o.link.rest ∷ [])) (sym o.only)
     (subst (λ n. AddsEnded g good n trees trees (o.link ∷ []) (o.link.rest ∷ [])) (sym o.one) ends))
 
--- in a loop over the ways out
+-- in a loop over the ways out, from the last one
+ended_turned : (g : Reading) (good : List Bool) (links : List level.Link) (l : level.Link) (outside : List (Simple ℕ))
+    → AreEnded g good (links ++ l ∷ []) outside → AreEnded g good (l ∷ links) outside
+ended_turned g good links l outside e = record {
+  to = λ k ns c is d. e.to k ns (⊎_elim (λ h. subst (Contains (links ++ l ∷ [])) h (Contains-push links l)) (λ h. Contains-append_left links (l ∷ []) k h)
+      (either_link k c)) is d;
+  back = λ i r ns f d. let k = e.back i r ns f d in (
+    k.0,
+    ⊎_elim (λ h. Contains-append_right (l ∷ []) links k.0 h) (λ h. subst (Contains (l ∷ links)) h (contained (l ∷ links) 0 l refl))
+        (Contains-push_cases links l k.0 k.1),
+    k.2,
+    k.3,
+    k.4,
+  );
+} where
+  either_link : (k : level.Link) → Contains (l ∷ links) k → (l ≡ k) ⊎ Contains links k
+  either_link k (zero, lt, e) = inl e
+  either_link k (suc i, lt, e) = inr (i, omega (arith, lt), e)
+
 pub ends_at : (g h : Reading) (good : List Bool) (around : ℕ) (old base new : List (Simple ℕ)) (links : List Link) (i : ℕ) (d : Link)
-    (before after : List PatternNumber) → g ≡ h → AddsEnded h good around old base (take i links) before → All (IsRestWithin old around) links →
+    (before after : List PatternNumber) → g ≡ h → AddsEnded h good around old base (drop (i + 1) links) before → All (IsRestWithin old around) links →
     i < length links →
-    LeavesBy g good base new (slice_index_or links i d) before after → AddsEnded h good around old new (take (i + 1) links) after
+    LeavesBy g good base new (slice_index_or links i d) before after → AddsEnded h good around old new (drop i links) after
 ends_at g h good around old base new links i d before after same first within lt s =
     let more = subst (λ g. LeavesBy g good base new (slice_index_or links i d) before after) same s in
     let rests = All-weaker (IsRestWithin old around) (λ l. IsInside base l.rest) (λ l w. inside_stays old base first.longer l.rest w.1) links within in
-    let front = links_stay base new more.longer (take i links) (All-take (λ l. IsInside base l.rest) i links rests) in
-    let last = links_stay base new more.longer (slice_index_or links i d ∷ [])
-    (All-cons (λ l. IsInside base l.rest) (slice_index_or links i d) [] (rests i d lt) (All-nil (λ l. IsInside base l.rest))) in
-    let all : map (link_of new) (take (i + 1) links) ≡ map (link_of base) (take i links) ++ link_of base (slice_index_or links i d) ∷ [] =
-    ap (map (link_of new)) (take_more links i d lt) ∙ map-append (link_of new) (take i links) (slice_index_or links i d ∷ [])
-    ∙ ap (λ ls. ls ++ map (link_of new) (slice_index_or links i d ∷ [])) front ∙ ap (λ ls. map (link_of base) (take i links) ++ ls) last in
+    let cut : drop i links ≡ slice_index_or links i d ∷ drop (i + 1) links = drop_more links i d lt in
+    let stay = links_stay base new more.longer (drop i links) (All-drop (λ l. IsInside base l.rest) i links rests) in
+    let all : map (link_of new) (drop i links) ≡ link_of base (slice_index_or links i d) ∷ map (link_of base) (drop (i + 1) links) =
+    stay ∙ ap (map (link_of base)) cut in
     record {
       longer = longer_through old base new first.longer more.longer;
       inside = more.inside;
       count = more.count ∙ first.count;
-      ended = subst (λ ls. AreEnded h good ls (map (tree_of new) after)) (sym all) (more.ended (map (link_of base) (take i links)) first.ended);
+      ended = subst (λ ls. AreEnded h good ls (map (tree_of new) after)) (sym all)
+          (ended_turned h good (map (link_of base) (drop (i + 1) links)) (link_of base (slice_index_or links i d)) (map (tree_of new) after)
+          (more.ended (map (link_of base) (drop (i + 1) links)) first.ended));
     }
 
 -- in a loop that tests each pattern

@@ -140,6 +140,9 @@ fn only_rest(good: &[bool], links: &[Link], around: usize) -> Option<PatternNumb
 }
 
 /// What the ways out of an element leave of so many alternatives around it, where the alternatives inside that are good end.
+///
+/// They are taken from the last to the first: what is left behind a member of a list ends with what is left behind the later ones,
+/// so where these may be left out one alternative stays at a time.
 pub fn ended<D: Derivatives>(
     derivatives: &mut D,
     alloc: Global,
@@ -157,8 +160,10 @@ pub fn ended<D: Derivatives>(
     }
     let none = derivatives.choice(alloc, &[])?;
     let mut outside = SmallVec::from_elem(alloc, none, around)?;
-    'links: for link in links {
-        leave(derivatives, alloc, good, *link, &mut outside)?;
+    let mut left = links.len();
+    'links: while left > 0 {
+        left -= 1;
+        leave(derivatives, alloc, good, links[left], &mut outside)?;
     }
     Ok(outside)
 }

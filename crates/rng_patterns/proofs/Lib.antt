@@ -3,6 +3,7 @@ mod EqualPatterns
 pub mod KnownFacts
 pub mod Subsequences
 mod Rows
+mod Units
 mod Putting
 mod PatternKinds
 pub mod Choices

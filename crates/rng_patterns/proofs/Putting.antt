@@ -1,5 +1,5 @@
 -- What comes of a pattern that is put into a table: it stays where it stood, or goes last.
-use Rattle.std.proofs.Common.{◌≡◌, ℕ, zero, suc, ◌≤◌, List, [], ◌∷◌, ◌++◌, length, slice_get, Bool, true, false, if◌then◌else◌, Some, refl, ap, sym, subst, ◌∙◌}
+use Rattle.std.proofs.Common.{◌≡◌, ℕ, zero, suc, ◌≤◌, List, [], ◌∷◌, ◌++◌, length, slice_get, Bool, true, false, if◌then◌else◌, Option, Some, refl, ap, sym, subst, ◌∙◌}
 use Rattle.std.proofs.Common.{⊎_elim, arith, append-nil, not, true≢false}
 use Rattle.std.proofs.lemmas.List.{length-map, map-append}
 use Rattle.std.proofs.lemmas.Option.{slice_get_within, get_or_from_slice_get, slice_get-get_or, slice_get-map}
@@ -10,15 +10,19 @@ use Rattle.std.specs.Map.{keys_of}
 use Rattle.std.specs.Option.{option_map}
 use Rattle.indexmap.specs.IndexMap.{insert_entry}
 use Rattle.rng_model.specs.Table.{Table}
+use Rattle.rng_model.specs.Tree.{s_not_allowed, s_empty}
+use Rattle.rng_patterns.specs.Copies.{AreUnits, IsKeptLast, IsUnit}
 use Rattle.rng_patterns.specs.Node.{node_of}
-use Rattle.rng_patterns.specs.PatternTable.{Adds, AreExact, ArePartsBelow, IsNew, IsPatternTable, Longer, facts_of, nodes_of}
+use Rattle.rng_patterns.specs.PatternTable.{Adds, AreExact, ArePartsBelow, IsKnown, IsNew, IsPatternTable, Longer, facts_of, nodes_of}
 use Rattle.rng_patterns.specs.Reduced.{AreReduced}
 use Rattle.rng_patterns.specs.Trees.{tree_of, tree_over}
 use Rattle.rng_patterns.specs.declared.pattern.Facts.{Facts}
 use Rattle.rng_patterns.specs.declared.pattern.Pattern.{Pattern}
+use Rattle.rng_patterns.specs.declared.pattern.PatternNumber.{PatternNumber}
 use Rattle.rng_patterns.proofs.EqualPatterns.{equal_pattern, same_node}
-use Rattle.rng_patterns.proofs.Rows.{facts_there, found_adds, found_there, goes_last, new_adds, node_eq, not_there, one_more}
+use Rattle.rng_patterns.proofs.Rows.{facts_there, found_adds, found_there, goes_last, known_stays, new_adds, node_eq, not_there, one_more}
 use Rattle.rng_patterns.proofs.Trees.{tree_of-over_parts}
+use Rattle.rng_patterns.proofs.Units.{units_kept}
 
 module _ {X : Type 0} (x : X) (xs : List X) where
   later : (i : ℕ) (y : X) → slice_get xs i ≡ Some y → slice_get (x ∷ xs) (suc i) ≡ Some y
@@ -77,7 +81,7 @@ module _ (rows : List (Pattern × Facts)) (p : Pattern) (f : Facts) (table : IsP
     adds = found_adds (nodes_of rows) i (node_of p) table found;
   })
 
-  goes_put : IsNew (nodes_of rows) (node_of p) → IsPut rows (insert_entry node_eq rows p f) p (length rows)
+  pub goes_put : IsNew (nodes_of rows) (node_of p) → IsPut rows (insert_entry node_eq rows p f) p (length rows)
   goes_put fresh =
       let kept = one_more rows p f (table, exact) below reduced fresh known in
       let more = map-append (λ (r : Pattern × Facts). node_of r.0) rows ((p, f) ∷ []) in
@@ -101,3 +105,17 @@ module _ (rows : List (Pattern × Facts)) (p : Pattern) (f : Facts) (table : IsP
       let last : length rows ≡ i = omega (arith, low, all, long) in
       subst (IsPut rows (insert_entry node_eq rows p f) p) last (goes_put (not_there p rows all)))
       (cases_lt i (length ks))))
+
+-- what holds of a table holds of it with the pattern and its unit
+pub table_kept : (old new : List (Pattern × Facts)) (p : Pattern) (number : ℕ) (none empty : Option PatternNumber) (before after : List ℕ) (unit : ℕ)
+    → IsPut old new p number → IsKnown (nodes_of old) none s_not_allowed → IsKnown (nodes_of old) empty s_empty → AreUnits (nodes_of old) before
+    → IsUnit (nodes_of old) (λ t. tree_over t (tree_of t (nodes_of old)) (node_of p)) unit → IsKeptLast before after number unit
+    → IsPatternTable (nodes_of new) × AreExact new × IsKnown (nodes_of new) none s_not_allowed × IsKnown (nodes_of new) empty s_empty
+    × AreUnits (nodes_of new) after
+table_kept old new p number none empty before after unit put not_allowed_is empty_is units own last = (
+  put.table,
+  put.exact,
+  known_stays _ _ none s_not_allowed put.longer not_allowed_is,
+  known_stays _ _ empty s_empty put.longer empty_is,
+  units_kept (nodes_of old) (nodes_of new) put.longer before after number unit _ units put.adds own last,
+)

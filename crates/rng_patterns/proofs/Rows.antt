@@ -38,7 +38,7 @@ nothing_kept rows none =
 -- ---- one more pattern
 
 -- a pattern of the longer table is one of the old or the new one
-module _ (ns : List Node) (n : Node) (i : ℕ) (m : Node) (found : slice_get (ns ++ n ∷ []) i ≡ Some m) where
+module _ {A : Type 0} (ns : List A) (n : A) (i : ℕ) (m : A) (found : slice_get (ns ++ n ∷ []) i ≡ Some m) where
   pub found_old : i < length ns → slice_get ns i ≡ Some m
   found_old h = slice_get-get_or ns i n h ∙ ap Some (sym (get_or_append_left ns (n ∷ []) n i h) ∙ get_or_from_slice_get (ns ++ n ∷ []) i m n found)
 

@@ -4,6 +4,7 @@ pub mod Trees
 pub mod Facts
 pub mod PatternTable
 pub mod Choices
+pub mod Copies
 pub mod Taking
 pub mod Kept
 pub mod Selecting

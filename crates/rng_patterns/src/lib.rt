@@ -7,6 +7,7 @@
 #![tactic(auto)]
 
 mod choosing;
+mod copies;
 mod covering;
 mod grammar;
 mod making;

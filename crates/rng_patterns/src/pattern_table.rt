@@ -5,6 +5,7 @@ ghost use Rattle.rng_model.specs.Table.{Table};
 ghost use Rattle.rng_model.specs.Tree.{s_not_allowed, s_empty};
 ghost use Rattle.rng_matching.specs.Reading.{Reading};
 ghost use Rattle.rng_matching.specs.Taking.{Takes};
+ghost use Rattle.rng_patterns.specs.Copies.{AreCopies, IsKeptLast, IsUnit};
 ghost use Rattle.rng_patterns.specs.Node.{node_of};
 ghost use Rattle.rng_patterns.specs.Facts.{HasElement, IsWithin, LosesFirst};
 ghost use Rattle.rng_patterns.specs.PatternTable.{Adds, ArePartsBelow, IsNew, IsPatternTable, Longer, both_facts, facts_of, nodes_of};
@@ -21,6 +22,8 @@ use std::marker::Model;
 #[derive(Drop)]
 pub struct PatternTable {
     rows: IndexMap<Pattern, Facts>,
+    /// What each of the first patterns is copies of, by number, or `NO_UNIT`.
+    units: Vec<u32>,
     not_allowed: Option<PatternNumber>,
     empty: Option<PatternNumber>,
 }
@@ -32,12 +35,14 @@ impl Model for PatternTable {
     ghost Value = { List Node };
 
     ghost use Rattle.rng_model.specs.Tree.{s_not_allowed, s_empty};
+    ghost use Rattle.rng_patterns.specs.Copies.{AreUnits};
     ghost use Rattle.rng_patterns.specs.PatternTable.{nodes_of, AreExact, IsKnown, IsPatternTable};
 
     ghost view = { λ t. nodes_of t.rows.entries };
 
     ghost invariant = { λ t. IsPatternTable (nodes_of t.rows.entries) × AreExact t.rows.entries
-        × IsKnown (nodes_of t.rows.entries) t.not_allowed s_not_allowed × IsKnown (nodes_of t.rows.entries) t.empty s_empty };
+        × IsKnown (nodes_of t.rows.entries) t.not_allowed s_not_allowed × IsKnown (nodes_of t.rows.entries) t.empty s_empty
+        × AreUnits (nodes_of t.rows.entries) t.units.items };
 }
 
 impl PatternTable {
@@ -47,6 +52,7 @@ impl PatternTable {
     {
         PatternTable {
             rows: IndexMap::new(alloc),
+            units: Vec::new(alloc),
             not_allowed: None,
             empty: None,
         }
@@ -165,7 +171,9 @@ impl PatternTable {
         ensures adds { IfOk result (λ n. Adds self.old self.new n.0 (λ t. tree_over t (tree_of t self.old) (node_of pattern))) }
     {
         let facts = self.facts_of(&pattern);
+        let unit = self.unit_of(&pattern);
         let (number, _) = self.rows.insert_full(pattern, facts)?;
+        keep_unit(&mut self.units, number, unit)?;
         Ok(PatternNumber(number))
     }
 
@@ -179,9 +187,52 @@ impl PatternTable {
     {
         let number = self.rows.len();
         let facts = self.facts_of(&pattern);
+        let unit = self.unit_of(&pattern);
         self.rows.insert(pattern, facts)?;
+        keep_unit(&mut self.units, number, unit)?;
         Ok(PatternNumber(number))
     }
+
+    /// The pattern that this one is copies of, one after the other: of a group that of its sides, where both are copies of one
+    /// pattern, and of each other pattern itself. Takes no memory.
+    pub fn unit(&self, number: PatternNumber) -> PatternNumber
+        requires { number.0 < length self.now }
+        ensures inside { result.0 < length self.now }
+        ensures copies { (t : Table) → AreCopies (tree_of t self.now result.0) (tree_of t self.now number.0) }
+    {
+        match self.units.get(number.0) {
+            Some(unit) if *unit < NO_UNIT => PatternNumber(*unit as usize),
+            _ => number,
+        }
+    }
+
+    /// What is kept as the unit of a pattern whose parts are there.
+    fn unit_of(&self, pattern: &Pattern) -> u32
+        requires { ArePartsBelow (length self.now) (node_of pattern.now) }
+        ensures { IsUnit self.now (λ t. tree_over t (tree_of t self.now) (node_of pattern.now)) result }
+    {
+        let Pattern::Group(first, second) = pattern else {
+            return NO_UNIT;
+        };
+        let unit = self.unit(*first);
+        if self.unit(*second) != unit {
+            return NO_UNIT;
+        }
+        unit.0.min(NO_UNIT as usize) as u32
+    }
+}
+
+/// Kept of a pattern that is no copies of another one.
+const NO_UNIT: u32 = u32::MAX;
+
+/// Keeps the unit of the pattern of this number, where it is the next one.
+fn keep_unit(units: &mut Vec<u32>, number: usize, unit: u32) -> Result<(), OutOfMemory>
+    ensures { IsKeptLast units.old.items units.new.items number unit }
+{
+    if units.len() == number {
+        units.push(unit)?;
+    }
+    Ok(())
 }
 
 /// What is known of notAllowed.

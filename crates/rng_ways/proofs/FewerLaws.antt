@@ -1,24 +1,23 @@
 -- Fewer ways are still the ways of a pattern: those of a repetition to take an attribute, and those of a group whose second side takes all
--- subsequences of what it takes.
-use Rattle.std.proofs.Common.{◌≡◌, ◌↔◌, ◌⊎◌, ◌<◌, inl, inr, ⊎_elim, ℕ, List, [], ◌∷◌, ◌++◌, length, refl, sym, ap, subst, true, cond}
+-- subsequences of what it takes, or begins with copies of the first one.
+use Rattle.std.proofs.Common.{◌≡◌, ◌↔◌, ◌⊎◌, ◌<◌, inl, inr, ⊎_elim, ℕ, List, [], ◌∷◌, ◌++◌, length, append-nil, refl, sym, ap, subst}
 use Rattle.std.proofs.lemmas.List.Elements.{All-contains, All-contains_itself}
-use Rattle.rng_model.specs.Lists.{Among, here, there}
+use Rattle.rng_model.specs.Lists.{Among}
 use Rattle.rng_model.specs.Tree.{Simple, choice, group, s_empty, s_joined, s_one_or_more}
 use Rattle.rng_model.specs.Document.{Attribute, Item}
-use Rattle.rng_model.specs.Document as document
 use Rattle.rng_model.specs.Table.{Table}
 use Rattle.rng_matching.specs.Blanks.{IsBare}
 use Rattle.rng_matching.specs.Reading.{Reading}
 use Rattle.rng_matching.specs.Taking.{Same, Takes}
-use Rattle.rng_matching.specs.Taking as t
 use Rattle.rng_matching.specs.Derivatives as tree
-use Rattle.rng_matching.specs.Derivatives.{behind, group_of, is_nullable, more_of}
+use Rattle.rng_matching.specs.Derivatives.{behind, group_of, more_of}
 use Rattle.rng_matching.specs.Ways.{AreItemWays, TakesItem}
 use Rattle.rng_matching.proofs.FreeForms.{item_among, item_way}
-use Rattle.rng_matching.proofs.ItemWays.{item_in_first, item_in_second, item_of_both}
+use Rattle.rng_matching.proofs.ItemWays.{item_in_first, item_in_second}
 use Rattle.rng_matching.proofs.RepeatedAttributes.{MayBeAll, repeated_ways}
 use Rattle.rng_matching.proofs.Same.{group_of-same}
 use Rattle.rng_patterns.specs.Choices.{IsAlternativeOf, SomeTakes}
+use Rattle.rng_patterns.specs.Copies.{IsBehindCopies, IsOfCopies}
 use Rattle.rng_patterns.specs.Facts.{LosesFirst}
 use Rattle.rng_patterns.specs.Node.{Node}
 use Rattle.rng_patterns.specs.PatternTable.{Longer}
@@ -37,7 +36,8 @@ use Rattle.rng_ways.specs.declared.way.Kind.TheVariants as kinds
 use Rattle.rng_ways.specs.declared.way.Place.{Place}
 use Rattle.rng_ways.specs.declared.way.Way.{Way}
 use Rattle.rng_ways.proofs.Adding.{either_member}
-use Rattle.rng_ways.proofs.Composing.{behind_kept, group_law, joined_obeys, made}
+use Rattle.rng_ways.proofs.Composing.{behind_kept, joined_obeys, made}
+use Rattle.rng_ways.proofs.Copies.{HasCopyFirst, begins, begins_alone, behind_has, behind_taken, by_way, with_copies}
 use Rattle.rng_ways.proofs.Joining.{all_ways, among_ways, each_way, way_to, ways_among}
 use Rattle.rng_ways.proofs.Kept.{Obeys-hereditary, choice_has, each_both}
 use Rattle.rng_ways.proofs.Standing.{behind-whole, stands_longer, stands_more}
@@ -105,55 +105,66 @@ module _ (g : Reading) (q : Simple ℕ) (ws : List tree.Way) where
     pub same : way.leaf ≡ w.leaf
     pub ends : Takes g way.rest [] []
 
-  behind_among : (f : Simple ℕ → Simple ℕ) (vs : List tree.Way) (v : tree.Way) → Among v vs → Among (record { leaf = v.leaf; rest = f v.rest }) (behind f vs)
-  behind_among f [] v a = elim a [ ]
-  behind_among f (w ∷ vs) v here = here
-  behind_among f (w ∷ vs) v (there a) = there (behind_among f vs v a)
-
-  uncovered_law : (Kind : Item → Type 0) (p : Simple ℕ) (f : Simple ℕ → Simple ℕ) (vs left : List tree.Way)
-      → ((r : Simple ℕ) → Same g (f r) (s_joined group r q)) → ((w : tree.Way) → Among w left → Among w vs)
-      → ((w : tree.Way) → Among w vs → Among w left ⊎ IsCoveredBy w) → AreItemWays g Kind q vs
-      → AreItemWays g Kind (s_joined group p q) (behind f ws ++ vs) → AreItemWays g Kind (s_joined group p q) (behind f ws ++ left)
-  uncovered_law Kind p f vs left on within each b law = record { to = to; back = back } where
-    by_first : (n : Item) (ns : List Item) (w : tree.Way) → IsBare (n ∷ ns) → TakesItem g vs n ns → Takes g w.leaf [] (n ∷ []) → IsCoveredBy w
+-- p, and q that is s behind copies of p
+module _ (g : Reading) (p q s : Simple ℕ) (ends : Takes g p [] []) (copies : IsBehindCopies p q s) (f : Simple ℕ → Simple ℕ)
+    (on : (r : Simple ℕ) → Same g (f r) (s_joined group r q)) (ws vs left : List tree.Way) (within : (w : tree.Way) → Among w left → Among w vs)
+    (each : (w : tree.Way) → Among w vs → Among w left ⊎ IsCoveredBy g s ws w) where
+  uncovered_law : (Kind : Item → Type 0) → AreItemWays g Kind p ws → AreItemWays g Kind s vs → AreItemWays g Kind (s_joined group p q) (behind f ws ++ left)
+  uncovered_law Kind a b = with_copies g p ends Kind q f ws on a left to_q of_q where
+    by_first : (n : Item) (ns : List Item) (w : tree.Way) → IsBare (n ∷ ns) → Takes g s [] (n ∷ ns) → Takes g w.leaf [] (n ∷ []) → IsCoveredBy g s ws w
         → TakesItem g (behind f ws) n ns
-    by_first n ns w bare k l c =
-        let rest = c.loses [] n ns bare (b.back n ns k) in
-        item_among g (behind f ws) _ n ns (behind_among f ws c.way c.among) (subst (λ l. Takes g l [] (n ∷ [])) (sym c.same) l)
-        ((on c.way.rest).back [] ns (t.grouped c.ends rest document.done refl))
+    by_first n ns w bare d leaf c =
+        by_way g p ends Kind q f ws on a n [] ns ns c.way c.among (subst (λ l. Takes g l [] (n ∷ [])) (sym c.same) leaf) c.ends
+        (behind_taken g p ends q s copies ns (c.loses [] n ns bare d)) refl
 
-    to : (n : Item) (ns : List Item) → Kind n → IsBare (n ∷ ns) → Takes g (s_joined group p q) [] (n ∷ ns) → TakesItem g (behind f ws ++ left) n ns
-    to n ns kind bare d = ⊎_elim (λ k. item_in_first g (behind f ws) left n ns k)
-        (λ k. let h = item_way g vs n ns k in
-        ⊎_elim (λ a. item_in_second g (behind f ws) left n ns (item_among g left h.0 n ns a h.2 h.3))
-        (λ c. item_in_first g (behind f ws) left n ns (by_first n ns h.0 bare k h.2 c)) (each h.0 h.1))
-        (item_of_both g (behind f ws) vs n ns (law.to n ns kind bare d))
+    by_others : (n : Item) (ns : List Item) → Kind n → IsBare (n ∷ ns) → Takes g s [] (n ∷ ns) → TakesItem g (behind f ws ++ left) n ns
+    by_others n ns kind bare d =
+        let w = item_way g vs n ns (b.to n ns kind bare d) in
+        ⊎_elim (λ k. item_in_second g (behind f ws) left n ns (item_among g left w.0 n ns k w.2 w.3))
+        (λ c. item_in_first g (behind f ws) left n ns (by_first n ns w.0 bare d w.2 c)) (each w.0 w.1)
 
-    back : (n : Item) (ns : List Item) → TakesItem g (behind f ws ++ left) n ns → Takes g (s_joined group p q) [] (n ∷ ns)
-    back n ns h = law.back n ns (⊎_elim (λ k. item_in_first g (behind f ws) vs n ns k)
-        (λ k. let w = item_way g left n ns k in item_in_second g (behind f ws) vs n ns (item_among g vs w.0 n ns (within w.0 w.1) w.2 w.3))
-        (item_of_both g (behind f ws) left n ns h))
+    to_q : (n : Item) (ns : List Item) → Kind n → IsBare (n ∷ ns) → Takes g q [] (n ∷ ns) → HasCopyFirst g p ends q n ns ⊎ TakesItem g (behind f ws ++ left) n ns
+    to_q n ns kind bare d = ⊎_elim (λ h. inl h) (λ d. inr (by_others n ns kind bare d)) (begins g p ends q s copies n ns d)
 
-uncovered_ways : (g : Reading) (kind : Kind) (p q : Simple ℕ) (f : Simple ℕ → Simple ℕ) (ws vs left : List tree.Way) → IsOfItems kind
-    → ((r : Simple ℕ) → Same g (f r) (s_joined group r q)) → ((w : tree.Way) → Among w left → Among w vs)
-    → ((w : tree.Way) → Among w vs → Among w left ⊎ IsCoveredBy g q ws w) → AreWays g kind q vs
-    → AreWays g kind (s_joined group p q) (behind f ws ++ vs) → AreWays g kind (s_joined group p q) (behind f ws ++ left)
-uncovered_ways g (kinds.Element n) p q f ws vs left item on within each b law = uncovered_law g q ws _ p f vs left on within each b law
-uncovered_ways g (kinds.Attribute n) p q f ws vs left item on within each b law = absurd item
-uncovered_ways g kinds.Text p q f ws vs left item on within each b law = uncovered_law g q ws _ p f vs left on within each b law
+    of_q : (n : Item) (ns : List Item) → TakesItem g left n ns → Takes g q [] (n ∷ ns)
+    of_q n ns h =
+        let w = item_way g left n ns h in
+        behind_taken g p ends q s copies (n ∷ ns) (b.back n ns (item_among g vs w.0 n ns (within w.0 w.1) w.2 w.3))
 
-module _ (t : Table) (n1 n3 : List Node) (longer : Longer n1 n3) (second : PatternNumber) (q : Simple ℕ) (firsts seconds left : List Way)
-    (second_is : tree_of t n3 second.0 ≡ q) (inside : AreInside n1 firsts) (h : AreUncovered n3 second firsts seconds left) where
+  uncovered_ways : (kind : Kind) → IsOfItems kind → AreWays g kind p ws → AreWays g kind s vs → AreWays g kind (s_joined group p q) (behind f ws ++ left)
+  uncovered_ways (kinds.Element n) item a b = uncovered_law _ a b
+  uncovered_ways (kinds.Attribute n) item a b = absurd item
+  uncovered_ways kinds.Text item a b = uncovered_law _ a b
+
+-- p, and q that is copies of p alone
+module _ (g : Reading) (p q : Simple ℕ) (ends : Takes g p [] []) (copies : IsOfCopies p q) (f : Simple ℕ → Simple ℕ)
+    (on : (r : Simple ℕ) → Same g (f r) (s_joined group r q)) (ws : List tree.Way) where
+  alone_law : (Kind : Item → Type 0) → AreItemWays g Kind p ws → AreItemWays g Kind (s_joined group p q) (behind f ws)
+  alone_law Kind a = subst (AreItemWays g Kind (s_joined group p q)) (append-nil (behind f ws))
+      (with_copies g p ends Kind q f ws on a [] (λ n ns kind bare d. inl (begins_alone g p ends q copies n ns d)) (λ n ns h. absurd h))
+
+  alone_ways : (kind : Kind) → IsOfItems kind → AreWays g kind p ws → AreWays g kind (s_joined group p q) (behind f ws)
+  alone_ways (kinds.Element n) item a = alone_law _ a
+  alone_ways (kinds.Attribute n) item a = absurd item
+  alone_ways kinds.Text item a = alone_law _ a
+
+-- a group is filled with its second side
+on_second : (t : Table) (ns : List Node) (second : PatternNumber) (q : Simple ℕ) → tree_of t ns second.0 ≡ q
+    → (r : Simple ℕ) → Same (reading_of t) (group_of r (tree_of t ns second.0)) (s_joined group r q)
+on_second t ns second q is r = subst (λ o. Same (reading_of t) (group_of r o) (s_joined group r q)) (sym is) (group_of-same (reading_of t) r q)
+
+module _ (t : Table) (n1 n3 : List Node) (longer : Longer n1 n3) (rest : PatternNumber) (s : Simple ℕ) (firsts seconds left : List Way)
+    (rest_is : tree_of t n3 rest.0 ≡ s) (inside : AreInside n1 firsts) (h : AreUncovered n3 rest firsts seconds left) where
   left_within : (w : tree.Way) → Among w (ways_by (tree_of t n3) left) → Among w (ways_by (tree_of t n3) seconds)
   left_within w a =
       let v = among_ways (tree_of t n3) left w a in
       subst (λ w. Among w (ways_by (tree_of t n3) seconds)) v.2 (ways_among (tree_of t n3) seconds v.0 (h.within v.0 v.1))
 
-  covered_by : (v : Way) → IsCovered n3 second firsts v → IsCoveredBy (reading_of t) q (ways_by (tree_of t n1) firsts) (way_by (tree_of t n3) v)
+  covered_by : (v : Way) → IsCovered n3 rest firsts v → IsCoveredBy (reading_of t) s (ways_by (tree_of t n1) firsts) (way_by (tree_of t n3) v)
   covered_by v c =
       let own = All-contains (IsInside n1) firsts c.first.way inside c.first.contained in
       record {
-        loses = subst (LosesFirst (reading_of t)) second_is (c.loses t (reading_of t));
+        loses = subst (LosesFirst (reading_of t)) rest_is (c.loses t (reading_of t));
         way = way_by (tree_of t n1) c.first.way;
         among = ways_among (tree_of t n1) firsts c.first.way c.first.contained;
         same = subst (λ l. l ≡ tree_of t n3 v.leaf.0) (tree_stays t n1 n3 c.first.way.leaf.0 longer own.0)
@@ -162,44 +173,39 @@ module _ (t : Table) (n1 n3 : List Node) (longer : Longer n1 n3) (second : Patte
       }
 
   left_each : (w : tree.Way) → Among w (ways_by (tree_of t n3) seconds)
-      → Among w (ways_by (tree_of t n3) left) ⊎ IsCoveredBy (reading_of t) q (ways_by (tree_of t n1) firsts) w
+      → Among w (ways_by (tree_of t n3) left) ⊎ IsCoveredBy (reading_of t) s (ways_by (tree_of t n1) firsts) w
   left_each w a =
       let v = among_ways (tree_of t n3) seconds w a in
-      subst (λ w. Among w (ways_by (tree_of t n3) left) ⊎ IsCoveredBy (reading_of t) q (ways_by (tree_of t n1) firsts) w) v.2
+      subst (λ w. Among w (ways_by (tree_of t n3) left) ⊎ IsCoveredBy (reading_of t) s (ways_by (tree_of t n1) firsts) w) v.2
       (⊎_elim (λ c. inl (ways_among (tree_of t n3) left v.0 c)) (λ c. inr (covered_by v.0 c)) (h.each v.0 v.1))
 
   left_kept : (kind : Kind) (place : Place) → AreKept kind place (ways_by (tree_of t n3) seconds) → AreKept kind place (ways_by (tree_of t n3) left)
   left_kept kind place kept = all_ways _ _ (tree_of t n3) left (λ w c. each_way _ _ (tree_of t n3) seconds kept w (h.within w c))
 
-  -- a nullable first side, and what its second side says more
-  pub uncovered_made : (n2 n4 : List Node) (kind : Kind) (p : Simple ℕ) (none some all : List Way)
-      → IsOfItems kind → is_nullable p ≡ true → none ≡ [] → tree_of t n1 second.0 ≡ q
-      → AreWaysOf t n1 kind p firsts → AreWaysOf t n3 kind q seconds → Longer n2 n3
+  -- a first side that may be left out, and what stands behind its copies and says more
+  pub uncovered_made : (n2 n4 : List Node) (kind : Kind) (second : PatternNumber) (p q : Simple ℕ) (none some all : List Way)
+      → IsOfItems kind → Takes (reading_of t) p [] [] → IsBehindCopies p q s → none ≡ [] → tree_of t n1 second.0 ≡ q
+      → AreWaysOf t n1 kind p firsts → AreWaysOf t n3 kind s seconds → Longer n2 n3
       → StandFor n2 some (λ t. ways_by (tree_of t n1) none ++ behind (filled (tree_of t n1) (holes.First joints.Group second)) (ways_by (tree_of t n1) firsts))
       → StandFor n4 all (λ t. ways_by (tree_of t n3) some ++ behind (filled (tree_of t n3) holes.Whole) (ways_by (tree_of t n3) left))
       → AreWaysOf t n4 kind (s_joined group p q) all
-  uncovered_made n2 n4 kind p none some all item nullable empty first_is a b more s u =
-      made t n4 kind (s_joined group p q) all (λ t. Before t ++ After t) (stands_more n3 n4 some all Before After (stands_longer n2 n3 some Before more s) u)
+  uncovered_made n2 n4 kind second p q none some all item ends copies empty second_is a b more u v =
+      made t n4 kind (s_joined group p q) all (λ t. Before t ++ After t) (stands_more n3 n4 some all Before After (stands_longer n2 n3 some Before more u) v)
       (subst (λ ns. AreWays (reading_of t) kind (s_joined group p q) ((ways_by (tree_of t n1) ns ++ Side) ++ After t)) (sym empty)
       (subst (λ vs. AreWays (reading_of t) kind (s_joined group p q) (Side ++ vs)) (sym (behind-whole (ways_by (tree_of t n3) left)))
-      (uncovered_ways (reading_of t) kind p q Fill (ways_by (tree_of t n1) firsts) (ways_by (tree_of t n3) seconds) (ways_by (tree_of t n3) left) item on
-      left_within left_each b.law
-      (subst (λ b. AreWays (reading_of t) kind (s_joined group p q) (Side ++ cond b (ways_by (tree_of t n3) seconds) [])) nullable
-      (group_law (reading_of t) kind p q Fill (ways_by (tree_of t n1) firsts) (ways_by (tree_of t n3) seconds) item on a.law b.law)))))
+      (uncovered_ways (reading_of t) p q s ends copies Fill (on_second t n1 second q second_is) (ways_by (tree_of t n1) firsts)
+      (ways_by (tree_of t n3) seconds) (ways_by (tree_of t n3) left) left_within left_each kind item a.law b.law)))
       (λ place o.
       let sides = (Obeys-hereditary place).sides group p q o in
       subst (λ ns. AreKept kind place ((ways_by (tree_of t n1) ns ++ Side) ++ After t)) (sym empty)
       (subst (λ vs. AreKept kind place (Side ++ vs)) (sym (behind-whole (ways_by (tree_of t n3) left)))
       (each_both _ _ Side (ways_by (tree_of t n3) left)
-      (behind_kept kind place _ (λ r k. joined_obeys joints.Group place r (tree_of t n1 second.0) k (subst (Obeys place) (sym first_is) sides.1))
+      (behind_kept kind place _ (λ r k. joined_obeys joints.Group place r (tree_of t n1 second.0) k (subst (Obeys place) (sym second_is) sides.1))
       (ways_by (tree_of t n1) firsts) (a.kept place sides.0))
-      (left_kept kind place (b.kept place sides.1)))))
+      (left_kept kind place (b.kept place (behind_has (Obeys place) (Obeys-hereditary place) p q s copies sides.1))))))
     where
       Fill : Simple ℕ → Simple ℕ
       Fill r = group_of r (tree_of t n1 second.0)
-
-      on : (r : Simple ℕ) → Same (reading_of t) (Fill r) (s_joined group r q)
-      on r = subst (λ o. Same (reading_of t) (group_of r o) (s_joined group r q)) (sym first_is) (group_of-same (reading_of t) r q)
 
       Side : List tree.Way
       Side = behind Fill (ways_by (tree_of t n1) firsts)
@@ -209,6 +215,30 @@ module _ (t : Table) (n1 n3 : List Node) (longer : Longer n1 n3) (second : Patte
 
       After : Table → List tree.Way
       After t = behind (filled (tree_of t n3) holes.Whole) (ways_by (tree_of t n3) left)
+
+-- a first side that may be left out, and its copies alone
+pub alone_made : (t : Table) (n1 n2 : List Node) (kind : Kind) (second : PatternNumber) (p q : Simple ℕ) (firsts none all : List Way)
+    → IsOfItems kind → Takes (reading_of t) p [] [] → IsOfCopies p q → none ≡ [] → tree_of t n1 second.0 ≡ q → AreWaysOf t n1 kind p firsts
+    → StandFor n2 all (λ t. ways_by (tree_of t n1) none ++ behind (filled (tree_of t n1) (holes.First joints.Group second)) (ways_by (tree_of t n1) firsts))
+    → AreWaysOf t n2 kind (s_joined group p q) all
+alone_made t n1 n2 kind second p q firsts none all item ends copies empty second_is a u =
+    made t n2 kind (s_joined group p q) all Before u
+    (subst (λ ns. AreWays (reading_of t) kind (s_joined group p q) (ways_by (tree_of t n1) ns ++ Side)) (sym empty)
+    (alone_ways (reading_of t) p q ends copies Fill (on_second t n1 second q second_is) (ways_by (tree_of t n1) firsts) kind item a.law))
+    (λ place o.
+    let sides = (Obeys-hereditary place).sides group p q o in
+    subst (λ ns. AreKept kind place (ways_by (tree_of t n1) ns ++ Side)) (sym empty)
+    (behind_kept kind place _ (λ r k. joined_obeys joints.Group place r (tree_of t n1 second.0) k (subst (Obeys place) (sym second_is) sides.1))
+    (ways_by (tree_of t n1) firsts) (a.kept place sides.0)))
+  where
+    Fill : Simple ℕ → Simple ℕ
+    Fill r = group_of r (tree_of t n1 second.0)
+
+    Side : List tree.Way
+    Side = behind Fill (ways_by (tree_of t n1) firsts)
+
+    Before : Table → List tree.Way
+    Before t = ways_by (tree_of t n1) none ++ behind (filled (tree_of t n1) (holes.First joints.Group second)) (ways_by (tree_of t n1) firsts)
 
 pub left_inside : (ns : List Node) (second : PatternNumber) (firsts seconds left : List Way) → AreUncovered ns second firsts seconds left
     → AreInside ns seconds → AreInside ns left

@@ -22,6 +22,7 @@ mod Telling
 mod Pieces
 mod Tags
 mod FewerWays
+mod Copies
 mod FewerLaws
 mod LikeElements
 mod LikeLeaves

@@ -222,6 +222,10 @@ fn ways_of_group(
             second,
         );
     }
+    if begins_with_copies(table, first, second) {
+        let (copy, rest) = table.first_copy(first, second)?;
+        return item_ways_of_group(alloc, grammar, table, known, candidates, kind, copy, rest);
+    }
     let Some((outer, inner)) = opened(table, first) else {
         return item_ways_of_group(
             alloc, grammar, table, known, candidates, kind, first, second,
@@ -231,8 +235,21 @@ fn ways_of_group(
     ways_of_group(alloc, grammar, table, known, candidates, kind, outer, rest)
 }
 
+/// Whether a group of these two begins with two copies of a pattern that may be left out. Takes no memory.
+fn begins_with_copies(table: &PatternTable, first: PatternNumber, second: PatternNumber) -> bool
+    requires first { first.0 < length table.now }
+    requires second { second.0 < length table.now }
+{
+    let unit = table.unit(first);
+    if !table.facts(unit).nullable {
+        return false;
+    }
+    unit != first || table.behind_copies(unit, second) != Some(second)
+}
+
 /// The ways of a group to take an item first: those of its first side, and where that is nullable those by which the second side
-/// takes more.
+/// takes more. Copies of the first side at the front of the second one add no ways: what they take the first side takes, with all of
+/// them behind it.
 #[cycle(ways)]
 fn item_ways_of_group(
     alloc: Global,
@@ -266,8 +283,11 @@ fn item_ways_of_group(
     if !table.facts(first).nullable {
         return Ok(all);
     }
-    let seconds = ways(alloc, grammar, table, known, candidates, kind, second)?;
-    let seconds = uncovered(alloc, table, second, firsts.as_slice(), seconds)?;
+    let Some(rest) = table.behind_copies(first, second) else {
+        return Ok(all);
+    };
+    let seconds = ways(alloc, grammar, table, known, candidates, kind, rest)?;
+    let seconds = uncovered(alloc, table, rest, firsts.as_slice(), seconds)?;
     add_filled(alloc, table, Hole::Whole, seconds.as_slice(), &mut all)?;
     Ok(all)
 }

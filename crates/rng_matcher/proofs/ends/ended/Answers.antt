@@ -1,4 +1,6 @@
-use Rattle.std.proofs.Common.{◌∙◌}
+use Rattle.std.proofs.Common.{◌≡◌, ◌∙◌, ◌+◌, ◌-◌, arith, drop, length, subst, sym}
+use Rattle.std.proofs.lemmas.List.{drop_all}
+use Rattle.rng_matcher.specs.Levels.{AddsEnded}
 use Rattle.rng_matcher.proofs.Ending.{ends_at, no_ends, only_ended}
 use Rattle.rng_matcher.proofs.ends.ended.Goals as goal
 
@@ -10,10 +12,14 @@ returns-in-Some-clause-ended g c =
 pub links-init : goal.links-init
 links-init g c =
     let trees = g.D.Derivatives.trees in
+    let links = c.args.links.now in
     record {
+      within = omega arith;
       same = c.in_ok-none.ensures.reading;
-      first = no_ends (g.D.Derivatives.reading c.args.derivatives.now) c.args.good.now c.args.around (trees c.args.derivatives.now) (trees c.choice.new.self)
-          c.in_ok-none.none c.in_ok-outside.outside.items c.in_ok-none.ensures.choice (c.in_ok-outside.ensures.items_if_clones_equal (λ y e. e));
+      first = subst (λ ls. AddsEnded (g.D.Derivatives.reading c.args.derivatives.now) c.args.good.now c.args.around (trees c.args.derivatives.now)
+          (trees c.choice.new.self) ls c.in_ok-outside.outside.items) (sym (drop_all (length links) links (omega arith)))
+          (no_ends (g.D.Derivatives.reading c.args.derivatives.now) c.args.good.now c.args.around (trees c.args.derivatives.now) (trees c.choice.new.self)
+          c.in_ok-none.none c.in_ok-outside.outside.items c.in_ok-none.ensures.choice (c.in_ok-outside.ensures.items_if_clones_equal (λ y e. e)));
     }
 
 pub links-preserved : goal.links-preserved
@@ -21,9 +27,16 @@ links-preserved g c =
     let trees = g.D.Derivatives.trees in
     let reading = g.D.Derivatives.reading in
     let before = c.links.invariant in
+    let i = c.links.left - 1 in
+    let positive = c.links-test.true in
+    let within = before.within in
+    let at : c.links.left ≡ i + 1 = omega (arith, positive) in
     record {
+      within = omega (arith, within);
       same = c.in_ok-leave.ensures.reading ∙ before.same;
       first = ends_at (reading c.links.derivatives) (reading c.args.derivatives.now) c.args.good.now c.args.around (trees c.args.derivatives.now)
-          (trees c.links.derivatives) (trees c.leave.new.derivatives) c.args.links.now c.links.link-index _ c.links.outside.items c.leave.new.outside.items
-          before.same before.first c.requires c.links-test.true c.in_ok-leave.ensures.leaves;
+          (trees c.links.derivatives) (trees c.leave.new.derivatives) c.args.links.now i _ c.links.outside.items c.leave.new.outside.items
+          before.same (subst (λ k. AddsEnded (reading c.args.derivatives.now) c.args.good.now c.args.around (trees c.args.derivatives.now)
+          (trees c.links.derivatives) (drop k c.args.links.now) c.links.outside.items) at before.first) c.requires (omega (arith, positive, within))
+          c.in_ok-leave.ensures.leaves;
     }

@@ -1,4 +1,4 @@
-use Rattle.std.proofs.Common.{◌≡◌, take}
+use Rattle.std.proofs.Common.{◌≡◌, ◌≤◌, drop, length}
 use Rattle.rng_matcher.specs.Levels.{AddsEnded}
 use Rattle.rng_matcher.proofs.ends.ended.Given as goal
 
@@ -6,7 +6,11 @@ abbrev pub invariant-links : goal.invariant-links
 invariant-links g l =
     let trees = g.D.Derivatives.trees in
     let reading = g.D.Derivatives.reading in record {
+      within : l.left ≤ length l.links;
       same : reading l.derivatives ≡ reading l.fn.derivatives;
       first : AddsEnded (reading l.fn.derivatives) l.good l.around (trees l.fn.derivatives) (trees l.derivatives)
-          (take l.link-index l.links) l.outside.items;
+          (drop l.left l.links) l.outside.items;
     }
+
+abbrev pub decreases-links : goal.decreases-links
+decreases-links g l = l.left

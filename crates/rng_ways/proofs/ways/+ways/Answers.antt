@@ -1,17 +1,19 @@
-use Rattle.std.proofs.Common.{◌≡◌, ◌∙◌, ◌<◌, ◌≤◌, ◌+◌, ℕ, suc, All, List, [], ◌∷◌, ◌++◌, length, map, take, get_or, refl, sym, ap, ap₂, subst, arith}
+use Rattle.std.proofs.Common.{◌≡◌, ◌∙◌, ◌<◌, ◌≤◌, ◌+◌, ℕ, suc, All, List, [], ◌∷◌, ◌++◌, length, map, take, get_or, refl, sym, ap, ap₂, subst, arith, rules, IsTrue}
 use Rattle.std.proofs.lemmas.Bool.{not-false, not-true}
 use Rattle.std.proofs.Math.ListN.{get_or-map}
 use Rattle.std.proofs.lemmas.List.{length-map, map-append, take_all}
 use Rattle.std.proofs.Math.Seq.{take-suc}
-use Rattle.rng_model.specs.Tree.{Simple, group, s_joined}
+use Rattle.rng_model.specs.Tree.{Simple, group, s_joined, s_not_allowed}
 use Rattle.rng_matching.specs.Derivatives.{behind, group_of, is_nullable}
 use Rattle.rng_matching.proofs.FreeForms.{choice_all}
+use Rattle.rng_matching.specs.Taking.{Takes}
+use Rattle.rng_patterns.specs.Copies.{IsBehindCopies, IsOfCopies}
 use Rattle.rng_patterns.specs.PatternTable.{Longer}
 use Rattle.rng_patterns.specs.Trees.{choice_over, tree_of}
 use Rattle.rng_patterns.specs.declared.pattern.Facts.{Facts}
 use Rattle.rng_patterns.specs.declared.pattern.PatternNumber.{PatternNumber}
 use Rattle.rng_patterns.proofs.Choices.{if_ok}
-use Rattle.rng_patterns.proofs.Trees.{Longer-length, Longer-trans, tree_stays}
+use Rattle.rng_patterns.proofs.Trees.{Longer-length, Longer-refl, Longer-trans, tree_stays}
 use Rattle.rng_ways.specs.Kinds.{connector_of, reading_of, weight}
 use Rattle.rng_ways.specs.KnownWays.{AreKnown}
 use Rattle.rng_ways.specs.FewerWays.{AreRepeated, AreUncovered}
@@ -19,8 +21,9 @@ use Rattle.rng_ways.specs.Ways.{AreInside, AreWaysOf, StandFor, filled, ways_by}
 use Rattle.rng_ways.specs.declared.way.Hole.TheVariants as holes
 use Rattle.rng_ways.specs.declared.way.Joint.TheVariants as joints
 use Rattle.rng_ways.proofs.Composing.{both_made, copies_made, first_made, made, member_made, opened_hands_on, opened_same, over_hands_on}
-use Rattle.rng_ways.proofs.Composing.{map_numbers, no_order_between, none_more, over_same, side_law, ways_of_same}
-use Rattle.rng_ways.proofs.FewerLaws.{left_inside, more_copies, repeated_made, uncovered_made}
+use Rattle.rng_ways.proofs.Composing.{map_numbers, no_order_between, none_made, none_more, over_same, side_law, ways_of_same}
+use Rattle.rng_ways.proofs.FewerLaws.{alone_made, left_inside, more_copies, repeated_made, uncovered_made}
+use Rattle.rng_ways.proofs.Copies.{behind_weight, opened_gives, opened_takes, opened_weight}
 use Rattle.rng_ways.proofs.KnownWays.{known_longer, known_more, those_known}
 use Rattle.rng_ways.proofs.Offers.{inside_longer}
 use Rattle.rng_ways.proofs.Standing.{appended_stand}
@@ -191,31 +194,31 @@ item_ways_of_group-returns-then-not-facts-clause-ways t c =
 pub item_ways_of_group-ways-requires-2 : goal.item_ways_of_group-ways-requires-2
 item_ways_of_group-ways-requires-2 t c =
     let t0 = c.args.grammar.now in
-    let longer = Longer-trans c.args.table.now c.ways.new.table c.add_filled.new.table c.in_ok-firsts.ensures.longer c.in_ok-add_filled.ensures.longer in
-    let stays = ap weight (tree_stays t0 c.args.table.now c.add_filled.new.table c.args.second.0 longer c.requires.second) in
-    let less = right_less group (tree_of t0 c.args.table.now c.args.first.0) (tree_of t0 c.args.table.now c.args.second.0) in
-    let d = c.decreases in
-    let inside = c.requires.second in
-    let long = Longer-length c.args.table.now c.add_filled.new.table longer in (
-      omega (arith, stays, less, d),
+    let n0 = c.args.table.now in
+    let n2 = c.add_filled.new.table in
+    let longer = Longer-trans n0 c.ways.new.table n2 c.in_ok-firsts.ensures.longer c.in_ok-add_filled.ensures.longer in
+    let stays = ap weight (tree_stays t0 n0 n2 c.args.second.0 longer c.requires.second) in
+    let less = right_less group (tree_of t0 n0 c.args.first.0) (tree_of t0 n0 c.args.second.0) in
+    let rest = behind_weight (tree_of t0 n2 c.args.first.0) (tree_of t0 n2 c.args.second.0) (tree_of t0 n2 c.in-Some.rest.0) (c.in-Some.ensures.behind t0) in
+    let d = c.decreases in (
+      omega (arith, stays, less, rest, d),
       (
-        omega (arith, inside, long),
+        c.in-Some.ensures.inside,
         (
-          known_longer t0 c.ways.new.table c.add_filled.new.table c.args.kind c.in_ok-add_filled.ensures.longer c.ways.new.known c.in_ok-firsts.ensures.known,
-          candidates_longer t0 c.args.table.now c.add_filled.new.table longer c.args.kind c.args.candidates c.requires.candidates,
+          known_longer t0 c.ways.new.table n2 c.args.kind c.in_ok-add_filled.ensures.longer c.ways.new.known c.in_ok-firsts.ensures.known,
+          candidates_longer t0 n0 n2 longer c.args.kind c.args.candidates c.requires.candidates,
         ),
       ),
     )
 
 pub item_ways_of_group-uncovered-requires : goal.item_ways_of_group-uncovered-requires
 item_ways_of_group-uncovered-requires t c =
-    let n0 = c.args.table.now in
     let n1 = c.ways.new.table in
     let n2 = c.add_filled.new.table in
     let n3 = c.ways-2.new.table in
     let longer = Longer-trans n1 n2 n3 c.in_ok-add_filled.ensures.longer c.in_ok-seconds.ensures.longer in
-    let long = Longer-length n0 n3 (Longer-trans n0 n1 n3 c.in_ok-firsts.ensures.longer longer) in
-    let inside = c.requires.second in
+    let long = Longer-length n2 n3 c.in_ok-seconds.ensures.longer in
+    let inside = c.in-Some.ensures.inside in
     record {
       second = omega (arith, inside, long);
       firsts = inside_longer n1 n3 c.as_slice-2.result.now longer (subst (AreInside n1) (sym c.as_slice-2.ensures) c.in_ok-firsts.ensures.ways.inside);
@@ -228,27 +231,31 @@ item_ways_of_group-returns-clause-ways t c =
     let n0 = c.args.table.now in
     let n1 = c.ways.new.table in
     let n2 = c.add_filled.new.table in
-    let n3 = c.ways-2.new.table in
     let p = tree_of t0 n0 c.args.first.0 in
     let q = tree_of t0 n0 c.args.second.0 in
     let longer2 = Longer-trans n0 n1 n2 c.in_ok-firsts.ensures.longer c.in_ok-add_filled.ensures.longer in
-    let longer13 = Longer-trans n1 n2 n3 c.in_ok-add_filled.ensures.longer c.in_ok-seconds.ensures.longer in
-    let first_is = ap is_nullable (tree_stays t0 n0 n2 c.args.first.0 longer2 c.requires.first) in
-    let told = ap (λ (f : Facts). f.nullable) (c.facts.ensures.exact t0) in
-    let firsts = c.in_ok-firsts.firsts.items in
+    let first_is = tree_stays t0 n0 n2 c.args.first.0 longer2 c.requires.first in
     let second_is = tree_stays t0 n0 n2 c.args.second.0 longer2 c.requires.second in
-    let b = subst (λ q. AreWaysOf t0 n3 c.args.kind q c.in_ok-seconds.seconds.items) second_is c.in_ok-seconds.ensures.ways in
-    let left = subst (AreUncovered n3 c.args.second c.as_slice-2.result.now c.in_ok-seconds.seconds.items) (sym c.as_slice-3.ensures)
-    c.in_ok-seconds-2.ensures in
-    let uncovered = subst (λ ws. AreUncovered n3 c.args.second ws c.in_ok-seconds.seconds.items c.as_slice-3.result.now) c.as_slice-2.ensures left in
+    let told : IsTrue c.facts.result.nullable = not-false _ c.if-not-facts.false in
+    let ends = subst (λ p. Takes (reading_of t0) p [] []) first_is ((c.facts.ensures.nullable t0 (reading_of t0)).0 told) in
+    let n3 = c.ways-2.new.table in
+    let longer23 = c.in_ok-seconds.ensures.longer in
+    let longer13 = Longer-trans n1 n2 n3 c.in_ok-add_filled.ensures.longer longer23 in
+    let rest = c.in-Some.rest in
+    let s = tree_of t0 n2 rest.0 in
+    let copies = subst (λ p. IsBehindCopies p q s) first_is
+    (subst (λ q. IsBehindCopies (tree_of t0 n2 c.args.first.0) q s) second_is (c.in-Some.ensures.behind t0)) in
+    let firsts = c.in_ok-firsts.firsts.items in
+    let seconds = c.in_ok-seconds.seconds.items in
+    let left = subst (AreUncovered n3 rest c.as_slice-2.result.now seconds) (sym c.as_slice-3.ensures) c.in_ok-seconds-2.ensures in
+    let uncovered = subst (λ ws. AreUncovered n3 rest ws seconds c.as_slice-3.result.now) c.as_slice-2.ensures left in
     let some = subst (λ ws. StandFor n2 c.add_filled.new.all.items (λ t. ways_by (tree_of t n1) c.new-all.result.items
     ++ behind (filled (tree_of t n1) (holes.First joints.Group c.args.second)) (ways_by (tree_of t n1) ws))) c.as_slice.ensures c.in_ok-add_filled.ensures.ways in
-    uncovered_made t0 n1 n3 longer13 c.args.second q firsts c.in_ok-seconds.seconds.items c.as_slice-3.result.now
-    (tree_stays t0 n0 n3 c.args.second.0 (Longer-trans n0 n1 n3 c.in_ok-firsts.ensures.longer longer13) c.requires.second)
-    c.in_ok-firsts.ensures.ways.inside uncovered n2 c.add_filled-2.new.table c.args.kind p c.new-all.result.items c.add_filled.new.all.items
-    c.add_filled-2.new.all.items c.requires.kind (sym first_is ∙ sym told ∙ not-false _ c.if-not-facts.false) c.new-all.ensures.items
-    (tree_stays t0 n0 n1 c.args.second.0 c.in_ok-firsts.ensures.longer c.requires.second) c.in_ok-firsts.ensures.ways b c.in_ok-seconds.ensures.longer
-    some c.in_ok-add_filled-2.ensures.ways
+    uncovered_made t0 n1 n3 longer13 rest s firsts seconds c.as_slice-3.result.now (tree_stays t0 n2 n3 rest.0 longer23 c.in-Some.ensures.inside)
+    c.in_ok-firsts.ensures.ways.inside uncovered n2 c.add_filled-2.new.table c.args.kind c.args.second p q c.new-all.result.items
+    c.add_filled.new.all.items c.add_filled-2.new.all.items c.requires.kind ends copies c.new-all.ensures.items
+    (tree_stays t0 n0 n1 c.args.second.0 c.in_ok-firsts.ensures.longer c.requires.second) c.in_ok-firsts.ensures.ways c.in_ok-seconds.ensures.ways
+    longer23 some c.in_ok-add_filled-2.ensures.ways
 
 pub ways_of_choice-ways-requires : goal.ways_of_choice-ways-requires
 ways_of_choice-ways-requires t c =
@@ -379,7 +386,7 @@ pub item_ways_of_group-add_filled-requires-2-clause-ways : goal.item_ways_of_gro
 item_ways_of_group-add_filled-requires-2-clause-ways t c =
     let n3 = c.ways-2.new.table in
     subst (AreInside n3) (sym c.as_slice-3.ensures)
-    (left_inside n3 c.args.second c.as_slice-2.result.now c.in_ok-seconds.seconds.items c.in_ok-seconds-2.seconds.items c.in_ok-seconds-2.ensures
+    (left_inside n3 c.in-Some.rest c.as_slice-2.result.now c.in_ok-seconds.seconds.items c.in_ok-seconds-2.seconds.items c.in_ok-seconds-2.ensures
     c.in_ok-seconds.ensures.ways.inside)
 
 pub item_ways_of_group-add_filled-requires-2-clause-all : goal.item_ways_of_group-add_filled-requires-2-clause-all
@@ -538,3 +545,81 @@ new_ways-returns-in_default t c = record {
       longer c.args.known.now c.requires.known) c.ways_of_leaf.ensures.longer;
   ways = c.ways_of_leaf.ensures.ways;
 }
+
+pub item_ways_of_group-returns-in_default-clause-known : goal.item_ways_of_group-returns-in_default-clause-known
+item_ways_of_group-returns-in_default-clause-known t c =
+    known_longer c.args.grammar.now c.ways.new.table c.add_filled.new.table c.args.kind c.in_ok-add_filled.ensures.longer c.ways.new.known
+    c.in_ok-firsts.ensures.known
+
+pub item_ways_of_group-returns-in_default-clause-ways : goal.item_ways_of_group-returns-in_default-clause-ways
+item_ways_of_group-returns-in_default-clause-ways t c =
+    let t0 = c.args.grammar.now in
+    let n0 = c.args.table.now in
+    let n1 = c.ways.new.table in
+    let n2 = c.add_filled.new.table in
+    let p = tree_of t0 n0 c.args.first.0 in
+    let q = tree_of t0 n0 c.args.second.0 in
+    let longer2 = Longer-trans n0 n1 n2 c.in_ok-firsts.ensures.longer c.in_ok-add_filled.ensures.longer in
+    let first_is = tree_stays t0 n0 n2 c.args.first.0 longer2 c.requires.first in
+    let second_is = tree_stays t0 n0 n2 c.args.second.0 longer2 c.requires.second in
+    let told : IsTrue c.facts.result.nullable = not-false _ c.if-not-facts.false in
+    let ends = subst (λ p. Takes (reading_of t0) p [] []) first_is ((c.facts.ensures.nullable t0 (reading_of t0)).0 told) in
+    let copies = subst (λ p. IsOfCopies p q) first_is
+    (subst (λ q. IsOfCopies (tree_of t0 n2 c.args.first.0) q) second_is (c.in_default.ensures.alone t0)) in
+    let a = subst (AreWaysOf t0 n1 c.args.kind p) (sym c.as_slice.ensures) c.in_ok-firsts.ensures.ways in
+    alone_made t0 n1 n2 c.args.kind c.args.second p q c.as_slice.result.now c.new-all.result.items c.add_filled.new.all.items c.requires.kind ends copies
+    c.new-all.ensures.items (tree_stays t0 n0 n1 c.args.second.0 c.in_ok-firsts.ensures.longer c.requires.second) a c.in_ok-add_filled.ensures.ways
+
+pub ways_of_choice-members-init : goal.ways_of_choice-members-init
+ways_of_choice-members-init t c =
+    let t0 = c.args.grammar.now in
+    let n0 = c.args.table.now in
+    record {
+      longer = Longer-refl n0;
+      known = c.requires.known;
+      ways = subst (AreWaysOf t0 n0 c.args.kind s_not_allowed) (sym c.new-all.ensures.items) (none_made t0 n0 c.args.kind);
+    }
+
+pub ways_of_group-item_ways_of_group-requires : goal.ways_of_group-item_ways_of_group-requires
+ways_of_group-item_ways_of_group-requires t c =
+    let t0 = c.args.grammar.now in
+    let n0 = c.args.table.now in
+    let n1 = c.first_copy.new.self in
+    let longer = c.in_ok-copy.ensures.longer in
+    let less = opened_weight (tree_of t0 n0 c.args.first.0) (tree_of t0 n0 c.args.second.0) (tree_of t0 n1 c.in_ok-copy.copy.0)
+    (tree_of t0 n1 c.in_ok-copy.rest.0) (c.in_ok-copy.ensures.opened t0) in
+    let d = c.decreases in (
+      omega (arith, less, d),
+      (
+        search rules,
+        (
+          c.in_ok-copy.ensures.inside.0,
+          (
+            c.in_ok-copy.ensures.inside.1,
+            (
+              known_longer t0 n0 n1 c.args.kind longer c.args.known.now c.requires.known,
+              candidates_longer t0 n0 n1 longer c.args.kind c.args.candidates c.requires.candidates,
+            ),
+          ),
+        ),
+      ),
+    )
+
+pub ways_of_group-returns-then-begins_with_copies : goal.ways_of_group-returns-then-begins_with_copies
+ways_of_group-returns-then-begins_with_copies t c =
+    let t0 = c.args.grammar.now in
+    let n0 = c.args.table.now in
+    let n1 = c.first_copy.new.self in
+    let n2 = c.item_ways_of_group.new.table in
+    let p = tree_of t0 n0 c.args.first.0 in
+    let q = tree_of t0 n0 c.args.second.0 in
+    let x = tree_of t0 n1 c.in_ok-copy.copy.0 in
+    let y = tree_of t0 n1 c.in_ok-copy.rest.0 in
+    let opened = c.in_ok-copy.ensures.opened t0 in
+    record {
+      longer = if_ok c.item_ways_of_group.result _ _ (λ ws h. Longer-trans n0 n1 n2 c.in_ok-copy.ensures.longer h) c.item_ways_of_group.ensures.longer;
+      known = c.item_ways_of_group.ensures.known;
+      ways = if_ok c.item_ways_of_group.result _ _
+          (λ ws h. ways_of_same t0 n2 c.args.kind (s_joined group x y) (s_joined group p q) ws.items (opened_takes (reading_of t0) p q x y opened)
+          (opened_gives p q x y opened) h) c.item_ways_of_group.ensures.ways;
+    }
