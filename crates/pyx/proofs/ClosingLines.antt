@@ -5,20 +5,20 @@ use Rattle.std.specs.List.{All, AllByRecursion}
 use Rattle.std.specs.Str.{IsUtf8, is_utf8, chars}
 use Rattle.std.proofs.lemmas.List.{append-nil}
 use Rattle.std.proofs.lemmas.List.Elements.{All-from_recursion, recursion_from_All}
-use Rattle.rng_model.specs.Characters.{is_xml_char}
-use Rattle.rng_model.specs.Lines.{Line, lines, with_first}
-use Rattle.rng_model.specs.PyxLines as said
-use Rattle.rng_model.specs.PyxLines.{Said, WrittenName, IsNcname, IsName, alone, prefixed, Says, says_start, says_end, IsGoodLine, AreGoodLines, no_lines}
-use Rattle.rng_model.specs.PyxLines.{line_and}
-use Rattle.rng_model.specs.PyxTrees.{Placed, Event, events_of, IsPyxDocument}
-use Rattle.rng_model.specs.PyxClauses as clauses
-use Rattle.rng_model.specs.PyxClauses.{AreOpenTags, none_open, one_open}
+use Rattle.rng_model.specs.names.Characters.{is_xml_char}
+use Rattle.rng_model.specs.documents.Lines.{Line, lines, with_first}
+use Rattle.rng_model.specs.documents.PyxLines as said
+use Rattle.rng_model.specs.documents.PyxLines.{Said, WrittenName, IsNcname, IsName, alone, prefixed, Says, says_start, says_end, IsGoodLine, AreGoodLines, no_lines}
+use Rattle.rng_model.specs.documents.PyxLines.{line_and}
+use Rattle.rng_model.specs.documents.PyxTrees.{Placed, Event, events_of, IsPyxDocument}
+use Rattle.rng_model.specs.documents.PyxClauses as clauses
+use Rattle.rng_model.specs.documents.PyxClauses.{AreOpenTags, none_open, one_open}
 use Rattle.rng_model.proofs.PyxExamples.{good as good_example, a_is_a_name}
-use Rattle.pyx.specs.Cuts.{at_byte}
-use Rattle.pyx.specs.TagReader.{Element, tag_read, element_name, expanded, namespace_of, found_in, any_forbidden, is_written_twice, is_named_twice}
-use Rattle.pyx.specs.DocumentReader.{State, Tag, Open, Turn, followed, after_events, declared_in, line_read, all_read, nothing_read, at_end, all_ended}
-use Rattle.pyx.specs.DocumentReader.{document_read}
-use Rattle.pyx.specs.Documents.{BeginsDocument}
+use Rattle.pyx.specs.plain.Cuts.{at_byte}
+use Rattle.pyx.specs.plain.TagReader.{Element, tag_read, element_name, expanded, namespace_of, found_in, any_forbidden, is_written_twice, is_named_twice}
+use Rattle.pyx.specs.plain.DocumentReader.{State, Tag, Open, Turn, followed, after_events, declared_in, line_read, all_read, nothing_read, at_end, all_ended}
+use Rattle.pyx.specs.plain.DocumentReader.{document_read}
+use Rattle.rng_model.specs.documents.Documents.{BeginsDocument}
 use Rattle.pyx.proofs.NamesInLines.{at_none, all_append, differs, ncname_without, utf8_parts, ascii_first, char_first}
 use Rattle.pyx.proofs.Turns.{sent_before}
 use Rattle.pyx.proofs.WholeBytes.{cons_no_feed, lines_ended, lines_cons, lines_nil}

@@ -2,13 +2,13 @@
 use Rattle.std.proofs.Common.{◌≡◌, List, [], ◌++◌, Option, Some, None, Result, Ok, Err, refl, ap, sym, ◌∙◌, subst, length, true, false}
 use Rattle.std.specs.Prelude.{◌==◌}
 use Rattle.std.proofs.lemmas.List.{append-nil}
-use Rattle.rng_model.specs.PyxFaults.{Fault}
-use Rattle.rng_model.specs.PyxTrees.{Event}
-use Rattle.pyx.specs.declared.fault.PyxFault.{PyxFault}
-use Rattle.pyx.specs.declared.fault.PyxFault.TheVariants as pyx
-use Rattle.pyx.specs.DocumentReader.{State, Turn, followed, at_end, at_last, all_ended, silent, line_read}
-use Rattle.pyx.specs.Pieces.{Progress, open_line, finished}
-use Rattle.pyx.specs.View.{Concludes, EndsBy, Takes}
+use Rattle.rng_model.specs.documents.PyxFaults.{Fault}
+use Rattle.rng_model.specs.documents.PyxTrees.{Event}
+use Rattle.rng_model.specs.declared.pyx_fault.PyxFault.{PyxFault}
+use Rattle.rng_model.specs.declared.pyx_fault.PyxFault.TheVariants as pyx
+use Rattle.pyx.specs.plain.DocumentReader.{State, Turn, followed, at_end, at_last, all_ended, silent, line_read}
+use Rattle.pyx.specs.plain.Pieces.{Progress, open_line, finished}
+use Rattle.pyx.specs.views.View.{Concludes, EndsBy, Takes}
 
 last_sends : (o : Option Fault) (s : State) → (at_last o s).1 ≡ []
 last_sends None s = refl

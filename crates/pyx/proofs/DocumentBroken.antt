@@ -3,21 +3,21 @@ use Rattle.std.proofs.Common.{◌≡◌, ℕ, ◌+◌, ◌≤◌, ◌<◌, Bool,
 use Rattle.std.proofs.Common.{refl, sym, ap, subst, ◌∙◌, arith, append_assoc, ◌⊎◌, inl, inr, lit≤}
 use Rattle.std.specs.Prelude.{◌==◌, ◌≢◌, is_some}
 use Rattle.std.proofs.lemmas.List.{length-append, append-nil}
-use Rattle.rng_model.specs.Lines.{Line, line_limit}
-use Rattle.rng_model.specs.PyxFaults.{HasKind, Fault, EndsInTag}
-use Rattle.rng_model.specs.PyxLines as said
-use Rattle.rng_model.specs.PyxLines.{Said, WrittenName, IsGoodLine, AreGoodLines, BreaksWithin, BreaksAlone, within, too_long}
-use Rattle.rng_model.specs.PyxNamespaces.{WrittenAttribute, Scope}
-use Rattle.rng_model.specs.PyxTrees.{Event}
-use Rattle.rng_model.specs.PyxClauses as clauses
-use Rattle.rng_model.specs.PyxClauses.{BeginsOtherwise, AreOpenTags, EndsWithTag, EndsInText, BreaksNamespaces, RepeatsName, BreaksHere, Breaks, at_line}
-use Rattle.rng_model.specs.PyxClauses.{unfinished, rootless}
-use Rattle.pyx.specs.Cuts.{behind}
-use Rattle.pyx.specs.LineReader.{said_of, written_of}
-use Rattle.pyx.specs.TagReader.{Element, tag_read}
-use Rattle.pyx.specs.DocumentReader as reader
-use Rattle.pyx.specs.DocumentReader.{State, Tag, Open, Turn, fault, silent, go_on, followed, after_events, declared_in, close_tag, tag_ended, judged, line_read}
-use Rattle.pyx.specs.DocumentReader.{all_read, nothing_read, at_end, at_last, all_ended, document_read}
+use Rattle.rng_model.specs.documents.Lines.{Line, line_limit}
+use Rattle.rng_model.specs.documents.PyxFaults.{HasKind, Fault, EndsInTag}
+use Rattle.rng_model.specs.documents.PyxLines as said
+use Rattle.rng_model.specs.documents.PyxLines.{Said, WrittenName, IsGoodLine, AreGoodLines, BreaksWithin, BreaksAlone, within, too_long}
+use Rattle.rng_model.specs.documents.PyxNamespaces.{WrittenAttribute, Scope}
+use Rattle.rng_model.specs.documents.PyxTrees.{Event}
+use Rattle.rng_model.specs.documents.PyxClauses as clauses
+use Rattle.rng_model.specs.documents.PyxClauses.{BeginsOtherwise, AreOpenTags, EndsWithTag, EndsInText, BreaksNamespaces, RepeatsName, BreaksHere, Breaks, at_line}
+use Rattle.rng_model.specs.documents.PyxClauses.{unfinished, rootless}
+use Rattle.pyx.specs.plain.Cuts.{behind}
+use Rattle.pyx.specs.plain.LineReader.{said_of, written_of}
+use Rattle.pyx.specs.plain.TagReader.{Element, tag_read}
+use Rattle.pyx.specs.plain.DocumentReader as reader
+use Rattle.pyx.specs.plain.DocumentReader.{State, Tag, Open, Turn, fault, silent, go_on, followed, after_events, declared_in, close_tag, tag_ended, judged, line_read}
+use Rattle.pyx.specs.plain.DocumentReader.{all_read, nothing_read, at_end, at_last, all_ended, document_read}
 use Rattle.pyx.proofs.LineClauses.{good_line, broken_line}
 use Rattle.pyx.proofs.TagAnswers.{TagTells, tag_tells}
 use Rattle.pyx.proofs.SaidLines.{is_attribute, good, line_said}

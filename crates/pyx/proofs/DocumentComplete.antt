@@ -3,19 +3,19 @@ use Rattle.std.proofs.Common.{◌≡◌, ℕ, ◌+◌, ◌≤◌, ◌<◌, Bool,
 use Rattle.std.proofs.Common.{subst, ◌∙◌, append_assoc, arith}
 use Rattle.std.specs.Prelude.{◌==◌, is_some}
 use Rattle.std.proofs.lemmas.List.{append-nil, length-append}
-use Rattle.rng_model.specs.Document.{Attribute}
-use Rattle.rng_model.specs.Lines.{Line, lines, attribute_limit, open_limit, text_limit}
-use Rattle.rng_model.specs.Names.{Name}
-use Rattle.rng_model.specs.PyxLines as said
-use Rattle.rng_model.specs.PyxLines.{Said, WrittenName}
-use Rattle.rng_model.specs.PyxNamespaces.{WrittenAttribute, AreWritten, none_written, written_and, AreParted, Scope}
-use Rattle.rng_model.specs.PyxTrees.{Placed, element_at, PlacedItems, none_placed, placed_and, Event, events_of, events_in, IsRun, no_run, text_and}
-use Rattle.rng_model.specs.PyxTrees.{instruction_and}
-use Rattle.rng_model.specs.PyxTrees.{AreInstructions, no_instructions, another_instruction, string_before, IsTag, IsElement, element, IsContent, last_run}
-use Rattle.rng_model.specs.PyxTrees.{run_and_element, IsPyxDocument}
-use Rattle.pyx.specs.TagReader.{Element, declared_by, tag_read}
-use Rattle.pyx.specs.DocumentReader.{State, Tag, Open, Turn, after_events, followed, declared_in, with_attribute, nothing_read, at_end, all_ended}
-use Rattle.pyx.specs.DocumentReader.{document_read}
+use Rattle.rng_model.specs.matching.Document.{Attribute}
+use Rattle.rng_model.specs.documents.Lines.{Line, lines, attribute_limit, open_limit, text_limit}
+use Rattle.rng_model.specs.names.Names.{Name}
+use Rattle.rng_model.specs.documents.PyxLines as said
+use Rattle.rng_model.specs.documents.PyxLines.{Said, WrittenName}
+use Rattle.rng_model.specs.documents.PyxNamespaces.{WrittenAttribute, AreWritten, none_written, written_and, AreParted, Scope}
+use Rattle.rng_model.specs.documents.PyxTrees.{Placed, element_at, PlacedItems, none_placed, placed_and, Event, events_of, events_in, IsRun, no_run, text_and}
+use Rattle.rng_model.specs.documents.PyxTrees.{instruction_and}
+use Rattle.rng_model.specs.documents.PyxTrees.{AreInstructions, no_instructions, another_instruction, string_before, IsTag, IsElement, element, IsContent, last_run}
+use Rattle.rng_model.specs.documents.PyxTrees.{run_and_element, IsPyxDocument}
+use Rattle.pyx.specs.plain.TagReader.{Element, declared_by, tag_read}
+use Rattle.pyx.specs.plain.DocumentReader.{State, Tag, Open, Turn, after_events, followed, declared_in, with_attribute, nothing_read, at_end, all_ended}
+use Rattle.pyx.specs.plain.DocumentReader.{document_read}
 use Rattle.pyx.proofs.TagNamespaces.{scope_in, AllDeclared}
 use Rattle.pyx.proofs.TagParts.{IsSplit, no_lines, declares, declares_none, split_parted, split_declared, split_declaration, split_other}
 use Rattle.pyx.proofs.TagUnique.{IsScopeOnce, prefixes_of, parted_same}

@@ -3,22 +3,22 @@ use Rattle.std.proofs.Common.{◌≡◌, ℕ, ◌+◌, ◌≤◌, ◌<◌, Bool,
 use Rattle.std.proofs.Common.{refl, sym, ap, subst, ◌∙◌, arith, append_assoc, ◌⊎◌, inl, inr, lit≤, rules}
 use Rattle.std.specs.Prelude.{◌==◌, ◌≢◌, nat_le}
 use Rattle.std.proofs.lemmas.List.{length-append, append-nil}
-use Rattle.rng_model.specs.Lines.{Line, line_limit, attribute_limit, open_limit, text_limit}
-use Rattle.rng_model.specs.PyxFaults.{HasKind, Fault, EndsInTag, IsBefore}
-use Rattle.rng_model.specs.PyxLines as said
-use Rattle.rng_model.specs.PyxLines.{Said, WrittenName, IsGoodLine, AreGoodLines}
-use Rattle.rng_model.specs.PyxNamespaces.{WrittenAttribute, Scope}
-use Rattle.rng_model.specs.PyxTrees.{Event}
-use Rattle.rng_model.specs.PyxClauses as clauses
-use Rattle.rng_model.specs.PyxClauses.{BeginsOtherwise, AreOpenTags, none_open, SaysTag, HasScope, EndsWithTag, EndsInText, BreaksNamespaces, RepeatsName}
-use Rattle.rng_model.specs.PyxClauses.{BreaksHere}
-use Rattle.rng_model.specs.PyxClauses.{Breaks, at_line, unfinished, rootless, IsFirstFault}
-use Rattle.pyx.specs.LineReader.{said_of, written_of}
-use Rattle.pyx.specs.TagReader.{Element, tag_read}
-use Rattle.pyx.specs.DocumentReader as reader
-use Rattle.pyx.specs.DocumentReader.{State, Tag, Open, Turn, fault, silent, go_on, followed, after_events, declared_in, close_tag, tag_ended, line_read}
-use Rattle.pyx.specs.DocumentReader.{all_read}
-use Rattle.pyx.specs.DocumentReader.{nothing_read, at_end, at_last, all_ended, document_read}
+use Rattle.rng_model.specs.documents.Lines.{Line, line_limit, attribute_limit, open_limit, text_limit}
+use Rattle.rng_model.specs.documents.PyxFaults.{HasKind, Fault, EndsInTag, IsBefore}
+use Rattle.rng_model.specs.documents.PyxLines as said
+use Rattle.rng_model.specs.documents.PyxLines.{Said, WrittenName, IsGoodLine, AreGoodLines}
+use Rattle.rng_model.specs.documents.PyxNamespaces.{WrittenAttribute, Scope}
+use Rattle.rng_model.specs.documents.PyxTrees.{Event}
+use Rattle.rng_model.specs.documents.PyxClauses as clauses
+use Rattle.rng_model.specs.documents.PyxClauses.{BeginsOtherwise, AreOpenTags, none_open, SaysTag, HasScope, EndsWithTag, EndsInText, BreaksNamespaces, RepeatsName}
+use Rattle.rng_model.specs.documents.PyxClauses.{BreaksHere}
+use Rattle.rng_model.specs.documents.PyxClauses.{Breaks, at_line, unfinished, rootless, IsFirstFault}
+use Rattle.pyx.specs.plain.LineReader.{said_of, written_of}
+use Rattle.pyx.specs.plain.TagReader.{Element, tag_read}
+use Rattle.pyx.specs.plain.DocumentReader as reader
+use Rattle.pyx.specs.plain.DocumentReader.{State, Tag, Open, Turn, fault, silent, go_on, followed, after_events, declared_in, close_tag, tag_ended, line_read}
+use Rattle.pyx.specs.plain.DocumentReader.{all_read}
+use Rattle.pyx.specs.plain.DocumentReader.{nothing_read, at_end, at_last, all_ended, document_read}
 use Rattle.pyx.proofs.LineClauses.{good_line, broken_line, alone_most}
 use Rattle.pyx.proofs.WrittenNames.{written_back, written_bytes}
 use Rattle.pyx.proofs.TagExact.{tag_namespaces, tag_repeats}

@@ -3,18 +3,18 @@ use Rattle.std.proofs.Common.{◌≡◌, ℕ, suc, ◌+◌, ◌≤◌, ◌<◌, 
 use Rattle.std.proofs.Common.{refl, sym, ap, subst, ◌∙◌, append_assoc, arith}
 use Rattle.std.specs.Prelude.{◌==◌, ◌-◌}
 use Rattle.std.proofs.lemmas.List.{append-nil, length-append}
-use Rattle.rng_model.specs.Lines.{Line, lines, attribute_limit, open_limit, text_limit}
-use Rattle.rng_model.specs.PyxFaults.{Fault}
-use Rattle.rng_model.specs.PyxLines as said
-use Rattle.rng_model.specs.PyxLines.{Said, WrittenName, IsGoodLine, AreGoodLines, no_lines, line_and}
-use Rattle.rng_model.specs.PyxNamespaces.{WrittenAttribute, AreWritten, none_written, written_and, Scope}
-use Rattle.rng_model.specs.PyxTrees.{Placed, element_at, PlacedItems, none_placed, placed_and, Event, IsRun, no_run, text_and, instruction_and}
-use Rattle.rng_model.specs.PyxTrees.{AreInstructions, no_instructions, another_instruction, string_before, IsTag, IsElement, element, IsContent, last_run}
-use Rattle.rng_model.specs.PyxTrees.{run_and_element, IsPyxDocument}
-use Rattle.pyx.specs.LineReader.{said_of}
-use Rattle.pyx.specs.TagReader.{Element, tag_read}
-use Rattle.pyx.specs.DocumentReader.{State, Tag, Open, Turn, fault, go_on, declared_in, with_attribute, tag_ended, judged, line_read}
-use Rattle.pyx.specs.DocumentReader.{all_read, nothing_read, unfinished, at_end, at_last, all_ended, document_read}
+use Rattle.rng_model.specs.documents.Lines.{Line, lines, attribute_limit, open_limit, text_limit}
+use Rattle.rng_model.specs.documents.PyxFaults.{Fault}
+use Rattle.rng_model.specs.documents.PyxLines as said
+use Rattle.rng_model.specs.documents.PyxLines.{Said, WrittenName, IsGoodLine, AreGoodLines, no_lines, line_and}
+use Rattle.rng_model.specs.documents.PyxNamespaces.{WrittenAttribute, AreWritten, none_written, written_and, Scope}
+use Rattle.rng_model.specs.documents.PyxTrees.{Placed, element_at, PlacedItems, none_placed, placed_and, Event, IsRun, no_run, text_and, instruction_and}
+use Rattle.rng_model.specs.documents.PyxTrees.{AreInstructions, no_instructions, another_instruction, string_before, IsTag, IsElement, element, IsContent, last_run}
+use Rattle.rng_model.specs.documents.PyxTrees.{run_and_element, IsPyxDocument}
+use Rattle.pyx.specs.plain.LineReader.{said_of}
+use Rattle.pyx.specs.plain.TagReader.{Element, tag_read}
+use Rattle.pyx.specs.plain.DocumentReader.{State, Tag, Open, Turn, fault, go_on, declared_in, with_attribute, tag_ended, judged, line_read}
+use Rattle.pyx.specs.plain.DocumentReader.{all_read, nothing_read, unfinished, at_end, at_last, all_ended, document_read}
 use Rattle.pyx.proofs.LineClauses.{good_line}
 use Rattle.pyx.proofs.TagNamespaces.{scope_in, AllDeclared}
 use Rattle.pyx.proofs.TagParts as split

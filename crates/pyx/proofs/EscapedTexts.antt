@@ -1,8 +1,8 @@
 -- What a text with escapes stands for, as it is read and as it is defined.
 use Rattle.std.proofs.Common.{◌≡◌, ℕ, Bool, true, false, cond, eqb, List, [], ◌∷◌, Option, Some, None, refl, sym, subst, ◌∙◌}
 use Rattle.std.proofs.lemmas.Bool.{eqb-true}
-use Rattle.rng_model.specs.PyxLines.{StandsFor, at_end, itself, line_feed, tab, backslash, StandsForNothing}
-use Rattle.pyx.specs.Cuts.{unescaped, escaped, in_front}
+use Rattle.rng_model.specs.documents.PyxLines.{StandsFor, at_end, itself, line_feed, tab, backslash, StandsForNothing}
+use Rattle.pyx.specs.plain.Cuts.{unescaped, escaped, in_front}
 use Rattle.pyx.proofs.NamesInLines.{not_equal, differs}
 
 pub value_is : {t v : List ℕ} → StandsFor t v → unescaped t ≡ Some v

@@ -6,19 +6,19 @@ use Rattle.std.specs.Prelude.{◌==◌, nat_le, is_some}
 use Rattle.std.specs.List.{AllByRecursion}
 use Rattle.std.proofs.lemmas.List.{append-nil, length-append, length-take-le, take-append-drop}
 use Rattle.std.proofs.lemmas.List.Elements.{All-from_recursion}
-use Rattle.rng_model.specs.Lines.{Line, lines, attribute_limit, open_limit, text_limit}
-use Rattle.rng_model.specs.PyxFaults.{Fault}
-use Rattle.rng_model.specs.PyxLines as said
-use Rattle.rng_model.specs.PyxLines.{Said, WrittenName}
-use Rattle.rng_model.specs.PyxNamespaces.{WrittenAttribute}
-use Rattle.rng_model.specs.PyxTrees.{Event, a_string, an_end, Placed, events_of, IsPyxDocument}
-use Rattle.pyx.specs.Cuts.{behind}
-use Rattle.pyx.specs.LineReader.{said_of}
-use Rattle.pyx.specs.TagReader.{Element, tag_read}
-use Rattle.pyx.specs.DocumentReader.{State, Tag, Open, Turn, silent, go_on, followed, tag_closed, close_tag, tag_ended, text_ended, begin_tag, is_outside}
-use Rattle.pyx.specs.DocumentReader.{started, add_attribute, attributed, joined_by, around, end_in, ended, said_read, judged, line_read, declared_in}
-use Rattle.pyx.specs.DocumentReader.{all_read, nothing_read, at_end, at_last, all_ended, document_read}
-use Rattle.pyx.specs.TagReader.{same_written}
+use Rattle.rng_model.specs.documents.Lines.{Line, lines, attribute_limit, open_limit, text_limit}
+use Rattle.rng_model.specs.documents.PyxFaults.{Fault}
+use Rattle.rng_model.specs.documents.PyxLines as said
+use Rattle.rng_model.specs.documents.PyxLines.{Said, WrittenName}
+use Rattle.rng_model.specs.documents.PyxNamespaces.{WrittenAttribute}
+use Rattle.rng_model.specs.documents.PyxTrees.{Event, a_string, an_end, Placed, events_of, IsPyxDocument}
+use Rattle.pyx.specs.plain.Cuts.{behind}
+use Rattle.pyx.specs.plain.LineReader.{said_of}
+use Rattle.pyx.specs.plain.TagReader.{Element, tag_read}
+use Rattle.pyx.specs.plain.DocumentReader.{State, Tag, Open, Turn, silent, go_on, followed, tag_closed, close_tag, tag_ended, text_ended, begin_tag, is_outside}
+use Rattle.pyx.specs.plain.DocumentReader.{started, add_attribute, attributed, joined_by, around, end_in, ended, said_read, judged, line_read, declared_in}
+use Rattle.pyx.specs.plain.DocumentReader.{all_read, nothing_read, at_end, at_last, all_ended, document_read}
+use Rattle.pyx.specs.plain.TagReader.{same_written}
 use Rattle.pyx.proofs.LineCounts.{tag_ended_keeps, text_within, line_keeps}
 use Rattle.pyx.proofs.DocumentLeast.{all_append}
 use Rattle.pyx.proofs.DocumentComplete.{complete}

@@ -5,21 +5,21 @@ use Rattle.std.specs.Prelude.{nat_le}
 use Rattle.std.specs.List.{AllByRecursion}
 use Rattle.std.proofs.lemmas.List.{length-append, append-nil}
 use Rattle.std.proofs.lemmas.List.Elements.{All-from_recursion}
-use Rattle.rng_model.specs.Lines.{Line, lines}
-use Rattle.rng_model.specs.PyxFaults.{Fault, IsBefore}
-use Rattle.rng_model.specs.PyxLines as said
-use Rattle.rng_model.specs.PyxLines.{Said, WrittenName, IsGoodLine, AreGoodLines}
-use Rattle.rng_model.specs.PyxTrees.{Event}
-use Rattle.rng_model.specs.PyxClauses as clauses
-use Rattle.rng_model.specs.PyxClauses.{BreaksHere, Breaks, at_line, unfinished, rootless, IsFront, HasLongestFront}
-use Rattle.pyx.specs.Cuts.{at_byte}
-use Rattle.pyx.specs.LineReader.{said_of}
-use Rattle.pyx.specs.TagReader.{Element, tag_read}
-use Rattle.pyx.specs.DocumentReader as reader
-use Rattle.pyx.specs.DocumentReader.{State, Tag, Open, Turn, fault, silent, go_on, followed, after_events, declared_in, tag_ended, line_read, all_read}
-use Rattle.pyx.specs.DocumentReader.{nothing_read}
-use Rattle.pyx.specs.DocumentReader.{at_end, at_last, all_ended, document_read}
-use Rattle.pyx.specs.Documents.{BeginsDocument, AreEventsBefore}
+use Rattle.rng_model.specs.documents.Lines.{Line, lines}
+use Rattle.rng_model.specs.documents.PyxFaults.{Fault, IsBefore}
+use Rattle.rng_model.specs.documents.PyxLines as said
+use Rattle.rng_model.specs.documents.PyxLines.{Said, WrittenName, IsGoodLine, AreGoodLines}
+use Rattle.rng_model.specs.documents.PyxTrees.{Event}
+use Rattle.rng_model.specs.documents.PyxClauses as clauses
+use Rattle.rng_model.specs.documents.PyxClauses.{BreaksHere, Breaks, at_line, unfinished, rootless, IsFront, HasLongestFront}
+use Rattle.pyx.specs.plain.Cuts.{at_byte}
+use Rattle.pyx.specs.plain.LineReader.{said_of}
+use Rattle.pyx.specs.plain.TagReader.{Element, tag_read}
+use Rattle.pyx.specs.plain.DocumentReader as reader
+use Rattle.pyx.specs.plain.DocumentReader.{State, Tag, Open, Turn, fault, silent, go_on, followed, after_events, declared_in, tag_ended, line_read, all_read}
+use Rattle.pyx.specs.plain.DocumentReader.{nothing_read}
+use Rattle.pyx.specs.plain.DocumentReader.{at_end, at_last, all_ended, document_read}
+use Rattle.rng_model.specs.documents.Documents.{BeginsDocument, AreEventsBefore}
 use Rattle.pyx.proofs.LineClauses.{good_line}
 use Rattle.pyx.proofs.SaidLines.{good, line_said}
 use Rattle.pyx.proofs.StateSteps.{inside, in_tag, text_event, end_event, start_event}

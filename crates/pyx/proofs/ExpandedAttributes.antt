@@ -1,13 +1,13 @@
 -- Attributes are expanded one after another.
 use Rattle.std.proofs.Common.{◌≡◌, ℕ, List, [], ◌∷◌, ◌++◌, Option, Some, None, Result, Ok, Err, refl, sym, ap, ◌∙◌}
-use Rattle.rng_model.specs.Answers.{Refuses}
-use Rattle.rng_model.specs.Document.{Attribute}
-use Rattle.rng_model.specs.Names.{Name}
-use Rattle.rng_model.specs.PyxNamespaces.{WrittenAttribute}
+use Rattle.rng_model.specs.plain.Answers.{Refuses}
+use Rattle.rng_model.specs.matching.Document.{Attribute}
+use Rattle.rng_model.specs.names.Names.{Name}
+use Rattle.rng_model.specs.documents.PyxNamespaces.{WrittenAttribute}
 use Rattle.pyx.specs.declared.fault.LineFault.{LineFault}
 use Rattle.pyx.specs.declared.fault.LineFault.TheVariants as faults
-use Rattle.pyx.specs.TagReader.{Declared, attribute_name, expanded, and_more}
-use Rattle.pyx.specs.ElementView.{clause_of, resolved}
+use Rattle.pyx.specs.plain.TagReader.{Declared, attribute_name, expanded, and_more}
+use Rattle.pyx.specs.views.ElementView.{clause_of, resolved}
 
 abbrev with_attributes : List Attribute → Option (List Attribute) → Option (List Attribute)
 with_attributes front None = None

@@ -1,16 +1,18 @@
 -- What a reader's outcome is, of all bytes that it stands for.
 use Rattle.std.proofs.Common.{◌≡◌, ℕ, List, [], ◌++◌, Some, None, Result, Ok, Err, refl, ap, sym, subst, ◌∙◌}
 use Rattle.std.proofs.lemmas.List.{append-nil}
-use Rattle.rng_model.specs.Lines.{lines}
-use Rattle.rng_model.specs.PyxFaults.{Fault}
-use Rattle.rng_model.specs.PyxTrees.{Event}
-use Rattle.pyx.specs.declared.fault.PyxFault.{PyxFault}
-use Rattle.pyx.specs.declared.fault.PyxFault.TheVariants as pyx
-use Rattle.pyx.specs.DocumentReader.{State, Turn, after_events, followed, document_read}
-use Rattle.pyx.specs.Documents.{IsTheDocument, IsTheFault}
-use Rattle.pyx.specs.Pieces.{Progress, read, finished, nothing_fed}
-use Rattle.pyx.specs.Standing.{Kept, Stands, UnlessMemory, Ends, IsFaultAfter}
-use Rattle.pyx.specs.View.{Concludes, Hands}
+use Rattle.rng_model.specs.documents.Lines.{lines}
+use Rattle.rng_model.specs.documents.PyxFaults.{Fault}
+use Rattle.rng_model.specs.documents.PyxTrees.{Event}
+use Rattle.rng_model.specs.declared.pyx_fault.PyxFault.{PyxFault}
+use Rattle.rng_model.specs.declared.pyx_fault.PyxFault.TheVariants as pyx
+use Rattle.pyx.specs.plain.DocumentReader.{State, Turn, after_events, followed, document_read}
+use Rattle.rng_model.specs.documents.Documents.{IsTheDocument, IsTheFault}
+use Rattle.pyx.specs.plain.Pieces.{Progress, read, finished, nothing_fed}
+use Rattle.pyx.specs.views.Standing.{Kept, Stands}
+use Rattle.pyx.specs.views.Calls.{UnlessMemory, Ends, IsFaultAfter}
+use Rattle.pyx.specs.views.View.{Concludes}
+use Rattle.rng_model.specs.documents.Handing.{Hands}
 use Rattle.pyx.proofs.Standing.{at_fault, ok_progress, stuck_more}
 use Rattle.pyx.proofs.Turns.{followed_ok, hands_nothing}
 use Rattle.pyx.proofs.Verdicts.{is_document, is_fault}

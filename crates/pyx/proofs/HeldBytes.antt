@@ -7,23 +7,24 @@ use Rattle.std.specs.List.{AllByRecursion}
 use Rattle.std.proofs.lemmas.List.{length-append, append-nil}
 use Rattle.std.proofs.lemmas.List.Elements.{All-from_recursion}
 use Rattle.std.proofs.lemmas.List.Sums.{sum_by-cons}
-use Rattle.rng_model.specs.Lines.{Line, lines, line_limit}
-use Rattle.rng_model.specs.PyxFaults.{HasKind, Fault}
-use Rattle.rng_model.specs.PyxLines as said
-use Rattle.rng_model.specs.PyxLines.{Said, WrittenName, IsName, alone, prefixed, StandsFor, at_end, itself, line_feed, tab, backslash, Says, says_start}
-use Rattle.rng_model.specs.PyxLines.{says_attribute, IsGoodLine, AreGoodLines, no_lines, line_and}
-use Rattle.rng_model.specs.PyxNamespaces.{WrittenAttribute, AreWritten, none_written, written_and, Declares, default_namespace, prefix_declared}
-use Rattle.rng_model.specs.PyxTrees.{Event, no_run}
-use Rattle.rng_model.specs.PyxClauses as clauses
-use Rattle.rng_model.specs.PyxClauses.{EndsInText, SaysTag}
-use Rattle.rng_model.specs.PyxHeld.{name_length, declared_length, declaration_length, KeptOfTags, of_none, of_tag, IsCutAtLine, JoinsText}
-use Rattle.rng_model.specs.PyxHeld.{KeptOf}
-use Rattle.rng_model.specs.PyxHeld.{in_tag, in_no_tag}
-use Rattle.pyx.specs.TagReader.{declared_by}
-use Rattle.pyx.specs.DocumentReader.{State, Open, Turn, silent, go_on, line_read, all_read, nothing_read, tag_bytes}
-use Rattle.pyx.specs.Pieces.{Progress, with_begun, ended_line, open_line, byte_read, read, nothing_fed}
-use Rattle.pyx.specs.Standing.{Kept}
-use Rattle.pyx.specs.Held.{plus, declarations_held, opened_held, held, held_limit, IsHeld}
+use Rattle.rng_model.specs.documents.Lines.{Line, lines, line_limit}
+use Rattle.rng_model.specs.documents.PyxFaults.{HasKind, Fault}
+use Rattle.rng_model.specs.documents.PyxLines as said
+use Rattle.rng_model.specs.documents.PyxLines.{Said, WrittenName, IsName, alone, prefixed, StandsFor, at_end, itself, line_feed, tab, backslash, Says, says_start}
+use Rattle.rng_model.specs.documents.PyxLines.{says_attribute, IsGoodLine, AreGoodLines, no_lines, line_and}
+use Rattle.rng_model.specs.documents.PyxNamespaces.{WrittenAttribute, AreWritten, none_written, written_and, Declares, default_namespace, prefix_declared}
+use Rattle.rng_model.specs.documents.PyxTrees.{Event, no_run}
+use Rattle.rng_model.specs.documents.PyxClauses as clauses
+use Rattle.rng_model.specs.documents.PyxClauses.{EndsInText, SaysTag}
+use Rattle.rng_model.specs.documents.PyxHeld.{name_length, declared_length, declaration_length, KeptOfTags, of_none, of_tag, IsCutAtLine, JoinsText}
+use Rattle.rng_model.specs.documents.PyxHeld.{KeptOf}
+use Rattle.rng_model.specs.documents.PyxHeld.{in_tag, in_no_tag}
+use Rattle.pyx.specs.plain.TagReader.{declared_by}
+use Rattle.pyx.specs.plain.DocumentReader.{State, Open, Turn, silent, go_on, line_read, all_read, nothing_read, tag_bytes}
+use Rattle.pyx.specs.plain.Pieces.{Progress, with_begun, ended_line, open_line, byte_read, read, nothing_fed}
+use Rattle.pyx.specs.views.Standing.{Kept}
+use Rattle.pyx.specs.views.Held.{plus, declarations_held, opened_held, held}
+use Rattle.pyx.specs.views.HeldCalls.{held_limit, IsHeld}
 use Rattle.pyx.proofs.Standing.{at_fault}
 use Rattle.pyx.proofs.TagDeclarations.{declaration_of, prefix_of, AreDeclared, declares_it}
 use Rattle.pyx.proofs.TagParts.{IsSplit, declares, declares_none, split_parted, split_declared}

@@ -4,14 +4,14 @@ use Rattle.std.proofs.Common.{arith}
 use Rattle.std.specs.List.{All, AllByRecursion}
 use Rattle.std.proofs.lemmas.List.{append-nil, length-append}
 use Rattle.std.proofs.lemmas.List.Elements.{All-from_recursion, recursion_from_All}
-use Rattle.rng_model.specs.Lines.{Line}
-use Rattle.rng_model.specs.PyxFaults.{HasKind}
-use Rattle.rng_model.specs.PyxLines as said
-use Rattle.rng_model.specs.PyxLines.{Said, WrittenName, Says, says_start, says_attribute, says_text, says_end, says_instruction, IsGoodLine, AreGoodLines}
-use Rattle.rng_model.specs.PyxLines.{no_lines, line_and}
-use Rattle.rng_model.specs.PyxTrees.{IsRun, no_run, text_and, instruction_and}
-use Rattle.rng_model.specs.PyxClauses.{EndsInText}
-use Rattle.pyx.specs.LineReader.{Read, written_of}
+use Rattle.rng_model.specs.documents.Lines.{Line}
+use Rattle.rng_model.specs.documents.PyxFaults.{HasKind}
+use Rattle.rng_model.specs.documents.PyxLines as said
+use Rattle.rng_model.specs.documents.PyxLines.{Said, WrittenName, Says, says_start, says_attribute, says_text, says_end, says_instruction, IsGoodLine, AreGoodLines}
+use Rattle.rng_model.specs.documents.PyxLines.{no_lines, line_and}
+use Rattle.rng_model.specs.documents.PyxTrees.{IsRun, no_run, text_and, instruction_and}
+use Rattle.rng_model.specs.documents.PyxClauses.{EndsInText}
+use Rattle.pyx.specs.plain.LineReader.{Read, written_of}
 use Rattle.pyx.proofs.LineClauses.{line_is}
 use Rattle.pyx.proofs.NamesInLines.{name_is}
 use Rattle.pyx.proofs.OpenTags.{is_kind, kind_is, has_kind, other_kind}

@@ -4,12 +4,12 @@ use Rattle.std.specs.List.{All}
 use Rattle.std.specs.Prelude.{slice_set}
 use Rattle.std.proofs.lemmas.List.{get_or-map, get_or-set_same, length-set}
 use Rattle.std.proofs.lemmas.List.Elements.{All-push, All-set, All-weaker}
-use Rattle.rng_model.specs.Names.{Name}
-use Rattle.rng_model.specs.View.{name_of}
+use Rattle.rng_model.specs.names.Names.{Name}
+use Rattle.rng_model.specs.names.NameViews.{name_of}
 use Rattle.pyx.specs.declared.known.KnownName.{KnownName}
-use Rattle.pyx.specs.LineReader.{written_of}
-use Rattle.pyx.specs.TagReader.{Declared, namespace_of, in_namespace, element_name}
-use Rattle.pyx.specs.ElementView.{AreKnown, IsKnown, name_at, names_of}
+use Rattle.pyx.specs.plain.LineReader.{written_of}
+use Rattle.pyx.specs.plain.TagReader.{Declared, namespace_of, in_namespace, element_name}
+use Rattle.pyx.specs.views.ElementView.{AreKnown, IsKnown, name_at, names_of}
 
 -- what a place with a name of this round says
 pub known_there : (scope : Declared) (round : ℕ) (known : List KnownName) (at : ℕ) (k : KnownName) (written : List ℕ) → at < length known

@@ -8,16 +8,16 @@ use Rattle.std.proofs.lemmas.Bool.{eqb-true}
 use Rattle.std.proofs.lemmas.List.Elements.{All-from_recursion, recursion_from_All}
 use Rattle.std.proofs.lemmas.List.Sums.{AllPass-from_list_all, list_all-from_AllPass}
 use Rattle.std.proofs.lemmas.Str.{is_utf8-from_IsUtf8, IsUtf8-from_is_utf8}
-use Rattle.rng_model.specs.Characters.{is_xml_char}
-use Rattle.rng_model.specs.Least.{IsLeast}
-use Rattle.rng_model.specs.Lines.{Line, line_limit}
-use Rattle.rng_model.specs.PyxFaults.{HasKind}
-use Rattle.rng_model.specs.PyxLines.{WrittenName, IsName, IsNoName, Said, start, attribute, text, end, instruction, Says, says_start, says_attribute, says_text}
-use Rattle.rng_model.specs.PyxLines.{says_end, says_instruction, IsGoodLine, HasNoKind, IsCutAtSpace, StandsForNothing, BreaksWithin, unended, no_utf8}
-use Rattle.rng_model.specs.PyxLines.{no_xml_char, no_kind, bad_text, bad_value, bad_start_name, bad_end_name, bad_attribute_name, no_space, BreaksAlone, within}
-use Rattle.rng_model.specs.PyxLines.{too_long}
-use Rattle.pyx.specs.Cuts.{either_way, at_byte, unescaped}
-use Rattle.pyx.specs.LineReader.{Read, written_of, is_name, named, text_of, attribute_of, kind_of, characters_of, bytes_of, said_of}
+use Rattle.rng_model.specs.names.Characters.{is_xml_char}
+use Rattle.rng_model.specs.schema.Least.{IsLeast}
+use Rattle.rng_model.specs.documents.Lines.{Line, line_limit}
+use Rattle.rng_model.specs.documents.PyxFaults.{HasKind}
+use Rattle.rng_model.specs.documents.PyxLines.{WrittenName, IsName, IsNoName, Said, start, attribute, text, end, instruction, Says, says_start, says_attribute, says_text}
+use Rattle.rng_model.specs.documents.PyxLines.{says_end, says_instruction, IsGoodLine, HasNoKind, IsCutAtSpace, StandsForNothing, BreaksWithin, unended, no_utf8}
+use Rattle.rng_model.specs.documents.PyxLines.{no_xml_char, no_kind, bad_text, bad_value, bad_start_name, bad_end_name, bad_attribute_name, no_space, BreaksAlone, within}
+use Rattle.rng_model.specs.documents.PyxLines.{too_long}
+use Rattle.pyx.specs.plain.Cuts.{either_way, at_byte, unescaped}
+use Rattle.pyx.specs.plain.LineReader.{Read, written_of, is_name, named, text_of, attribute_of, kind_of, characters_of, bytes_of, said_of}
 use Rattle.pyx.proofs.EscapedTexts.{value_is, value_of, no_value, none_stands}
 use Rattle.pyx.proofs.NamesInLines.{not_equal, differs, Found, found, at_none, at_seam, utf8_parts, name_is, name_has_no_space, good_name}
 use Rattle.pyx.proofs.LinesOfPieces.{said_of_long}

@@ -2,17 +2,17 @@
 use Rattle.std.proofs.Common.{◌≡◌, ℕ, ◌+◌, ◌≤◌, Bool, true, false, cond, ◌&&◌, List, [], ◌∷◌, ◌++◌, length, Option, Some, None, Result, Ok, Err, refl, ap, ◌∙◌}
 use Rattle.std.proofs.Common.{arith, lit≤}
 use Rattle.std.specs.Prelude.{nat_le, is_some}
-use Rattle.rng_model.specs.Lines.{Line, open_limit}
-use Rattle.rng_model.specs.PyxFaults.{Fault}
-use Rattle.rng_model.specs.PyxLines as lines
-use Rattle.rng_model.specs.PyxLines.{Said, WrittenName}
-use Rattle.rng_model.specs.PyxNamespaces.{WrittenAttribute}
-use Rattle.rng_model.specs.PyxTrees.{Event}
-use Rattle.pyx.specs.Cuts.{behind}
-use Rattle.pyx.specs.LineReader.{said_of}
-use Rattle.pyx.specs.TagReader.{Element, declared_by, tag_read}
-use Rattle.pyx.specs.DocumentReader.{State, Tag, Open, Turn, fault, silent, go_on, followed, tag_bytes, tag_closed, close_tag, tag_ended, text_ended, begin_tag}
-use Rattle.pyx.specs.DocumentReader.{is_outside, started, add_attribute, attributed, joined_by, end_in, ended, said_read, judged, line_read, declared_in}
+use Rattle.rng_model.specs.documents.Lines.{Line, open_limit}
+use Rattle.rng_model.specs.documents.PyxFaults.{Fault}
+use Rattle.rng_model.specs.documents.PyxLines as lines
+use Rattle.rng_model.specs.documents.PyxLines.{Said, WrittenName}
+use Rattle.rng_model.specs.documents.PyxNamespaces.{WrittenAttribute}
+use Rattle.rng_model.specs.documents.PyxTrees.{Event}
+use Rattle.pyx.specs.plain.Cuts.{behind}
+use Rattle.pyx.specs.plain.LineReader.{said_of}
+use Rattle.pyx.specs.plain.TagReader.{Element, declared_by, tag_read}
+use Rattle.pyx.specs.plain.DocumentReader.{State, Tag, Open, Turn, fault, silent, go_on, followed, tag_bytes, tag_closed, close_tag, tag_ended, text_ended, begin_tag}
+use Rattle.pyx.specs.plain.DocumentReader.{is_outside, started, add_attribute, attributed, joined_by, end_in, ended, said_read, judged, line_read, declared_in}
 
 -- where a turn goes well, so many lines are counted after it, and the tag has at most so many bytes
 pub record Within (n m : ℕ) (turn : Turn State) : Type 0 where

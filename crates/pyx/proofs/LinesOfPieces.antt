@@ -4,13 +4,13 @@ use Rattle.std.proofs.Common.{Err, refl, ap, sym, ◌∙◌, arith, append_assoc
 use Rattle.std.specs.Prelude.{nat_le}
 use Rattle.std.proofs.lemmas.List.{append-nil, length-append}
 use Rattle.std.proofs.lemmas.Bool.{lt-leb}
-use Rattle.rng_model.specs.Lines.{Line, line_limit}
-use Rattle.rng_model.specs.PyxFaults.{Fault}
-use Rattle.rng_model.specs.PyxTrees.{Event}
-use Rattle.pyx.specs.Cuts.{at_byte, at_front}
-use Rattle.pyx.specs.LineReader.{said_of}
-use Rattle.pyx.specs.DocumentReader.{State, Turn, silent, go_on, followed, tag_ended, line_read}
-use Rattle.pyx.specs.Pieces.{Progress, with_begun, ended_line, open_line, byte_read, read, overlong, line_taken, rest_taken}
+use Rattle.rng_model.specs.documents.Lines.{Line, line_limit}
+use Rattle.rng_model.specs.documents.PyxFaults.{Fault}
+use Rattle.rng_model.specs.documents.PyxTrees.{Event}
+use Rattle.pyx.specs.plain.Cuts.{at_byte, at_front}
+use Rattle.pyx.specs.plain.LineReader.{said_of}
+use Rattle.pyx.specs.plain.DocumentReader.{State, Turn, silent, go_on, followed, tag_ended, line_read}
+use Rattle.pyx.specs.plain.Pieces.{Progress, with_begun, ended_line, open_line, byte_read, read, overlong, line_taken, rest_taken}
 
 -- ---- a line that is too long
 

@@ -2,11 +2,11 @@
 use Rattle.std.proofs.Common.{◌≡◌, ℕ, ◌+◌, ◌≤◌, ◌<◌, Bool, true, false, ◌&&◌, List, [], ◌∷◌, ◌++◌, length, Result, Ok, Err, refl, sym, ap}
 use Rattle.std.proofs.Common.{◌∙◌, rules}
 use Rattle.std.specs.Prelude.{◌==◌, ◌≢◌, nat_le}
-use Rattle.rng_model.specs.Lines.{attribute_limit, open_limit, text_limit}
-use Rattle.rng_model.specs.PyxLines as lines
-use Rattle.rng_model.specs.PyxLines.{Said, WrittenName}
-use Rattle.pyx.specs.TagReader.{Element, tag_read, same_written}
-use Rattle.pyx.specs.DocumentReader.{State, Tag, Open, Turn, fault, after_events, declared_in, with_attribute, started, attributed, joined_by, ended, said_read}
+use Rattle.rng_model.specs.documents.Lines.{attribute_limit, open_limit, text_limit}
+use Rattle.rng_model.specs.documents.PyxLines as lines
+use Rattle.rng_model.specs.documents.PyxLines.{Said, WrittenName}
+use Rattle.pyx.specs.plain.TagReader.{Element, tag_read, same_written}
+use Rattle.pyx.specs.plain.DocumentReader.{State, Tag, Open, Turn, fault, after_events, declared_in, with_attribute, started, attributed, joined_by, ended, said_read}
 use Rattle.pyx.proofs.WrittenNames.{written_itself, written_same}
 use Rattle.pyx.proofs.SaidLines.{is_attribute, said_line, good}
 use Rattle.pyx.proofs.StateSteps.{inside, in_tag, begun, open_of, text_event, end_event, start_event, not_zero, too_few, enough, attribute_step}

@@ -10,10 +10,10 @@ use Rattle.std.proofs.lemmas.List.{length-append}
 use Rattle.std.proofs.lemmas.Str.{encode_ascii, IsUtf8-take, IsUtf8-drop, IsUtf8-append, IsUtf8-from_ascii, IsCharBoundary-before_ascii}
 use Rattle.std.proofs.lemmas.Str.{IsCharBoundary-after_ascii, chars-append, chars_past_char}
 use Rattle.std.proofs.lemmas.Str.Ascii.{IsAscii-nil, IsAscii-cons}
-use Rattle.rng_model.specs.Characters.{is_ncname, is_name_start, is_name_char, is_colon}
-use Rattle.rng_model.specs.PyxLines.{WrittenName, IsNcname, IsName, alone, prefixed}
-use Rattle.pyx.specs.Cuts.{at_byte, at_front}
-use Rattle.pyx.specs.LineReader.{written_of, cut_name, is_name, are_ncnames}
+use Rattle.rng_model.specs.names.Characters.{is_ncname, is_name_start, is_name_char, is_colon}
+use Rattle.rng_model.specs.documents.PyxLines.{WrittenName, IsNcname, IsName, alone, prefixed}
+use Rattle.pyx.specs.plain.Cuts.{at_byte, at_front}
+use Rattle.pyx.specs.plain.LineReader.{written_of, cut_name, is_name, are_ncnames}
 
 -- ---- cuts
 

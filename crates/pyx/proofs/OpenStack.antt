@@ -1,12 +1,12 @@
 -- The open elements as a stack.
 use Rattle.std.proofs.Common.{◌≡◌, List, [], ◌∷◌, ◌++◌, map, reverse, ap, ◌∙◌, ℕ, length, Option, refl, arith}
-use Rattle.rng_model.specs.PyxNamespaces.{WrittenAttribute}
-use Rattle.pyx.specs.DocumentReader.{Open, declared_in}
-use Rattle.pyx.specs.TagReader.{namespace_of, found_in, or_else}
+use Rattle.rng_model.specs.documents.PyxNamespaces.{WrittenAttribute}
+use Rattle.pyx.specs.plain.DocumentReader.{Open, declared_in}
+use Rattle.pyx.specs.plain.TagReader.{namespace_of, found_in, or_else}
 use Rattle.std.proofs.lemmas.List.{reverse-append}
 use Rattle.std.proofs.lemmas.List.{length-map, map-append}
 use Rattle.pyx.specs.declared.scope.OpenElement.{OpenElement}
-use Rattle.pyx.specs.ElementView.{open_of, scope_of, stack_of, written_attribute}
+use Rattle.pyx.specs.views.ElementView.{open_of, scope_of, stack_of, written_attribute}
 
 pub stack_push : (xs : List OpenElement) (x : OpenElement) → stack_of (xs ++ x ∷ []) ≡ open_of x ∷ stack_of xs
 stack_push xs x = ap reverse (map-append open_of xs (x ∷ [])) ∙ reverse-append (map open_of xs) (open_of x ∷ [])

@@ -4,9 +4,9 @@ use Rattle.std.specs.List.{All}
 use Rattle.std.proofs.lemmas.Bool.{eqb-true}
 use Rattle.std.proofs.lemmas.List.{append-nil}
 use Rattle.std.proofs.lemmas.List.Elements.{All-nil, All-cons, All-head, All-tail, All-append}
-use Rattle.rng_model.specs.Lines.{Line}
-use Rattle.rng_model.specs.PyxFaults.{HasKind, IsBalanced, nothing, other, pair, EndsInTag}
-use Rattle.rng_model.specs.PyxClauses.{BeginsOtherwise, Tag, AreOpenTags, none_open, one_open}
+use Rattle.rng_model.specs.documents.Lines.{Line}
+use Rattle.rng_model.specs.documents.PyxFaults.{HasKind, IsBalanced, nothing, other, pair, EndsInTag}
+use Rattle.rng_model.specs.documents.PyxClauses.{BeginsOtherwise, Tag, AreOpenTags, none_open, one_open}
 
 -- ---- the first byte
 

@@ -2,11 +2,11 @@
 use Rattle.std.proofs.Common.{◌≡◌, ℕ, ◌+◌, ◌≤◌, ◌<◌, Bool, true, false, cond, List, [], ◌∷◌, ◌++◌, length, Result, Ok, Err, refl, sym, ◌∙◌, arith, rules, eqb}
 use Rattle.std.specs.Prelude.{nat_le}
 use Rattle.std.proofs.lemmas.List.{length-append}
-use Rattle.rng_model.specs.Lines.{line_limit}
-use Rattle.rng_model.specs.PyxFaults.{Fault}
-use Rattle.rng_model.specs.PyxTrees.{Event}
-use Rattle.pyx.specs.DocumentReader.{Turn, silent, go_on, followed, line_read}
-use Rattle.pyx.specs.Pieces.{Progress, with_begun, ended_line, open_line, byte_read, read, overlong, line_taken, weight}
+use Rattle.rng_model.specs.documents.Lines.{line_limit}
+use Rattle.rng_model.specs.documents.PyxFaults.{Fault}
+use Rattle.rng_model.specs.documents.PyxTrees.{Event}
+use Rattle.pyx.specs.plain.DocumentReader.{Turn, silent, go_on, followed, line_read}
+use Rattle.pyx.specs.plain.Pieces.{Progress, with_begun, ended_line, open_line, byte_read, read, overlong, line_taken, weight}
 use Rattle.pyx.proofs.LineCounts.{line_keeps}
 use Rattle.pyx.proofs.LinesOfPieces.{Fails, overlong_fails, fails_first, long_fails}
 

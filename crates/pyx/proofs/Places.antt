@@ -4,16 +4,16 @@ use Rattle.std.proofs.Common.{refl, sym, ap, subst, ◌∙◌}
 use Rattle.std.proofs.lemmas.List.{length-append}
 use Rattle.std.specs.Prelude.{is_some, sum_by}
 use Rattle.std.proofs.lemmas.List.Sums.{sum_by_push}
-use Rattle.rng_model.specs.Lists.{HasTwice}
-use Rattle.rng_model.specs.Lines.{Line, attribute_limit, open_limit, text_limit}
-use Rattle.rng_model.specs.PyxFaults.{HasKind, nothing, EndsInTag}
-use Rattle.rng_model.specs.PyxLines as said
-use Rattle.rng_model.specs.PyxLines.{Said, WrittenName, IsGoodLine, AreGoodLines, no_lines, line_and}
-use Rattle.rng_model.specs.PyxNamespaces.{WrittenAttribute, AreWritten, none_written, written_and, AreParted, Scope}
-use Rattle.rng_model.specs.PyxClauses as model
-use Rattle.rng_model.specs.PyxClauses.{AreOpenTags, none_open, SaysTag, HasScope, no_tags, one_tag, EndsInText}
-use Rattle.pyx.specs.TagReader.{Element, declared_by, tag_read}
-use Rattle.pyx.specs.DocumentReader.{State, Tag, Open, declared_in, with_attribute, nothing_read}
+use Rattle.rng_model.specs.names.Lists.{HasTwice}
+use Rattle.rng_model.specs.documents.Lines.{Line, attribute_limit, open_limit, text_limit}
+use Rattle.rng_model.specs.documents.PyxFaults.{HasKind, nothing, EndsInTag}
+use Rattle.rng_model.specs.documents.PyxLines as said
+use Rattle.rng_model.specs.documents.PyxLines.{Said, WrittenName, IsGoodLine, AreGoodLines, no_lines, line_and}
+use Rattle.rng_model.specs.documents.PyxNamespaces.{WrittenAttribute, AreWritten, none_written, written_and, AreParted, Scope}
+use Rattle.rng_model.specs.documents.PyxClauses as model
+use Rattle.rng_model.specs.documents.PyxClauses.{AreOpenTags, none_open, SaysTag, HasScope, no_tags, one_tag, EndsInText}
+use Rattle.pyx.specs.plain.TagReader.{Element, declared_by, tag_read}
+use Rattle.pyx.specs.plain.DocumentReader.{State, Tag, Open, declared_in, with_attribute, nothing_read}
 use Rattle.pyx.proofs.TagDeclarations.{declaration_of}
 use Rattle.pyx.proofs.TagNamespaces.{scope_in, AllDeclared}
 use Rattle.pyx.proofs.TagParts as split

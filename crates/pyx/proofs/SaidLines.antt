@@ -1,13 +1,13 @@
 -- Lines that break nothing by themselves are read as what they say.
 use Rattle.std.proofs.Common.{◌≡◌, ℕ, ◌+◌, Bool, true, false, cond, List, [], ◌∷◌, ◌++◌, length, Ok, refl, sym, ap, ◌∙◌}
 use Rattle.std.specs.Prelude.{is_some}
-use Rattle.rng_model.specs.Lines.{Line}
-use Rattle.rng_model.specs.PyxLines as lines
-use Rattle.rng_model.specs.PyxLines.{Said, Says, says_start, says_attribute, says_text, says_end, says_instruction, IsGoodLine, AreGoodLines, no_lines}
-use Rattle.rng_model.specs.PyxLines.{line_and}
-use Rattle.rng_model.specs.PyxTrees.{Event}
-use Rattle.pyx.specs.Cuts.{behind}
-use Rattle.pyx.specs.DocumentReader.{State, Turn, silent, after_events, followed, close_tag, tag_ended, said_read, line_read, all_read}
+use Rattle.rng_model.specs.documents.Lines.{Line}
+use Rattle.rng_model.specs.documents.PyxLines as lines
+use Rattle.rng_model.specs.documents.PyxLines.{Said, Says, says_start, says_attribute, says_text, says_end, says_instruction, IsGoodLine, AreGoodLines, no_lines}
+use Rattle.rng_model.specs.documents.PyxLines.{line_and}
+use Rattle.rng_model.specs.documents.PyxTrees.{Event}
+use Rattle.pyx.specs.plain.Cuts.{behind}
+use Rattle.pyx.specs.plain.DocumentReader.{State, Turn, silent, after_events, followed, close_tag, tag_ended, said_read, line_read, all_read}
 use Rattle.pyx.proofs.LineClauses.{line_is}
 use Rattle.pyx.proofs.Turns.{followed_same, followed_twice}
 

@@ -1,14 +1,16 @@
 -- What a reader stands for after a piece.
 use Rattle.std.proofs.Common.{◌≡◌, ℕ, List, [], ◌++◌, Option, Some, None, Result, Ok, Err, refl, ap, sym, ◌∙◌, subst}
 use Rattle.std.proofs.lemmas.List.{append-nil}
-use Rattle.rng_model.specs.PyxFaults.{Fault}
-use Rattle.rng_model.specs.PyxTrees.{Event}
-use Rattle.pyx.specs.declared.fault.PyxFault.{PyxFault}
-use Rattle.pyx.specs.declared.fault.PyxFault.TheVariants as pyx
-use Rattle.pyx.specs.DocumentReader.{after_events}
-use Rattle.pyx.specs.Pieces.{Progress, read, nothing_fed}
-use Rattle.pyx.specs.Standing.{Kept, Stands, result_of, Extends, UnlessMemory}
-use Rattle.pyx.specs.View.{Takes, Hands}
+use Rattle.rng_model.specs.documents.PyxFaults.{Fault}
+use Rattle.rng_model.specs.documents.PyxTrees.{Event}
+use Rattle.rng_model.specs.declared.pyx_fault.PyxFault.{PyxFault}
+use Rattle.rng_model.specs.declared.pyx_fault.PyxFault.TheVariants as pyx
+use Rattle.pyx.specs.plain.DocumentReader.{after_events}
+use Rattle.pyx.specs.plain.Pieces.{Progress, read, nothing_fed}
+use Rattle.pyx.specs.views.Standing.{Kept, Stands, result_of}
+use Rattle.pyx.specs.views.Calls.{Extends, UnlessMemory}
+use Rattle.pyx.specs.views.View.{Takes}
+use Rattle.rng_model.specs.documents.Handing.{Hands}
 use Rattle.pyx.proofs.Turns.{read_append, followed_ok, followed_err, hands_nothing}
 
 ok_more : (bytes more : List ℕ) (p : Progress) → (read bytes nothing_fed).0 ≡ Ok p

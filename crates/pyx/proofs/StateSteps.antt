@@ -4,13 +4,13 @@ use Rattle.std.proofs.Common.{rules}
 use Rattle.std.specs.Prelude.{◌==◌, nat_le}
 use Rattle.std.proofs.lemmas.Bool.{lt-leb}
 use Rattle.std.proofs.lemmas.List.{append-nil}
-use Rattle.rng_model.specs.Lines.{attribute_limit, open_limit, text_limit}
-use Rattle.rng_model.specs.PyxLines as lines
-use Rattle.rng_model.specs.PyxLines.{Said, WrittenName}
-use Rattle.rng_model.specs.PyxTrees.{Event, a_start, a_string, an_end}
-use Rattle.pyx.specs.TagReader.{Element, tag_read, same_written}
-use Rattle.pyx.specs.DocumentReader.{State, Tag, Open, after_events, declared_in, text_ended, started, with_attribute, attributed}
-use Rattle.pyx.specs.DocumentReader.{joined_by, ended, said_read}
+use Rattle.rng_model.specs.documents.Lines.{attribute_limit, open_limit, text_limit}
+use Rattle.rng_model.specs.documents.PyxLines as lines
+use Rattle.rng_model.specs.documents.PyxLines.{Said, WrittenName}
+use Rattle.rng_model.specs.documents.PyxTrees.{Event, a_start, a_string, an_end}
+use Rattle.pyx.specs.plain.TagReader.{Element, tag_read, same_written}
+use Rattle.pyx.specs.plain.DocumentReader.{State, Tag, Open, after_events, declared_in, text_ended, started, with_attribute, attributed}
+use Rattle.pyx.specs.plain.DocumentReader.{joined_by, ended, said_read}
 use Rattle.pyx.proofs.WrittenNames.{written_itself}
 use Rattle.pyx.proofs.SaidLines.{is_attribute, said_line, good}
 

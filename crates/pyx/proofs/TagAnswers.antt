@@ -2,16 +2,16 @@
 use Rattle.std.proofs.Common.{◌≡◌, ℕ, Bool, true, false, cond, ◌||◌, List, [], ◌∷◌, map, Option, Some, None, Result, Ok, Err, refl, sym, ◌∙◌, ◌⊎◌, inl, inr}
 use Rattle.std.specs.Prelude.{is_some}
 use Rattle.std.specs.List.{AllByRecursion}
-use Rattle.rng_model.specs.Document.{Attribute}
-use Rattle.rng_model.specs.Lists.{Among, here, there}
-use Rattle.rng_model.specs.Names.{Name}
-use Rattle.rng_model.specs.PyxLines.{WrittenName}
-use Rattle.rng_model.specs.PyxNamespaces.{WrittenAttribute, Declaration, IsForbidden, NamesElement, AreExpanded, none_left, expanded_and}
-use Rattle.rng_model.specs.PyxClauses.{BreaksNamespaces, forbidden, element_prefix, attribute_prefix, RepeatsName, written_twice, expanded_twice}
-use Rattle.rng_model.specs.WellFormed.{Distinct}
-use Rattle.pyx.specs.TagReader as read
-use Rattle.pyx.specs.TagReader.{Declared, Element, declared_by, forbidden_by, is_forbidden, any_forbidden, attribute_name, expanded, and_more, is_written_twice}
-use Rattle.pyx.specs.TagReader.{is_named_twice, with_attributes, with_name, tag_read}
+use Rattle.rng_model.specs.matching.Document.{Attribute}
+use Rattle.rng_model.specs.names.Lists.{Among, here, there}
+use Rattle.rng_model.specs.names.Names.{Name}
+use Rattle.rng_model.specs.documents.PyxLines.{WrittenName}
+use Rattle.rng_model.specs.documents.PyxNamespaces.{WrittenAttribute, Declaration, IsForbidden, NamesElement, AreExpanded, none_left, expanded_and}
+use Rattle.rng_model.specs.documents.PyxClauses.{BreaksNamespaces, forbidden, element_prefix, attribute_prefix, RepeatsName, written_twice, expanded_twice}
+use Rattle.rng_model.specs.matching.WellFormed.{Distinct}
+use Rattle.pyx.specs.plain.TagReader as read
+use Rattle.pyx.specs.plain.TagReader.{Declared, Element, declared_by, forbidden_by, is_forbidden, any_forbidden, attribute_name, expanded, and_more, is_written_twice}
+use Rattle.pyx.specs.plain.TagReader.{is_named_twice, with_attributes, with_name, tag_read}
 use Rattle.pyx.proofs.TagDeclarations.{declaration_of, prefix_of, AreDeclared, forbidden_is, is_forbidden_by}
 use Rattle.pyx.proofs.TagNamespaces.{scope_in, AllDeclared, UndeclaredPrefix, NameTells, element_tells, AttributeTells, attribute_tells}
 use Rattle.pyx.proofs.TagParts.{IsSplit, split_parted, split_declared, twice_all}

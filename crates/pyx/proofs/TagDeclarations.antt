@@ -4,11 +4,11 @@ use Rattle.std.proofs.Common.{rules}
 use Rattle.std.specs.Prelude.{◌==◌, ◌≢◌, is_some}
 use Rattle.std.specs.List.{AllByRecursion}
 use Rattle.std.specs.Str.{bytes_eq}
-use Rattle.rng_model.specs.PyxLines.{WrittenName}
-use Rattle.rng_model.specs.PyxNamespaces.{WrittenAttribute, Declaration, xmlns, xml_uri, xmlns_uri, Declares, default_namespace, prefix_declared}
-use Rattle.rng_model.specs.PyxNamespaces.{DeclaresNothing, AreParted, nothing, declaration, other, IsForbidden, of_xmlns_uri, of_xmlns, of_nothing}
-use Rattle.rng_model.specs.PyxNamespaces.{xml_as_another, another_as_xml}
-use Rattle.pyx.specs.TagReader.{declared_prefix, declared_by, forbidden_prefix, forbidden_by}
+use Rattle.rng_model.specs.documents.PyxLines.{WrittenName}
+use Rattle.rng_model.specs.documents.PyxNamespaces.{WrittenAttribute, Declaration, xmlns, xml_uri, xmlns_uri, Declares, default_namespace, prefix_declared}
+use Rattle.rng_model.specs.documents.PyxNamespaces.{DeclaresNothing, AreParted, nothing, declaration, other, IsForbidden, of_xmlns_uri, of_xmlns, of_nothing}
+use Rattle.rng_model.specs.documents.PyxNamespaces.{xml_as_another, another_as_xml}
+use Rattle.pyx.specs.plain.TagReader.{declared_prefix, declared_by, forbidden_prefix, forbidden_by}
 use Rattle.pyx.proofs.WrittenNames.{same_bytes, bytes_same}
 
 some_same : {A : Type 0} (x y : A) → Some x ≡ Some y → x ≡ y

@@ -4,21 +4,21 @@ use Rattle.std.proofs.Common.{subst, ◌∙◌, ◌⊎◌, inl, inr}
 use Rattle.std.specs.Prelude.{is_some}
 use Rattle.std.specs.List.{AllByRecursion}
 use Rattle.std.proofs.lemmas.List.Elements.{All-from_recursion, recursion_from_All}
-use Rattle.rng_model.specs.Document.{Attribute}
-use Rattle.rng_model.specs.Lists.{Among, here, there, HasTwice, at_first, later}
-use Rattle.rng_model.specs.Names.{Name}
-use Rattle.rng_model.specs.Lines.{attribute_limit}
-use Rattle.rng_model.specs.PyxLines.{Said, WrittenName}
-use Rattle.rng_model.specs.PyxNamespaces.{WrittenAttribute, AreWritten, Declaration, Declares, default_namespace, prefix_declared, AreParted, nothing}
-use Rattle.rng_model.specs.PyxNamespaces.{declaration}
-use Rattle.rng_model.specs.PyxNamespaces.{other, Scope, IsForbidden, HasNamespace, NamesElement, element_name, NamesAttribute, without_prefix, with_prefix}
-use Rattle.rng_model.specs.PyxNamespaces.{AreExpanded, none_left, expanded_and}
-use Rattle.rng_model.specs.PyxClauses.{BreaksNamespaces, forbidden, element_prefix, attribute_prefix, RepeatsName, written_twice, expanded_twice}
-use Rattle.rng_model.specs.PyxTrees.{IsTag}
-use Rattle.rng_model.specs.WellFormed.{Distinct}
-use Rattle.pyx.specs.TagReader.{Declared, Element, declared_by, attribute_name, expanded, and_more, is_written_in, is_written_twice, is_named_in}
-use Rattle.pyx.specs.TagReader.{is_named_twice}
-use Rattle.pyx.specs.TagReader.{tag_read, same_written, same_name}
+use Rattle.rng_model.specs.matching.Document.{Attribute}
+use Rattle.rng_model.specs.names.Lists.{Among, here, there, HasTwice, at_first, later}
+use Rattle.rng_model.specs.names.Names.{Name}
+use Rattle.rng_model.specs.documents.Lines.{attribute_limit}
+use Rattle.rng_model.specs.documents.PyxLines.{Said, WrittenName}
+use Rattle.rng_model.specs.documents.PyxNamespaces.{WrittenAttribute, AreWritten, Declaration, Declares, default_namespace, prefix_declared, AreParted, nothing}
+use Rattle.rng_model.specs.documents.PyxNamespaces.{declaration}
+use Rattle.rng_model.specs.documents.PyxNamespaces.{other, Scope, IsForbidden, HasNamespace, NamesElement, element_name, NamesAttribute, without_prefix, with_prefix}
+use Rattle.rng_model.specs.documents.PyxNamespaces.{AreExpanded, none_left, expanded_and}
+use Rattle.rng_model.specs.documents.PyxClauses.{BreaksNamespaces, forbidden, element_prefix, attribute_prefix, RepeatsName, written_twice, expanded_twice}
+use Rattle.rng_model.specs.documents.PyxTrees.{IsTag}
+use Rattle.rng_model.specs.matching.WellFormed.{Distinct}
+use Rattle.pyx.specs.plain.TagReader.{Declared, Element, declared_by, attribute_name, expanded, and_more, is_written_in, is_written_twice, is_named_in}
+use Rattle.pyx.specs.plain.TagReader.{is_named_twice}
+use Rattle.pyx.specs.plain.TagReader.{tag_read, same_written, same_name}
 use Rattle.pyx.proofs.WrittenNames.{same_bytes, written_itself}
 use Rattle.pyx.proofs.TagDeclarations.{declaration_of}
 use Rattle.pyx.proofs.TagNamespaces.{scope_in, AllDeclared}

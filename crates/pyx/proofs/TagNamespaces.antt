@@ -4,14 +4,14 @@ use Rattle.std.specs.Prelude.{◌≢◌, is_some}
 use Rattle.std.specs.List.{AllByRecursion}
 use Rattle.std.specs.Str.{bytes_eq}
 use Rattle.std.proofs.lemmas.List.Elements.{All-from_recursion}
-use Rattle.rng_model.specs.Lists.{Among, here, there}
-use Rattle.rng_model.specs.Names.{Name}
-use Rattle.rng_model.specs.PyxLines.{WrittenName}
-use Rattle.rng_model.specs.PyxNamespaces.{WrittenAttribute, Declaration, xml_uri, Scope, IsDeclared, HasNamespace, declared_here, declared_outside}
-use Rattle.rng_model.specs.PyxNamespaces.{xml_beforehand, no_default, NamesElement, element_name, NamesAttribute, without_prefix, with_prefix, IsUndeclared}
-use Rattle.pyx.specs.TagReader as read
-use Rattle.pyx.specs.TagReader.{Declared, declared_by, same_prefix, declares, found_in, beforehand, or_else, namespace_of, in_namespace, attribute_in}
-use Rattle.pyx.specs.TagReader.{attribute_name}
+use Rattle.rng_model.specs.names.Lists.{Among, here, there}
+use Rattle.rng_model.specs.names.Names.{Name}
+use Rattle.rng_model.specs.documents.PyxLines.{WrittenName}
+use Rattle.rng_model.specs.documents.PyxNamespaces.{WrittenAttribute, Declaration, xml_uri, Scope, IsDeclared, HasNamespace, declared_here, declared_outside}
+use Rattle.rng_model.specs.documents.PyxNamespaces.{xml_beforehand, no_default, NamesElement, element_name, NamesAttribute, without_prefix, with_prefix, IsUndeclared}
+use Rattle.pyx.specs.plain.TagReader as read
+use Rattle.pyx.specs.plain.TagReader.{Declared, declared_by, same_prefix, declares, found_in, beforehand, or_else, namespace_of, in_namespace, attribute_in}
+use Rattle.pyx.specs.plain.TagReader.{attribute_name}
 use Rattle.pyx.proofs.WrittenNames.{same_bytes, bytes_same, prefix_same, prefix_itself}
 use Rattle.pyx.proofs.TagDeclarations.{declaration_of, prefix_of, AreDeclared}
 

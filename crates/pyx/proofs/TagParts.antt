@@ -1,10 +1,10 @@
 -- The `A` lines of a tag, parted into declarations and others.
 use Rattle.std.proofs.Common.{◌≡◌, ℕ, List, [], ◌∷◌, ◌++◌, map, Option, Some, None, sym, ap, subst}
 use Rattle.std.specs.Prelude.{is_some}
-use Rattle.rng_model.specs.Lists.{Among, here, there, HasTwice, at_first, later}
-use Rattle.rng_model.specs.PyxLines.{WrittenName}
-use Rattle.rng_model.specs.PyxNamespaces.{WrittenAttribute, AreParted, nothing, declaration, other}
-use Rattle.pyx.specs.TagReader.{declared_by}
+use Rattle.rng_model.specs.names.Lists.{Among, here, there, HasTwice, at_first, later}
+use Rattle.rng_model.specs.documents.PyxLines.{WrittenName}
+use Rattle.rng_model.specs.documents.PyxNamespaces.{WrittenAttribute, AreParted, nothing, declaration, other}
+use Rattle.pyx.specs.plain.TagReader.{declared_by}
 use Rattle.pyx.proofs.TagDeclarations.{declaration_of, prefix_of, AreDeclared, declares_it, declares_nothing}
 use Rattle.pyx.proofs.TagRepeats.{names_of}
 

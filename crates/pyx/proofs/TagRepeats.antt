@@ -1,13 +1,13 @@
 -- Names that stand twice in a tag, as they are looked for and as they are defined.
 use Rattle.std.proofs.Common.{◌≡◌, ℕ, Bool, true, false, ◌&&◌, ◌||◌, List, [], ◌∷◌, map, refl, sym, ap, subst, ◌∙◌, ◌⊎◌, inl, inr}
 use Rattle.std.specs.Str.{bytes_eq}
-use Rattle.rng_model.specs.Document.{Attribute}
-use Rattle.rng_model.specs.Lists.{Among, here, there, HasTwice, at_first, later}
-use Rattle.rng_model.specs.Names.{Name}
-use Rattle.rng_model.specs.PyxLines.{WrittenName}
-use Rattle.rng_model.specs.PyxNamespaces.{WrittenAttribute}
-use Rattle.rng_model.specs.WellFormed.{HasNoName, nothing_named, another_name, Distinct, none, one_more}
-use Rattle.pyx.specs.TagReader.{same_written, is_written_in, is_written_twice, same_name, is_named_in, is_named_twice}
+use Rattle.rng_model.specs.matching.Document.{Attribute}
+use Rattle.rng_model.specs.names.Lists.{Among, here, there, HasTwice, at_first, later}
+use Rattle.rng_model.specs.names.Names.{Name}
+use Rattle.rng_model.specs.documents.PyxLines.{WrittenName}
+use Rattle.rng_model.specs.documents.PyxNamespaces.{WrittenAttribute}
+use Rattle.rng_model.specs.matching.WellFormed.{HasNoName, nothing_named, another_name, Distinct, none, one_more}
+use Rattle.pyx.specs.plain.TagReader.{same_written, is_written_in, is_written_twice, same_name, is_named_in, is_named_twice}
 use Rattle.pyx.proofs.WrittenNames.{same_bytes, bytes_same, written_same}
 
 pub true_false : true ≡ false → ⊥

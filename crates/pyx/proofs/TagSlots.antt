@@ -2,12 +2,12 @@
 use Rattle.std.proofs.Common.{◌≡◌, Bool, true, false, ◌||◌, ℕ, ◌≤◌, ◌-◌, List, [], ◌∷◌, map, refl, sym, ap, ◌∙◌, length, get_or, take, drop}
 use Rattle.std.specs.List.{between}
 use Rattle.std.proofs.lemmas.Slice.{first_rest}
-use Rattle.rng_model.specs.Document.{Attribute}
-use Rattle.rng_model.specs.Names.{Name}
-use Rattle.rng_model.specs.View.{attribute_of}
+use Rattle.rng_model.specs.matching.Document.{Attribute}
+use Rattle.rng_model.specs.names.Names.{Name}
+use Rattle.rng_model.specs.documents.DocumentViews.{attribute_of}
 use Rattle.rng_model.specs.declared.document.Attr.{Attr}
-use Rattle.pyx.specs.Slots.{AreMet, is_met}
-use Rattle.pyx.specs.TagReader.{same_name, is_named_in, is_named_twice}
+use Rattle.pyx.specs.plain.Slots.{AreMet, is_met}
+use Rattle.pyx.specs.plain.TagReader.{same_name, is_named_in, is_named_twice}
 use Rattle.pyx.proofs.TagRepeats.{names_same, true_false}
 
 pub not_met : (name : Name) (slots : List Bool) (all : List Attribute) → is_met slots name.local ≡ false → AreMet slots all → is_named_in name all ≡ false

@@ -3,13 +3,13 @@ use Rattle.std.proofs.Common.{◌≡◌, ℕ, List, [], ◌∷◌, map, Option, 
 use Rattle.std.specs.Prelude.{◌≢◌}
 use Rattle.std.specs.List.{AllByRecursion}
 use Rattle.std.proofs.lemmas.List.Elements.{recursion_from_All}
-use Rattle.rng_model.specs.Document.{Attribute}
-use Rattle.rng_model.specs.Lists.{Among, here, there, HasTwice, at_first, later}
-use Rattle.rng_model.specs.Names.{Name}
-use Rattle.rng_model.specs.PyxLines.{WrittenName}
-use Rattle.rng_model.specs.PyxNamespaces.{WrittenAttribute, Declaration, Declares, AreParted, nothing, declaration, other, Scope, IsDeclared, xml_uri}
-use Rattle.rng_model.specs.PyxNamespaces.{HasNamespace, declared_here, declared_outside, xml_beforehand, no_default, NamesElement, element_name, NamesAttribute}
-use Rattle.rng_model.specs.PyxNamespaces.{without_prefix, with_prefix, AreExpanded, none_left, expanded_and}
+use Rattle.rng_model.specs.matching.Document.{Attribute}
+use Rattle.rng_model.specs.names.Lists.{Among, here, there, HasTwice, at_first, later}
+use Rattle.rng_model.specs.names.Names.{Name}
+use Rattle.rng_model.specs.documents.PyxLines.{WrittenName}
+use Rattle.rng_model.specs.documents.PyxNamespaces.{WrittenAttribute, Declaration, Declares, AreParted, nothing, declaration, other, Scope, IsDeclared, xml_uri}
+use Rattle.rng_model.specs.documents.PyxNamespaces.{HasNamespace, declared_here, declared_outside, xml_beforehand, no_default, NamesElement, element_name, NamesAttribute}
+use Rattle.rng_model.specs.documents.PyxNamespaces.{without_prefix, with_prefix, AreExpanded, none_left, expanded_and}
 use Rattle.pyx.proofs.TagDeclarations.{is_declared}
 
 some_same : {A : Type 0} (x y : A) → Some x ≡ Some y → x ≡ y

@@ -7,8 +7,8 @@ use Rattle.std.proofs.lemmas.Bool.{eqb-true}
 use Rattle.std.proofs.lemmas.Str.Pattern.{strip_prefix_char}
 use Rattle.std.specs.Option.{option_map}
 use Rattle.std.specs.Str.Pattern.{FindsCharPrefix}
-use Rattle.pyx.specs.Cuts.{behind, at_byte, at_front, escape_of, either_way}
-use Rattle.pyx.specs.LineReader.{bytes_of, characters_of}
+use Rattle.pyx.specs.plain.Cuts.{behind, at_byte, at_front, escape_of, either_way}
+use Rattle.pyx.specs.plain.LineReader.{bytes_of, characters_of}
 use Rattle.std.specs.Str.{IsUtf8, is_utf8}
 use Rattle.std.proofs.lemmas.Str.{is_utf8-from_IsUtf8, IsUtf8-from_is_utf8}
 use Rattle.std.proofs.Common.{take, get_or, ◌∙◌, subst}

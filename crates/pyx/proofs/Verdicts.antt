@@ -1,10 +1,10 @@
 -- What is answered of whole bytes is the verdict on them.
 use Rattle.std.proofs.Common.{◌≡◌, ℕ, List, Result, Ok, Err, sym, ap, subst, ◌∙◌}
-use Rattle.rng_model.specs.Lines.{lines}
-use Rattle.rng_model.specs.PyxFaults.{Fault}
-use Rattle.rng_model.specs.PyxTrees.{Placed, Event, events_of, IsPyxDocument}
-use Rattle.pyx.specs.DocumentReader.{State, Turn, document_read}
-use Rattle.pyx.specs.Documents.{AreEventsBefore, IsTheDocument, IsTheFault}
+use Rattle.rng_model.specs.documents.Lines.{lines}
+use Rattle.rng_model.specs.documents.PyxFaults.{Fault}
+use Rattle.rng_model.specs.documents.PyxTrees.{Placed, Event, events_of, IsPyxDocument}
+use Rattle.pyx.specs.plain.DocumentReader.{State, Turn, document_read}
+use Rattle.rng_model.specs.documents.Documents.{AreEventsBefore, IsTheDocument, IsTheFault}
 use Rattle.pyx.proofs.DocumentComplete.{complete}
 use Rattle.pyx.proofs.DocumentSound.{sound}
 use Rattle.pyx.proofs.DocumentLeast.{first_fault}

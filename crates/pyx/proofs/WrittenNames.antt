@@ -5,15 +5,15 @@ use Rattle.std.proofs.Common.{drop, append_assoc, ◌-◌}
 use Rattle.std.specs.List.{ends_with}
 use Rattle.std.proofs.Math.Seq.{drop-append_seam}
 use Rattle.std.specs.Cmp.Lexicographic.{pointwise}
-use Rattle.rng_model.specs.PyxNamespaces.{xmlns}
+use Rattle.rng_model.specs.documents.PyxNamespaces.{xmlns}
 use Rattle.std.specs.Str.{bytes_eq}
 use Rattle.std.proofs.lemmas.Bool.{eqb-true}
 use Rattle.std.proofs.lemmas.List.{length-append}
-use Rattle.rng_model.specs.PyxHeld.{prefix_length, name_length}
-use Rattle.rng_model.specs.PyxLines.{WrittenName}
-use Rattle.pyx.specs.Cuts.{at_byte, at_front}
-use Rattle.pyx.specs.LineReader.{written_of, cut_name}
-use Rattle.pyx.specs.TagReader.{same_prefix, same_written, declares, declared_by, declared_prefix}
+use Rattle.rng_model.specs.documents.PyxHeld.{prefix_length, name_length}
+use Rattle.rng_model.specs.documents.PyxLines.{WrittenName}
+use Rattle.pyx.specs.plain.Cuts.{at_byte, at_front}
+use Rattle.pyx.specs.plain.LineReader.{written_of, cut_name}
+use Rattle.pyx.specs.plain.TagReader.{same_prefix, same_written, declares, declared_by, declared_prefix}
 
 -- a name as it stands in a line
 abbrev pub bytes_of_prefix : Option (List ℕ) → List ℕ → List ℕ

@@ -1,12 +1,2 @@
-pub mod Cuts
-pub mod LineReader
-pub mod TagReader
-pub mod DocumentReader
-pub mod Pieces
-pub mod ElementView
-pub mod View
-pub mod Documents
-pub mod Standing
-pub mod Held
-pub mod PlainBytes
-pub mod Slots
+pub mod plain
+pub mod views

@@ -1,7 +1,7 @@
 // Where a text is cut.
 ghost use Rattle.std.specs.Prelude.{◌≡◌, ◌<◌};
 ghost use Rattle.std.specs.Option.{option_map};
-ghost use Rattle.pyx.specs.Cuts.{behind, at_byte};
+ghost use Rattle.pyx.specs.plain.Cuts.{behind, at_byte};
 
 use memchr::memchr;
 

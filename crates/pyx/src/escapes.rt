@@ -1,7 +1,7 @@
 // Texts with escapes.
 ghost use Rattle.std.specs.Prelude.{◌≡◌, IfOk, Some, None, if◌then◌else◌, string_bytes};
 ghost use Rattle.std.specs.Option.{option_map};
-ghost use Rattle.pyx.specs.Cuts.{escape_of, in_front, unescaped};
+ghost use Rattle.pyx.specs.plain.Cuts.{escape_of, in_front, unescaped};
 
 use crate::cuts::{behind, cut_at};
 use rng_model::OutOfMemory;

@@ -1,9 +1,9 @@
 // Names that were looked up.
 ghost use Rattle.std.specs.Prelude.{◌≡◌, ◌<◌, ◌≤◌, ℕ, length, IfOk, IfSome, OnOk, Some};
-ghost use Rattle.rng_model.specs.View.{name_of};
-ghost use Rattle.pyx.specs.LineReader.{written_of};
-ghost use Rattle.pyx.specs.TagReader.{Declared, element_name};
-ghost use Rattle.pyx.specs.ElementView.{AreKnown, IsKnown, name_at, names_of};
+ghost use Rattle.rng_model.specs.names.NameViews.{name_of};
+ghost use Rattle.pyx.specs.plain.LineReader.{written_of};
+ghost use Rattle.pyx.specs.plain.TagReader.{Declared, element_name};
+ghost use Rattle.pyx.specs.views.ElementView.{AreKnown, IsKnown, name_at, names_of};
 
 use crate::slots::hash_of;
 use rng_model::{Name, OutOfMemory};

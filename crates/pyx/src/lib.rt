@@ -16,5 +16,5 @@ mod spares;
 mod state;
 mod written;
 
-pub use fault::PyxFault;
 pub use reader::Reader;
+pub use rng_model::PyxFault;

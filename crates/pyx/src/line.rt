@@ -2,10 +2,10 @@
 ghost use Rattle.std.specs.Prelude.{◌≡◌, MatchResult, Err};
 ghost use Rattle.std.specs.List.{list_all};
 ghost use Rattle.std.specs.Str.{chars};
-ghost use Rattle.rng_model.specs.Characters.{is_ncname, is_xml_char};
-ghost use Rattle.pyx.specs.LineReader.{is_name, kind_of, said_of};
-ghost use Rattle.pyx.specs.Pieces.{ended_line};
-ghost use Rattle.pyx.specs.View.{line_of};
+ghost use Rattle.rng_model.specs.names.Characters.{is_ncname, is_xml_char};
+ghost use Rattle.pyx.specs.plain.LineReader.{is_name, kind_of, said_of};
+ghost use Rattle.pyx.specs.plain.Pieces.{ended_line};
+ghost use Rattle.pyx.specs.views.View.{line_of};
 
 use crate::cuts::cut_at;
 use crate::plain::{all_plain, is_plain_name};
@@ -31,7 +31,7 @@ fn is_part(text: &str) -> bool
 }
 
 /// An NCName, or two with a colon between.
-#[tactic(auto, unfolding(crate::specs::LineReader::is_name))]
+#[tactic(auto, unfolding(crate::specs::plain::LineReader::is_name))]
 fn is_any_name(text: &str) -> bool
     ensures { result ≡ is_name text.now }
 {
@@ -57,7 +57,7 @@ fn all_xml_chars(text: &str) -> bool
 }
 
 /// The line as a text, or the least clause that it breaks whatever it says: P10, P1, P2 and P3, in this order.
-#[tactic(auto, unfolding(crate::specs::LineReader::said_of, crate::specs::LineReader::characters_of))]
+#[tactic(auto, unfolding(crate::specs::plain::LineReader::said_of, crate::specs::plain::LineReader::characters_of))]
 pub fn line_text(line: Line<'_>) -> Result<&str, u8>
     ensures { MatchResult result (λ text. (line_of line.entry ≡ ended_line text.now) × (said_of (ended_line text.now) ≡ kind_of text.now))
         (λ clause. said_of (line_of line.entry) ≡ Err clause) }

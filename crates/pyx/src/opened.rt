@@ -1,11 +1,11 @@
 // Elements that are open.
 ghost use Rattle.std.specs.Prelude.{◌≡◌, ◌<◌, ◌∷◌, [], IfOk, OnOk, length};
-ghost use Rattle.rng_model.specs.Answers.{Gives};
-ghost use Rattle.rng_model.specs.View.{name_of};
-ghost use Rattle.pyx.specs.DocumentReader.{around, declared_in};
-ghost use Rattle.pyx.specs.ElementView.{AreKnown, clause_of, name_at, names_of, open_of, resolved, scope_of, stack_of};
-ghost use Rattle.pyx.specs.LineReader.{written_of};
-ghost use Rattle.pyx.specs.TagReader.{element_name};
+ghost use Rattle.rng_model.specs.plain.Answers.{Gives};
+ghost use Rattle.rng_model.specs.names.NameViews.{name_of};
+ghost use Rattle.pyx.specs.plain.DocumentReader.{around, declared_in};
+ghost use Rattle.pyx.specs.views.ElementView.{AreKnown, clause_of, name_at, names_of, open_of, resolved, scope_of, stack_of};
+ghost use Rattle.pyx.specs.plain.LineReader.{written_of};
+ghost use Rattle.pyx.specs.plain.TagReader.{element_name};
 
 use crate::cuts::cut_at;
 use crate::fault::LineFault;
@@ -32,7 +32,7 @@ pub struct OpenElements {
 }
 
 impl Model for OpenElements {
-    ghost use Rattle.pyx.specs.ElementView.{AreKnown, Elements, names_of, scope_of, stack_of};
+    ghost use Rattle.pyx.specs.views.ElementView.{AreKnown, Elements, names_of, scope_of, stack_of};
 
     ghost Value = { Elements };
 
@@ -42,7 +42,7 @@ impl Model for OpenElements {
 }
 
 /// The place of what a name stands for inside these elements, looked up if it is not known. A prefix that is not declared breaks P11.
-#[tactic(auto, unfolding(crate::specs::TagReader::element_name, crate::specs::LineReader::written_of))]
+#[tactic(auto, unfolding(crate::specs::plain::TagReader::element_name, crate::specs::plain::LineReader::written_of))]
 #[inline(always)]
 fn place_of_name(
     alloc: Global,

@@ -3,21 +3,21 @@ ghost use Rattle.std.specs.Prelude.{◌≡◌, ◌+◌, ◌<◌, ◌≤◌, ◌^
 ghost use Rattle.std.specs.Option.{option_map};
 ghost use Rattle.std.specs.List.{list_all, prefix_len};
 ghost use Rattle.std.specs.Str.{chars};
-ghost use Rattle.rng_model.specs.Characters.{is_xml_char};
-ghost use Rattle.pyx.specs.PlainBytes.{is_plain};
-ghost use Rattle.pyx.specs.Cuts.{at_byte};
-ghost use Rattle.pyx.specs.Held.{held};
-ghost use Rattle.pyx.specs.Pieces as pieces;
-ghost use Rattle.pyx.specs.Pieces.{is_within, weight};
-ghost use Rattle.pyx.specs.View.{Concludes, Hands, Takes, progress_of};
+ghost use Rattle.rng_model.specs.names.Characters.{is_xml_char};
+ghost use Rattle.pyx.specs.plain.PlainBytes.{is_plain};
+ghost use Rattle.pyx.specs.plain.Cuts.{at_byte};
+ghost use Rattle.pyx.specs.views.Held.{held};
+ghost use Rattle.pyx.specs.plain.Pieces as pieces;
+ghost use Rattle.pyx.specs.plain.Pieces.{is_within, weight};
+ghost use Rattle.pyx.specs.views.View.{Concludes, Takes, progress_of};
+ghost use Rattle.rng_model.specs.documents.Handing.{Hands};
 
 use crate::cuts::cut_at;
-use crate::fault::PyxFault;
 use crate::line::{LINE_LIMIT, Line};
 use crate::plain::plain_text;
 use crate::state::State;
 use memchr::{memchr, memrchr};
-use rng_model::Events;
+use rng_model::{Events, PyxFault};
 use std::alloc::Global;
 
 /// What is kept from one piece to the next.
@@ -86,7 +86,7 @@ impl Pieces {
     }
 
     /// With these bytes the line is too long.
-    #[tactic(auto, unfolding(crate::specs::Pieces::overlong))]
+    #[tactic(auto, unfolding(crate::specs::plain::Pieces::overlong))]
     fn refuse<E: Events>(&mut self, more: &[u8], events: &mut E) -> Result<(), PyxFault>
         requires begun { length self.old.begun.items ≤ 65536 }
         requires weight { weight (progress_of self.old) + 65537 < 2 ^ 64 }
@@ -102,7 +102,7 @@ impl Pieces {
     }
 
     /// The line ends behind these bytes.
-    #[tactic(auto, unfolding(crate::specs::Pieces::line_taken))]
+    #[tactic(auto, unfolding(crate::specs::plain::Pieces::line_taken))]
     fn line<E: Events>(&mut self, front: &[u8], events: &mut E) -> Result<(), PyxFault>
         requires begun { length self.old.begun.items ≤ 65536 }
         requires weight { weight (progress_of self.old) + 65537 < 2 ^ 64 }
@@ -129,7 +129,7 @@ impl Pieces {
     }
 
     /// The line ends behind this text of plain bytes.
-    #[tactic(auto, unfolding(crate::specs::Pieces::line_taken))]
+    #[tactic(auto, unfolding(crate::specs::plain::Pieces::line_taken))]
     #[inline(always)]
     fn text_line<E: Events>(&mut self, text: &str, events: &mut E) -> Result<(), PyxFault>
         requires plain { list_all is_plain text.now ≡ true }
@@ -144,7 +144,7 @@ impl Pieces {
     }
 
     /// The line does not end in these bytes.
-    #[tactic(auto, unfolding(crate::specs::Pieces::rest_taken))]
+    #[tactic(auto, unfolding(crate::specs::plain::Pieces::rest_taken))]
     fn keep<E: Events>(&mut self, rest: &[u8], events: &mut E) -> Result<(), PyxFault>
         requires begun { length self.old.begun.items ≤ 65536 }
         requires weight { weight (progress_of self.old) + 65537 < 2 ^ 64 }
@@ -211,7 +211,7 @@ impl Pieces {
     }
 
     /// Nothing comes behind: what has begun is a line, unless it is empty.
-    #[tactic(auto, unfolding(crate::specs::Pieces::finished, crate::specs::DocumentReader::all_ended))]
+    #[tactic(auto, unfolding(crate::specs::plain::Pieces::finished, crate::specs::plain::DocumentReader::all_ended))]
     pub fn finish<E: Events>(self, events: &mut E) -> Result<(), PyxFault>
         requires begun { length self.begun.items ≤ 65536 }
         requires weight { weight (progress_of self) + 1 < 2 ^ 64 }

@@ -1,7 +1,7 @@
 // Bytes that tell without a look at characters that a text or a name is a good one.
 ghost use Rattle.std.specs.Prelude.{◌≡◌, IfSome, true};
 ghost use Rattle.std.specs.List.{list_all};
-ghost use Rattle.pyx.specs.PlainBytes.{flaw, is_plain, is_plain_name, may_begin, may_follow};
+ghost use Rattle.pyx.specs.plain.PlainBytes.{flaw, is_plain, is_plain_name, may_begin, may_follow};
 
 /// 1 for a byte that is not plain. A plain one stands only in characters that XML has: U+FFFE and U+FFFF begin with the byte 0xEF.
 fn flaw(byte: u8) -> u8

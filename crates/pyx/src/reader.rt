@@ -1,13 +1,14 @@
 // The reader of documents.
 ghost use Rattle.std.specs.Prelude.{◌≡◌, ◌+◌, ◌<◌, ◌≤◌, ◌^◌, [], length, IfSome, IfErr, is_ok, if◌then◌else◌, Some, None, Err};
-ghost use Rattle.pyx.specs.Held.{IsHeld};
-ghost use Rattle.pyx.specs.Pieces.{weight};
-ghost use Rattle.pyx.specs.Standing.{Ends, Extends, IsFaultAfter, Kept, Stands, UnlessMemory};
-ghost use Rattle.pyx.specs.View.{Hands, progress_of};
+ghost use Rattle.pyx.specs.views.HeldCalls.{IsHeld};
+ghost use Rattle.pyx.specs.plain.Pieces.{weight};
+ghost use Rattle.pyx.specs.views.Calls.{Ends, Extends, IsFaultAfter, UnlessMemory};
+ghost use Rattle.pyx.specs.views.Standing.{Kept, Stands};
+ghost use Rattle.rng_model.specs.documents.Handing.{Hands};
+ghost use Rattle.pyx.specs.views.View.{progress_of};
 
-use crate::fault::PyxFault;
 use crate::pieces::Pieces;
-use rng_model::Events;
+use rng_model::{Events, PyxFault};
 use std::alloc::Global;
 use std::marker::Model;
 

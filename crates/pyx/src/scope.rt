@@ -1,12 +1,13 @@
 // What names stand for inside the elements that are open.
 ghost use Rattle.std.specs.Prelude.{◌≡◌, ◌<◌, ◌≤◌, ℕ, List, Option, [], ◌∷◌, MatchOption, IfSome, map, length, string_bytes};
 ghost use Rattle.std.specs.Option.{option_map};
-ghost use Rattle.rng_model.specs.Answers.{Gives};
-ghost use Rattle.rng_model.specs.View.{name_of, attribute_of};
-ghost use Rattle.pyx.specs.LineReader.{written_of};
-ghost use Rattle.pyx.specs.TagReader.{namespace_of, attribute_name, expanded};
-ghost use Rattle.pyx.specs.ElementView.{clause_of, open_of, resolved, scope_of, stack_of, written_attribute};
-ghost use Rattle.pyx.specs.Held.{opened_held};
+ghost use Rattle.rng_model.specs.plain.Answers.{Gives};
+ghost use Rattle.rng_model.specs.names.NameViews.{name_of};
+ghost use Rattle.rng_model.specs.documents.DocumentViews.{attribute_of};
+ghost use Rattle.pyx.specs.plain.LineReader.{written_of};
+ghost use Rattle.pyx.specs.plain.TagReader.{namespace_of, attribute_name, expanded};
+ghost use Rattle.pyx.specs.views.ElementView.{clause_of, open_of, resolved, scope_of, stack_of, written_attribute};
+ghost use Rattle.pyx.specs.views.Held.{opened_held};
 
 use crate::cuts::cut_at;
 use crate::fault::LineFault;
@@ -34,7 +35,7 @@ pub fn innermost(opened: &[OpenElement]) -> Option<(&OpenElement, &[OpenElement]
 }
 
 /// How many bytes are kept of these elements: their names and their declarations.
-#[tactic(auto, unfolding(crate::specs::Held::opened_held))]
+#[tactic(auto, unfolding(crate::specs::views::Held::opened_held))]
 pub fn opened_len(opened: &[OpenElement]) -> u64
     ensures { result ≡ opened_held (stack_of opened.now) }
 {
@@ -66,7 +67,7 @@ fn declaring(opened: &[OpenElement]) -> &[OpenElement]
 }
 
 /// The namespace of a prefix, or the default one, inside these elements.
-#[tactic(auto, unfolding(crate::specs::TagReader::namespace_of))]
+#[tactic(auto, unfolding(crate::specs::plain::TagReader::namespace_of))]
 #[inline(always)]
 pub fn namespace<'a>(opened: &'a [OpenElement], prefix: Option<&str>) -> Option<&'a str>
     ensures { option_map (λ x. x.now) result ≡ namespace_of (scope_of opened.now) (option_map (λ x. x.now) prefix.entry) }
@@ -87,7 +88,7 @@ pub fn namespace<'a>(opened: &'a [OpenElement], prefix: Option<&str>) -> Option<
 }
 
 /// The expanded name of an attribute inside these elements. A prefix that is not declared breaks P11.
-#[tactic(auto, unfolding(crate::specs::TagReader::attribute_name, crate::specs::LineReader::written_of))]
+#[tactic(auto, unfolding(crate::specs::plain::TagReader::attribute_name, crate::specs::plain::LineReader::written_of))]
 fn attribute_name(
     alloc: Global,
     opened: &[OpenElement],

@@ -1,8 +1,9 @@
 // Attributes of one name in a tag.
 ghost use Rattle.std.specs.Prelude.{◌≡◌, ℕ, List, map, false, true};
-ghost use Rattle.rng_model.specs.View.{name_of, attribute_of};
-ghost use Rattle.pyx.specs.Slots.{AreMet, hash_of, is_met};
-ghost use Rattle.pyx.specs.TagReader.{is_named_in, is_named_twice};
+ghost use Rattle.rng_model.specs.names.NameViews.{name_of};
+ghost use Rattle.rng_model.specs.documents.DocumentViews.{attribute_of};
+ghost use Rattle.pyx.specs.plain.Slots.{AreMet, hash_of, is_met};
+ghost use Rattle.pyx.specs.plain.TagReader.{is_named_in, is_named_twice};
 
 use rng_model::{Attr, Name};
 
@@ -13,7 +14,7 @@ const PAIRED_LIMIT: usize = 8;
 const SLOT_COUNT: usize = 4_096;
 
 /// A number that is made of the bytes of a text.
-#[tactic(auto, unfolding(crate::specs::Slots::hash_of))]
+#[tactic(auto, unfolding(crate::specs::plain::Slots::hash_of))]
 #[inline(always)]
 pub fn hash_of(text: &str) -> usize
     ensures { result ≡ hash_of text.now }
@@ -26,7 +27,7 @@ pub fn hash_of(text: &str) -> usize
 }
 
 /// One of these attributes has this name.
-#[tactic(auto, unfolding(crate::specs::TagReader::is_named_in))]
+#[tactic(auto, unfolding(crate::specs::plain::TagReader::is_named_in))]
 fn is_named_in(name: &Name, attrs: &[Attr]) -> bool
     ensures { result ≡ is_named_in (name_of name.now) (map attribute_of attrs.now) }
 {
@@ -53,7 +54,7 @@ fn mark(slots: &mut [bool; SLOT_COUNT], local: &str) -> bool
 
 /// Two of these attributes have one name. Where none have, the slots of all are set; a name is compared with those behind it only where one of
 /// them has set its slot.
-#[tactic(auto, unfolding(crate::specs::TagReader::is_named_twice))]
+#[tactic(auto, unfolding(crate::specs::plain::TagReader::is_named_twice))]
 fn is_repeated(attrs: &[Attr], slots: &mut [bool; SLOT_COUNT]) -> bool
     ensures twice { result ≡ is_named_twice (map attribute_of attrs.now) }
     ensures met { result ≡ false → AreMet slots.new (map attribute_of attrs.now) }
@@ -78,7 +79,7 @@ fn is_named_twice_by_slots(attrs: &[Attr]) -> bool
 }
 
 /// Two of these attributes have one name.
-#[tactic(auto, unfolding(crate::specs::TagReader::is_named_twice))]
+#[tactic(auto, unfolding(crate::specs::plain::TagReader::is_named_twice))]
 pub fn is_named_twice(attrs: &[Attr]) -> bool
     ensures { result ≡ is_named_twice (map attribute_of attrs.now) }
 {

@@ -1,26 +1,27 @@
 // A document line by line.
 ghost use Rattle.std.specs.Prelude.{◌≡◌, ◌+◌, ◌<◌, ◌^◌, length, is_some, IfOk, OnOk, string_bytes, true};
-ghost use Rattle.rng_model.specs.Answers.{Gives};
-ghost use Rattle.rng_model.specs.PyxLines as lines;
-ghost use Rattle.pyx.specs.DocumentReader as reader;
-ghost use Rattle.pyx.specs.DocumentReader.{declared_in};
-ghost use Rattle.pyx.specs.ElementView.{clause_of, element_at, written_attribute};
-ghost use Rattle.pyx.specs.Held.{state_held};
-ghost use Rattle.pyx.specs.LineReader.{attribute_of, kind_of, named, said_of, text_of, written_of};
-ghost use Rattle.pyx.specs.Pieces.{ended_line};
-ghost use Rattle.pyx.specs.TagReader.{declared_by, tag_read};
-ghost use Rattle.pyx.specs.View.{Adds, EndsBy, Hands, Takes, line_of, state_of, tag_of};
+ghost use Rattle.rng_model.specs.plain.Answers.{Gives};
+ghost use Rattle.rng_model.specs.documents.PyxLines as lines;
+ghost use Rattle.pyx.specs.plain.DocumentReader as reader;
+ghost use Rattle.pyx.specs.plain.DocumentReader.{declared_in};
+ghost use Rattle.pyx.specs.views.ElementView.{clause_of, element_at, written_attribute};
+ghost use Rattle.pyx.specs.views.Held.{state_held};
+ghost use Rattle.pyx.specs.plain.LineReader.{attribute_of, kind_of, named, said_of, text_of, written_of};
+ghost use Rattle.pyx.specs.plain.Pieces.{ended_line};
+ghost use Rattle.pyx.specs.plain.TagReader.{declared_by, tag_read};
+ghost use Rattle.pyx.specs.views.View.{Adds, EndsBy, Takes, line_of, state_of, tag_of};
+ghost use Rattle.rng_model.specs.documents.Handing.{Hands};
 
 use crate::cuts::{behind, cut_at};
 use crate::escapes::append;
-use crate::fault::{LineFault, PyxFault};
+use crate::fault::LineFault;
 use crate::line::{Line, is_name, line_text};
 use crate::opened::OpenElements;
 use crate::scope::{OpenElement, expand_attributes, innermost, opened_len};
 use crate::slots::is_named_twice;
 use crate::spares::Spares;
 use crate::written::{WrittenAttribute, any_forbidden, declared_by, is_same, is_written_twice};
-use rng_model::{Attr, Event, EventKind, Events, OutOfMemory};
+use rng_model::{Attr, Event, EventKind, Events, OutOfMemory, PyxFault};
 use std::alloc::Global;
 use std::mem;
 
@@ -133,7 +134,7 @@ impl State {
     ///
     /// P11 is broken where a declaration is not allowed or a prefix is not declared, else P12 where two of the `A` lines
     /// have one name or two attributes one expanded name. Namespaces in XML 1.0, sections 3 to 6.
-    #[tactic(auto, unfolding(crate::specs::TagReader::tag_read))]
+    #[tactic(auto, unfolding(crate::specs::plain::TagReader::tag_read))]
     #[inline(always)]
     fn open_tag(&mut self) -> Result<usize, LineFault>
         ensures element { Gives clause_of (element_at self.new.elements.names self.new.attrs.items) result
@@ -190,7 +191,7 @@ impl State {
     }
 
     /// A line with these bytes comes next: unless it belongs to the tag, the tag is whole.
-    #[tactic(auto, unfolding(crate::specs::DocumentReader::tag_ended))]
+    #[tactic(auto, unfolding(crate::specs::plain::DocumentReader::tag_ended))]
     #[inline(always)]
     fn end_tag<E: Events>(&mut self, bytes: &[u8], events: &mut E) -> Result<(), PyxFault>
         requires { self.old.lines + 1 < 2 ^ 64 }
@@ -206,7 +207,7 @@ impl State {
     }
 
     /// Hands out the joined text, if there is one.
-    #[tactic(auto, unfolding(crate::specs::DocumentReader::text_ended))]
+    #[tactic(auto, unfolding(crate::specs::plain::DocumentReader::text_ended))]
     #[inline(always)]
     fn end_text<E: Events>(&mut self, events: &mut E) -> Result<(), PyxFault>
         ensures { Takes result (state_of self.new) (Hands E.stands events.old events.new) (reader.text_ended (state_of self.old)) }
@@ -223,7 +224,7 @@ impl State {
     }
 
     /// A start tag begins, in a line of so many bytes.
-    #[tactic(auto, unfolding(crate::specs::LineReader::named, crate::specs::DocumentReader::said_read, crate::specs::DocumentReader::started))]
+    #[tactic(auto, unfolding(crate::specs::plain::LineReader::named, crate::specs::plain::DocumentReader::said_read, crate::specs::plain::DocumentReader::started))]
     #[inline(always)]
     fn start<E: Events>(&mut self, bytes: u64, name: &str, events: &mut E) -> Result<(), PyxFault>
         ensures { Takes result (state_of self.new) (Hands E.stands events.old events.new)
@@ -249,7 +250,7 @@ impl State {
     }
 
     /// One more `A` line of the tag, of so many bytes.
-    #[tactic(auto, unfolding(crate::specs::DocumentReader::attributed))]
+    #[tactic(auto, unfolding(crate::specs::plain::DocumentReader::attributed))]
     fn add(&mut self, bytes: u64, name: &str, value: String) -> Result<(), PyxFault>
         requires { reader.tag_bytes (state_of self.old).tag + bytes < 2 ^ 64 }
         ensures { Adds result (state_of self.new)
@@ -270,7 +271,7 @@ impl State {
     }
 
     /// An `A` line of so many bytes, without its first.
-    #[tactic(auto, unfolding(crate::specs::LineReader::attribute_of, crate::specs::DocumentReader::said_read))]
+    #[tactic(auto, unfolding(crate::specs::plain::LineReader::attribute_of, crate::specs::plain::DocumentReader::said_read))]
     #[inline(always)]
     fn attribute(&mut self, bytes: u64, line: &str) -> Result<(), PyxFault>
         requires { reader.tag_bytes (state_of self.old).tag + bytes < 2 ^ 64 }
@@ -290,7 +291,7 @@ impl State {
     }
 
     /// A text in a line of so many bytes, joined to the one before.
-    #[tactic(auto, unfolding(crate::specs::LineReader::text_of, crate::specs::DocumentReader::said_read, crate::specs::DocumentReader::joined_by))]
+    #[tactic(auto, unfolding(crate::specs::plain::LineReader::text_of, crate::specs::plain::DocumentReader::said_read, crate::specs::plain::DocumentReader::joined_by))]
     #[inline(always)]
     fn text(&mut self, bytes: u64, text: &str) -> Result<(), PyxFault>
         ensures { Adds result (state_of self.new) (reader.judged bytes (text_of text.now) (state_of self.old)) }
@@ -308,7 +309,7 @@ impl State {
     }
 
     /// An end tag, in a line of so many bytes.
-    #[tactic(auto, unfolding(crate::specs::LineReader::named, crate::specs::DocumentReader::said_read, crate::specs::DocumentReader::ended))]
+    #[tactic(auto, unfolding(crate::specs::plain::LineReader::named, crate::specs::plain::DocumentReader::said_read, crate::specs::plain::DocumentReader::ended))]
     #[inline(always)]
     fn end<E: Events>(&mut self, bytes: u64, name: &str, events: &mut E) -> Result<(), PyxFault>
         ensures { Takes result (state_of self.new) (Hands E.stands events.old events.new)
@@ -334,7 +335,7 @@ impl State {
     }
 
     /// A line that says what this text does.
-    #[tactic(auto, unfolding(crate::specs::LineReader::kind_of, crate::specs::DocumentReader::said_read))]
+    #[tactic(auto, unfolding(crate::specs::plain::LineReader::kind_of, crate::specs::plain::DocumentReader::said_read))]
     #[inline(always)]
     fn said<E: Events>(&mut self, text: &str, events: &mut E) -> Result<(), PyxFault>
         requires { reader.tag_bytes (state_of self.old).tag + length text.now < 2 ^ 64 }
@@ -361,7 +362,7 @@ impl State {
     }
 
     /// Takes the next line, which breaks nothing but what comes of what this text says.
-    #[tactic(auto, unfolding(crate::specs::DocumentReader::line_read))]
+    #[tactic(auto, unfolding(crate::specs::plain::DocumentReader::line_read))]
     #[inline(always)]
     pub fn text_line<E: Events>(&mut self, text: &str, events: &mut E) -> Result<(), PyxFault>
         requires lines { self.old.lines + 1 < 2 ^ 64 }
@@ -375,7 +376,7 @@ impl State {
     }
 
     /// Takes the next line.
-    #[tactic(auto, unfolding(crate::specs::DocumentReader::line_read))]
+    #[tactic(auto, unfolding(crate::specs::plain::DocumentReader::line_read))]
     pub fn line<E: Events>(&mut self, line: Line<'_>, events: &mut E) -> Result<(), PyxFault>
         requires lines { self.old.lines + 1 < 2 ^ 64 }
         requires bytes { reader.tag_bytes (state_of self.old).tag + length line.bytes.now < 2 ^ 64 }
@@ -392,7 +393,7 @@ impl State {
     }
 
     /// Nothing comes behind these lines. A tag that nothing follows is judged, and its element is not ended.
-    #[tactic(auto, unfolding(crate::specs::DocumentReader::at_end))]
+    #[tactic(auto, unfolding(crate::specs::plain::DocumentReader::at_end))]
     pub fn finish(mut self) -> Result<(), PyxFault>
         ensures { EndsBy result (reader.at_end (state_of self)) }
     {

@@ -2,11 +2,11 @@
 ghost use Rattle.std.specs.Prelude.{◌≡◌, map};
 ghost use Rattle.std.specs.Option.{option_map};
 ghost use Rattle.std.specs.Str.{bytes_eq};
-ghost use Rattle.pyx.specs.LineReader.{written_of};
-ghost use Rattle.pyx.specs.TagReader.{declared_by, declares, found_in, is_forbidden, any_forbidden, is_written_in, is_written_twice, same_written};
-ghost use Rattle.rng_model.specs.PyxHeld.{name_length};
-ghost use Rattle.pyx.specs.Held.{declarations_held};
-ghost use Rattle.pyx.specs.ElementView.{written_attribute};
+ghost use Rattle.pyx.specs.plain.LineReader.{written_of};
+ghost use Rattle.pyx.specs.plain.TagReader.{declared_by, declares, found_in, is_forbidden, any_forbidden, is_written_in, is_written_twice, same_written};
+ghost use Rattle.rng_model.specs.documents.PyxHeld.{name_length};
+ghost use Rattle.pyx.specs.views.Held.{declarations_held};
+ghost use Rattle.pyx.specs.views.ElementView.{written_attribute};
 
 use crate::cuts::cut_at;
 
@@ -34,7 +34,7 @@ pub fn is_same(name: &str, other: &str) -> bool
 /// Which prefix a name declares, or that it declares the default namespace; nothing, where it is an attribute's.
 ///
 /// Namespaces in XML 1.0, section 3.
-#[tactic(auto, unfolding(crate::specs::LineReader::written_of))]
+#[tactic(auto, unfolding(crate::specs::plain::LineReader::written_of))]
 pub fn declared_by(name: &str) -> Option<Option<&str>>
     ensures { option_map (λ p. option_map (λ x. x.now) p) result ≡ declared_by (written_of name.now) }
 {
@@ -74,7 +74,7 @@ fn is_forbidden(declaration: &WrittenAttribute) -> bool
 }
 
 /// One of these declarations is not allowed.
-#[tactic(auto, unfolding(crate::specs::TagReader::any_forbidden))]
+#[tactic(auto, unfolding(crate::specs::plain::TagReader::any_forbidden))]
 pub fn any_forbidden(declarations: &[WrittenAttribute]) -> bool
     ensures { result ≡ any_forbidden (map written_attribute declarations.now) }
 {
@@ -102,7 +102,7 @@ fn declares(declaration: &WrittenAttribute, prefix: Option<&str>) -> bool
 }
 
 /// As what these declare the prefix, or the default namespace.
-#[tactic(auto, unfolding(crate::specs::TagReader::found_in))]
+#[tactic(auto, unfolding(crate::specs::plain::TagReader::found_in))]
 pub fn found_in<'a>(prefix: Option<&str>, declarations: &'a [WrittenAttribute]) -> Option<&'a str>
     ensures { option_map (λ x. x.now) result ≡ found_in (option_map (λ x. x.now) prefix.entry) (map written_attribute declarations.now) }
 {
@@ -119,7 +119,7 @@ pub fn found_in<'a>(prefix: Option<&str>, declarations: &'a [WrittenAttribute]) 
 }
 
 /// One of these has this name.
-#[tactic(auto, unfolding(crate::specs::TagReader::is_written_in))]
+#[tactic(auto, unfolding(crate::specs::plain::TagReader::is_written_in))]
 fn is_written_in(name: &str, attributes: &[WrittenAttribute]) -> bool
     ensures { result ≡ is_written_in (written_of name.now) (map written_attribute attributes.now) }
 {
@@ -130,7 +130,7 @@ fn is_written_in(name: &str, attributes: &[WrittenAttribute]) -> bool
 }
 
 /// Two of these have one name.
-#[tactic(auto, unfolding(crate::specs::TagReader::is_written_twice))]
+#[tactic(auto, unfolding(crate::specs::plain::TagReader::is_written_twice))]
 pub fn is_written_twice(attributes: &[WrittenAttribute]) -> bool
     ensures { result ≡ is_written_twice (map written_attribute attributes.now) }
 {
@@ -149,7 +149,7 @@ pub fn name_len(name: &str) -> u64
 }
 
 /// How many bytes declarations have: their names, and what their values stand for.
-#[tactic(auto, unfolding(crate::specs::Held::declarations_held))]
+#[tactic(auto, unfolding(crate::specs::views::Held::declarations_held))]
 pub fn declarations_len(declarations: &[WrittenAttribute]) -> u64
     ensures { result ≡ declarations_held (map written_attribute declarations.now) }
 {

@@ -1,13 +1,13 @@
 -- Worked examples of files that break a rule about declarations, and of files that break none.
 use Rattle.std.proofs.Common.{◌≢◌, refl, ℕ, List, [], ◌∷◌, Some, None, codes}
-use Rattle.rng_model.specs.Lists.{here, there}
-use Rattle.rng_model.specs.PyxNamespaces.{xml_uri}
-use Rattle.rnc_syntax.specs.Syntax.{prefixed, name_is, any_except, ns_name, prefixed_type, Pattern, element, empty, data_of, external, start}
-use Rattle.rnc_syntax.specs.Syntax.{include, component_and, no_components, inherit, literal, Declaration, namespace, default_namespace, datatypes, pattern_body}
-use Rattle.rnc_syntax.specs.Syntax.{grammar_body, File}
-use Rattle.rnc_grammar.specs.Declarations.{file_tree}
-use Rattle.rnc_grammar.specs.DeclarationRules.{namespace_prefix, datatype_prefix, IsUndeclared, at_first, later, BreaksDeclarationRule, namespace_prefix_twice}
-use Rattle.rnc_grammar.specs.DeclarationRules.{default_namespace_twice, xml_as_another, xmlns_declared, namespace_prefix_undeclared, datatype_prefix_undeclared}
+use Rattle.rng_model.specs.names.Lists.{here, there}
+use Rattle.rng_model.specs.documents.PyxNamespaces.{xml_uri}
+use Rattle.rnc_model.specs.grammar.Syntax.{prefixed, name_is, any_except, ns_name, prefixed_type, Pattern, element, empty, data_of, external, start}
+use Rattle.rnc_model.specs.grammar.Syntax.{include, component_and, no_components, inherit, literal, Declaration, namespace, default_namespace, datatypes, pattern_body}
+use Rattle.rnc_model.specs.grammar.Syntax.{grammar_body, File}
+use Rattle.rnc_model.specs.declarations.Declarations.{file_tree}
+use Rattle.rnc_model.specs.declarations.DeclarationRules.{namespace_prefix, datatype_prefix, IsUndeclared, at_first, later, BreaksDeclarationRule, namespace_prefix_twice}
+use Rattle.rnc_model.specs.declarations.DeclarationRules.{default_namespace_twice, xml_as_another, xmlns_declared, namespace_prefix_undeclared, datatype_prefix_undeclared}
 use Rattle.rnc_grammar.proofs.DeclarationRules.{kept_where_tree}
 
 -- the declarations, and one pattern

@@ -4,9 +4,9 @@ use Rattle.rnc_grammar.specs.declared.file_tree.Datatype.{Datatype}
 use Rattle.rnc_grammar.specs.declared.file_tree.Pattern.{Pattern}
 use Rattle.rnc_grammar.specs.declared.file_tree.Pattern.TheVariants as patterns
 use Rattle.rnc_grammar.specs.declared.file_tree.Component.{the_lemmas}
-use Rattle.rnc_grammar.specs.FileTree as tree
-use Rattle.rnc_grammar.specs.View as files
-use Rattle.rng_model.specs.Tree.{group, choice, interleave}
+use Rattle.rnc_model.specs.declarations.FileTree as tree
+use Rattle.rnc_grammar.specs.views.View as files
+use Rattle.rng_model.specs.simple.Tree.{group, choice, interleave}
 use Rattle.rnc_grammar.specs.declared.file_tree.NameClass.{NameClass, the_lemmas as class_lemmas}
 use Rattle.rnc_grammar.specs.declared.file_tree.NameClass.TheVariants as classes
 

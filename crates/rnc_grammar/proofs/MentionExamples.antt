@@ -1,10 +1,10 @@
 -- Worked examples of the files that a schema file mentions (RELAX NG Specification, sections 4.6 and 4.7).
 use Rattle.std.proofs.Common.{◌≡◌, refl, ℕ, List, [], ◌∷◌, codes}
-use Rattle.rng_model.specs.Tree.{group}
+use Rattle.rng_model.specs.simple.Tree.{group}
 use Rattle.rng_model.specs.declared.method.Method.TheVariants as methods
-use Rattle.rnc_grammar.specs.FileTree.{Mention, inherited, any_name, element, external, grammar, ref, text, members, Component, start}
-use Rattle.rnc_grammar.specs.FileTree.{define, div, include, components_of, pattern_file, grammar_file}
-use Rattle.rnc_grammar.specs.Mentions.{external_file, included_file, mentions_of}
+use Rattle.rnc_model.specs.declarations.FileTree.{Mention, inherited, any_name, element, external, grammar, ref, text, members, Component, start}
+use Rattle.rnc_model.specs.declarations.FileTree.{define, div, include, components_of, pattern_file, grammar_file}
+use Rattle.rnc_model.specs.loading.Mentions.{external_file, included_file, mentions_of}
 
 -- the file of this name, mentioned by the word with this number
 abbrev mention : List ℕ → ℕ → Mention

@@ -1,8 +1,8 @@
 -- Which patterns are no grammar.
 use Rattle.std.proofs.Common.{◌≡◌, List, Option, Some, None, refl}
-use Rattle.rng_model.specs.Tree.{Connector}
-use Rattle.rnc_grammar.specs.FileTree.{Pattern, members, pattern_file, grammar_of}
-use Rattle.rnc_grammar.specs.View.{data_of}
+use Rattle.rng_model.specs.simple.Tree.{Connector}
+use Rattle.rnc_model.specs.declarations.FileTree.{Pattern, members, pattern_file, grammar_of}
+use Rattle.rnc_grammar.specs.views.View.{data_of}
 use Rattle.rnc_grammar.specs.declared.file_tree.Datatype.{Datatype}
 
 pub joined_is_none : (k : Connector) (ps : List Pattern) → grammar_of (pattern_file (members k ps)) ≡ None

@@ -4,25 +4,27 @@ use Rattle.std.specs.List.Sorted.{IsStrictlyIncreasing}
 use Rattle.rnc_syntax.specs.declared.fault.SyntaxFault.{SyntaxFault}
 use Rattle.rnc_syntax.specs.declared.fault.SyntaxFault.TheVariants as syntax_faults
 use Rattle.rnc_syntax.specs.declared.syntax_tree.File as written
-use Rattle.rnc_syntax.specs.Fault as syntax_fault
-use Rattle.rnc_syntax.specs.Grammar.{IsFile}
-use Rattle.rnc_syntax.specs.Lexeme.{Lexeme, lexemes}
-use Rattle.rnc_syntax.specs.Sentence as sentence
-use Rattle.rnc_syntax.specs.Sentence.{IsSyntaxTree}
-use Rattle.rnc_syntax.specs.Syntax.{File}
-use Rattle.rnc_syntax.specs.SyntaxView as syntax
-use Rattle.rnc_text.specs.Cut.{Token}
+use Rattle.rnc_syntax.specs.views.Fault as syntax_fault
+use Rattle.rnc_model.specs.grammar.Grammar.{IsFile}
+use Rattle.rnc_model.specs.tokens.Lexeme.{Lexeme, lexemes}
+use Rattle.rnc_syntax.specs.views.SentenceFaults as sentence_faults
+use Rattle.rnc_model.specs.grammar.Sentence.{IsSyntaxTree}
+use Rattle.rnc_model.specs.grammar.Syntax.{File}
+use Rattle.rnc_syntax.specs.views.SyntaxView as syntax
+use Rattle.rnc_model.specs.tokens.Cut.{Token}
 use Rattle.rnc_grammar.specs.declared.fault.ParseFault.{ParseFault}
 use Rattle.rnc_grammar.specs.declared.fault.ParseFault.TheVariants as faults
 use Rattle.rnc_grammar.specs.declared.file_tree.FileTree as declared
-use Rattle.rnc_grammar.specs.Declarations.{file_tree}
-use Rattle.rnc_grammar.specs.Fault.{fault_of, tree_or_fault}
-use Rattle.rnc_grammar.specs.FileTree.{FileTree}
-use Rattle.rnc_grammar.specs.Mentions.{mention_of, mentions_of}
-use Rattle.rnc_grammar.specs.View.{file_of}
+use Rattle.rnc_model.specs.declarations.Declarations.{file_tree}
+use Rattle.rnc_grammar.specs.views.Fault.{fault_of, tree_or_fault}
+use Rattle.rnc_model.specs.declarations.FileTree.{FileTree}
+use Rattle.rnc_model.specs.loading.Mentions.{mention_of, mentions_of}
+use Rattle.rnc_grammar.specs.views.View.{file_of}
 use Rattle.rnc_grammar.proofs.DeclarationRules.{broken_where_none, kept_where_tree, none_where_broken}
 use Rattle.rnc_grammar.proofs.MentionTokens.{mentions_in_order}
-use Rattle.rnc_grammar.specs.Parsing.{BreaksDeclarations, IsFileTree, IsFaultOf, Gives, unless_memory}
+use Rattle.rnc_model.specs.declarations.Parsing.{BreaksDeclarations, IsFileTree}
+use Rattle.rnc_grammar.specs.views.ParsingFaults.{IsFaultOf, unless_memory}
+use Rattle.rng_model.specs.plain.Answers.{Gives}
 
 -- tokens have one file tree at most, as they have one syntax tree
 pub one_tree : (ts : List Lexeme) → ((f g : File) → IsFile ts f → IsFile ts g → f ≡ g) → (t u : FileTree) → IsFileTree ts t → IsFileTree ts u → t ≡ u
@@ -43,7 +45,7 @@ GivesTree r answer = Gives unless_memory file_of r answer
 -- ---- tokens that have no syntax tree
 
 -- the fault that is told
-pub fault_told : (ts : List Lexeme) (e : SyntaxFault) → sentence.IsFaultOf ts e → IsFaultOf ts (fault_of e)
+pub fault_told : (ts : List Lexeme) (e : SyntaxFault) → sentence_faults.IsFaultOf ts e → IsFaultOf ts (fault_of e)
 fault_told ts syntax_faults.Memory is = tt
 fault_told ts syntax_faults.TooDeep is = inl (refl, is)
 fault_told ts (syntax_faults.Unexpected number) is = (refl, is)

@@ -1,13 +1,13 @@
 -- Parts answered one by one, as the code has them, and rows of parts as the trees have them.
 use Rattle.std.proofs.Common.{◌≡◌, ◌∙◌, sym, ap, ℕ, ◌+◌, ◌<◌, ◌≤◌, List, [], ◌∷◌, ◌++◌, map, length, drop, get_or, Option, Some, None, Err, refl}
 use Rattle.std.proofs.lemmas.List.{append-nil, append_assoc, drop_all, drop_more}
-use Rattle.rng_model.specs.Tree.{Connector}
+use Rattle.rng_model.specs.simple.Tree.{Connector}
 use Rattle.rnc_grammar.specs.declared.scope.ScopeFault.{ScopeFault}
 use Rattle.rnc_grammar.specs.declared.scope.ScopeFault.TheVariants.{Broken, Memory}
-use Rattle.rnc_grammar.specs.Declarations.{Scope, ◌>>=◌, class_in, classes_in, pattern_in, patterns_in, component_in, components_in}
-use Rattle.rnc_grammar.specs.FileTree as tree
-use Rattle.rnc_syntax.specs.Syntax as syntax
-use Rattle.rnc_grammar.specs.Resolved.{Resolves, each}
+use Rattle.rnc_model.specs.declarations.Declarations.{Scope, ◌>>=◌, class_in, classes_in, pattern_in, patterns_in, component_in, components_in}
+use Rattle.rnc_model.specs.declarations.FileTree as tree
+use Rattle.rnc_model.specs.grammar.Syntax as syntax
+use Rattle.rnc_grammar.specs.views.Resolved.{Resolves, each}
 
 -- these answers, and then those
 abbrev pub after : {B : Type 0} → List B → Option (List B) → Option (List B)

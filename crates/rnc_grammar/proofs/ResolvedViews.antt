@@ -1,6 +1,6 @@
 -- Syntax trees and file trees, the kinds with members or parts of their own as they are seen.
 use Rattle.std.proofs.Common.{◌≡◌, ℕ, map, rules, Vec, Global, List, Option, Some, None, option_map, sym, ap, ◌∙◌, Box}
-use Rattle.rng_model.specs.Tree.{group, choice, interleave}
+use Rattle.rng_model.specs.simple.Tree.{group, choice, interleave}
 use Rattle.rnc_syntax.specs.declared.syntax_tree.NameClass.{NameClass}
 use Rattle.rnc_syntax.specs.declared.syntax_tree.NameClass.{the_lemmas as class_lemmas}
 use Rattle.rnc_syntax.specs.declared.syntax_tree.NameClass.TheVariants as classes
@@ -9,11 +9,11 @@ use Rattle.rnc_syntax.specs.declared.syntax_tree.Parameter.{Parameter}
 use Rattle.rnc_syntax.specs.declared.syntax_tree.Pattern.{Pattern}
 use Rattle.rnc_syntax.specs.declared.syntax_tree.Pattern.TheVariants as patterns
 use Rattle.rnc_syntax.specs.declared.syntax_tree.Component.{the_lemmas}
-use Rattle.rnc_grammar.specs.Declarations.{Scope, ◌>>=◌, class_in, pattern_in, type_in}
-use Rattle.rnc_grammar.specs.FileTree as tree
-use Rattle.rnc_grammar.specs.Resolved.{each}
-use Rattle.rnc_syntax.specs.Syntax as written
-use Rattle.rnc_syntax.specs.SyntaxView as syntax
+use Rattle.rnc_model.specs.declarations.Declarations.{Scope, ◌>>=◌, class_in, pattern_in, type_in}
+use Rattle.rnc_model.specs.declarations.FileTree as tree
+use Rattle.rnc_grammar.specs.views.Resolved.{each}
+use Rattle.rnc_model.specs.grammar.Syntax as written
+use Rattle.rnc_syntax.specs.views.SyntaxView as syntax
 use Rattle.rnc_grammar.proofs.ResolvedMembers.{choice_in, members_in}
 
 choice_class_view : (all : Vec NameClass Global) → syntax.class_of (classes.Choice all) ≡ written.choice_of (map syntax.class_of all.items)

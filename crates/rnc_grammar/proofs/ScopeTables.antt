@@ -4,8 +4,8 @@ use Rattle.std.proofs.Math.Path.{fun_ext}
 use Rattle.std.proofs.lemmas.Map.Text.{hash_map_updates_str}
 use Rattle.std.specs.HashMap.{HashMap, UpdatesBy, get_by}
 use Rattle.std.specs.Str.{bytes_eq}
-use Rattle.rnc_grammar.specs.Declarations.{with_one}
-use Rattle.rnc_grammar.specs.Resolved.{table_view}
+use Rattle.rnc_model.specs.declarations.Declarations.{with_one}
+use Rattle.rnc_grammar.specs.views.Resolved.{table_view}
 
 seen_either : {A B : Type 0} (view : A → B) (b : Bool) (first second : Option A) → option_map view (cond b first second) ≡ cond b (option_map view first)
     (option_map view second)

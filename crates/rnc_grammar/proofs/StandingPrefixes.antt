@@ -4,15 +4,15 @@ use Rattle.std.proofs.lemmas.Bool.{and_cases, and_left, and_right, true≢false}
 use Rattle.std.proofs.lemmas.List.Folds.{list_all-append}
 use Rattle.std.proofs.Math.Bool.{and-true}
 use Rattle.std.specs.List.{list_all}
-use Rattle.rng_model.specs.Lists.{Among, here, there}
-use Rattle.rnc_syntax.specs.Syntax as syntax
-use Rattle.rnc_grammar.specs.Declarations.{◌>>=◌, Scope, namespace_in, library_in, default_of, name_in, class_in, classes_in, type_in, handed_on, mention_in}
-use Rattle.rnc_grammar.specs.Declarations.{pattern_in, patterns_in, component_in, components_in, body_in}
-use Rattle.rnc_grammar.specs.DeclarationRules.{Declarable, namespace_prefix, datatype_prefix, default_namespace, IsPrefixIn}
-use Rattle.rnc_grammar.specs.DeclarationRules.{prefixes_of_name, prefixes_of_class, prefixes_of_classes, prefixes_of_type, prefixes_of_inherit}
-use Rattle.rnc_grammar.specs.DeclarationRules.{prefixes_of_pattern, prefixes_of_patterns, prefixes_of_component, prefixes_of_components, prefixes_of_body}
-use Rattle.rnc_grammar.specs.FileTree as tree
-use Rattle.rnc_grammar.specs.FileTree.{Namespace, given}
+use Rattle.rng_model.specs.names.Lists.{Among, here, there}
+use Rattle.rnc_model.specs.grammar.Syntax as syntax
+use Rattle.rnc_model.specs.declarations.Declarations.{◌>>=◌, Scope, namespace_in, library_in, default_of, name_in, class_in, classes_in, type_in, handed_on, mention_in}
+use Rattle.rnc_model.specs.declarations.Declarations.{pattern_in, patterns_in, component_in, components_in, body_in}
+use Rattle.rnc_model.specs.declarations.DeclarationRules.{Declarable, namespace_prefix, datatype_prefix, default_namespace, IsPrefixIn}
+use Rattle.rnc_model.specs.declarations.DeclarationRules.{prefixes_of_name, prefixes_of_class, prefixes_of_classes, prefixes_of_type, prefixes_of_inherit}
+use Rattle.rnc_model.specs.declarations.DeclarationRules.{prefixes_of_pattern, prefixes_of_patterns, prefixes_of_component, prefixes_of_components, prefixes_of_body}
+use Rattle.rnc_model.specs.declarations.FileTree as tree
+use Rattle.rnc_model.specs.declarations.FileTree.{Namespace, given}
 
 -- ---- parts that there may be
 

@@ -1,9 +1,1 @@
-pub mod FileTree
-pub mod Mentions
-pub mod View
-pub mod Declarations
-pub mod DeclarationRules
-pub mod Parsing
-pub mod Fault
-pub mod Resolved
-pub use Rattle.rnc_syntax.specs.Lexeme
+pub mod views

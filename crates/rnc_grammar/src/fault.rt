@@ -1,6 +1,6 @@
 // Why tokens have no file tree.
 ghost use Rattle.std.specs.Prelude.{◌≡◌};
-ghost use Rattle.rnc_grammar.specs.Fault.{fault_of};
+ghost use Rattle.rnc_grammar.specs.views.Fault.{fault_of};
 
 use rnc_syntax::SyntaxFault;
 

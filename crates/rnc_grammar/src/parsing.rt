@@ -1,24 +1,19 @@
 // From the tokens of a schema file to its tree.
 ghost use Rattle.std.specs.Prelude.{◌≡◌, ℕ, Err, IfErr, IfOk, Ok, map};
 ghost use Rattle.std.specs.List.Sorted.{IsStrictlyIncreasing};
-ghost use Rattle.rnc_grammar.specs.Declarations as declarations;
-ghost use Rattle.rnc_grammar.specs.Fault.{tree_or_fault};
-ghost use Rattle.rnc_grammar.specs.FileTree as tree;
-ghost use Rattle.rnc_grammar.specs.Mentions.{mention_of, mentions_of};
-ghost use Rattle.rnc_grammar.specs.Parsing.{
-  BreaksDeclarations,
-  BreaksGrammar,
-  BreaksNesting,
-  Gives,
-  IsFaultOf,
-  IsFileTree,
-  unless_memory,
-};
-ghost use Rattle.rnc_grammar.specs.View.{file_of};
+ghost use Rattle.rnc_model.specs.declarations.Declarations as declarations;
+ghost use Rattle.rnc_grammar.specs.views.Fault.{tree_or_fault};
+ghost use Rattle.rnc_model.specs.declarations.FileTree as tree;
+ghost use Rattle.rnc_model.specs.loading.Mentions.{mention_of, mentions_of};
+ghost use Rattle.rnc_model.specs.declarations.Parsing.{BreaksDeclarations, IsFileTree};
+ghost use Rattle.rnc_model.specs.grammar.Sentence.{BreaksGrammar, BreaksNesting};
+ghost use Rattle.rng_model.specs.plain.Answers.{Gives};
+ghost use Rattle.rnc_grammar.specs.views.ParsingFaults.{IsFaultOf, unless_memory};
+ghost use Rattle.rnc_grammar.specs.views.View.{file_of};
 ghost use Rattle.rnc_grammar.specs.declared.fault.ParseFault.TheVariants as faults;
-ghost use Rattle.rnc_syntax.specs.Lexeme.{lexemes};
-ghost use Rattle.rnc_syntax.specs.SyntaxView as syntax;
-ghost use Rattle.rnc_text.specs.Cut.{tokens_of};
+ghost use Rattle.rnc_model.specs.tokens.Lexeme.{lexemes};
+ghost use Rattle.rnc_syntax.specs.views.SyntaxView as syntax;
+ghost use Rattle.rnc_model.specs.tokens.Cut.{tokens_of};
 
 use crate::fault::ParseFault;
 use crate::file_tree::FileTree;

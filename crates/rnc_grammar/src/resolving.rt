@@ -1,12 +1,12 @@
 // From a syntax tree to the file tree, with declarations applied.
 ghost use Rattle.std.specs.Prelude.{ℕ, List, map, [], Some, option_map, string_bytes};
-ghost use Rattle.rnc_grammar.specs.Declarations as rules;
-ghost use Rattle.rnc_grammar.specs.FileTree as types;
-ghost use Rattle.rnc_grammar.specs.FileTree.{components_of};
-ghost use Rattle.rnc_grammar.specs.Resolved.{Resolves, each, namespace_at, scope_view};
-ghost use Rattle.rnc_syntax.specs.Syntax as written;
-ghost use Rattle.rnc_syntax.specs.SyntaxView as syntax;
-ghost use Rattle.rnc_grammar.specs.View as tree;
+ghost use Rattle.rnc_model.specs.declarations.Declarations as rules;
+ghost use Rattle.rnc_model.specs.declarations.FileTree as types;
+ghost use Rattle.rnc_model.specs.declarations.FileTree.{components_of};
+ghost use Rattle.rnc_grammar.specs.views.Resolved.{Resolves, each, namespace_at, scope_view};
+ghost use Rattle.rnc_model.specs.grammar.Syntax as written;
+ghost use Rattle.rnc_syntax.specs.views.SyntaxView as syntax;
+ghost use Rattle.rnc_grammar.specs.views.View as tree;
 
 use crate::file_tree::{
     Component, Datatype, DatatypeName, DatatypeValue, ExpandedName, FileTree, Mention, NameClass,
@@ -314,7 +314,7 @@ fn scope_of<'a>(
 }
 
 /// The file tree of a syntax tree.
-#[tactic(auto, unfolding(crate::specs::Declarations::file_tree))]
+#[tactic(auto, unfolding(rnc_model::specs::declarations::Declarations::file_tree))]
 pub fn file_tree(alloc: Global, file: &rnc_syntax::File<'_>) -> Result<FileTree, ScopeFault>
     ensures { Resolves tree.file_of result (rules.file_tree (syntax.file_of file.now)) }
 {

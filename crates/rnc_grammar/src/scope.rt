@@ -1,9 +1,9 @@
 // What the declarations of a file declare.
 ghost use Rattle.std.specs.Prelude.{◌≡◌, Some, string_bytes};
-ghost use Rattle.rnc_grammar.specs.Declarations as declarations;
-ghost use Rattle.rnc_grammar.specs.Resolved.{Resolves, scope_view};
-ghost use Rattle.rnc_syntax.specs.SyntaxView as syntax;
-ghost use Rattle.rnc_grammar.specs.View.{namespace_of};
+ghost use Rattle.rnc_model.specs.declarations.Declarations as declarations;
+ghost use Rattle.rnc_grammar.specs.views.Resolved.{Resolves, scope_view};
+ghost use Rattle.rnc_syntax.specs.views.SyntaxView as syntax;
+ghost use Rattle.rnc_grammar.specs.views.View.{namespace_of};
 ghost use Rattle.rnc_grammar.specs.declared.scope.ScopeFault.TheVariants as faults;
 
 use crate::file_tree::Namespace;

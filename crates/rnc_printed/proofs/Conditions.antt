@@ -2,17 +2,18 @@
 use Rattle.std.proofs.Common.{◌≡◌, ◌≢◌, ◌∙◌, ℕ, zero, suc, ◌<◌, ◌^◌, Bool, true, false, List, [], ◌∷◌, ◌++◌, length, flat_map, refl, sym, subst, arith}
 use Rattle.std.specs.List.{AllByRecursion, slice_index_or}
 use Rattle.std.specs.Str.{bytes_eq}
-use Rattle.rng_model.specs.Names.{any_name}
-use Rattle.rng_model.specs.Tree.{Simple, s_not_allowed, s_empty, s_text, s_leaf, s_attribute, s_list, s_data, s_data_except, s_value, s_one_or_more, s_joined}
-use Rattle.rng_model.specs.Table.{Grammar}
-use Rattle.rnc_grammar.specs.Parsing.{nesting_limit, IsFileTree}
-use Rattle.rng_print.specs.Numbering.{has, first_times, IsReached, at_start, in_line}
-use Rattle.rng_print.specs.PrintedText.{Item, element, pattern, same_item, item_of, element_at, parts_of, mentions, IsItemsOf, namespaces_of, namespaces}
-use Rattle.rnc_printed.specs.Printable.{IsPrintableClass, IsPrintableTree, IsPrintable}
-use Rattle.rnc_printed.specs.MarkLexemes.{lexemes_from}
-use Rattle.rnc_printed.specs.PrintedMarks.{marks_of}
-use Rattle.rnc_printed.specs.LinesSyntax as lines
-use Rattle.rnc_printed.specs.LinesTree.{lines_tree}
+use Rattle.rng_model.specs.names.Names.{any_name}
+use Rattle.rng_model.specs.simple.Tree.{Simple, s_not_allowed, s_empty, s_text, s_leaf, s_attribute, s_list, s_data, s_data_except, s_value, s_one_or_more, s_joined}
+use Rattle.rng_model.specs.simple.Table.{Grammar}
+use Rattle.rnc_model.specs.grammar.Sentence.{nesting_limit}
+use Rattle.rnc_model.specs.declarations.Parsing.{IsFileTree}
+use Rattle.rncv_model.specs.printed.Numbering.{has, first_times, IsReached, at_start, in_line}
+use Rattle.rncv_model.specs.printed.PrintedText.{Item, element, pattern, same_item, item_of, element_at, parts_of, mentions, IsItemsOf, namespaces_of, namespaces}
+use Rattle.rnc_printed.specs.plain.Printable.{IsPrintableClass, IsPrintableTree, IsPrintable}
+use Rattle.rnc_printed.specs.plain.MarkLexemes.{lexemes_from}
+use Rattle.rnc_printed.specs.plain.PrintedMarks.{marks_of}
+use Rattle.rnc_printed.specs.plain.LinesSyntax as lines
+use Rattle.rnc_printed.specs.plain.LinesTree.{lines_tree}
 use Rattle.std.proofs.lemmas.Bool.{false≢true}
 use Rattle.rng_print.proofs.Equal.{bytes_exact, bytes_itself}
 use Rattle.rng_print.proofs.Numberings.{AreNew, has_contained, contained_has, has_left, has_right, has_last, and_has_right, and_fresh, fresh_new}

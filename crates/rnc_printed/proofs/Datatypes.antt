@@ -3,10 +3,10 @@ use Rattle.std.proofs.Common.{◌≡◌, ℕ, true, List, refl, sym, subst, code
 use Rattle.std.specs.List.{list_all}
 use Rattle.std.specs.Str.{IsAscii}
 use Rattle.std.proofs.lemmas.Str.{IsUtf8-from_ascii, chars_from_encodes, encodes-IsAscii}
-use Rattle.rng_model.specs.Characters.{is_xml_char, is_ncname}
-use Rattle.rng_model.specs.Datatypes.{BuiltInType, IsType, plain_string_is, plain_token_is, string_is, token_is, ncname_is, nmtoken_is, boolean_is, integer_is}
-use Rattle.rng_model.specs.Datatypes.{IsKnownType}
-use Rattle.rnc_printed.specs.Printable.{IsText, IsName, CanBeNamed}
+use Rattle.rng_model.specs.names.Characters.{is_xml_char, is_ncname}
+use Rattle.rng_model.specs.datatypes.Datatypes.{BuiltInType, IsType, plain_string_is, plain_token_is, string_is, token_is, ncname_is, nmtoken_is, boolean_is, integer_is}
+use Rattle.rng_model.specs.datatypes.Datatypes.{IsKnownType}
+use Rattle.rnc_printed.specs.plain.Printable.{IsText, IsName, CanBeNamed}
 
 pub ascii_text : (w : List ℕ) → IsAscii w → list_all is_xml_char w ≡ true → IsText w
 ascii_text w a h =

@@ -9,11 +9,11 @@ use Rattle.std.proofs.lemmas.Bool.{ne_eqb, le-leb, and_parts, and_from, or_left,
 use Rattle.std.proofs.lemmas.Str.{encode_ascii, encodes-IsAscii}
 use Rattle.std.proofs.lemmas.List.Sums.{prefix_len-le-length}
 use Rattle.std.proofs.lemmas.Fmt.{decimal_by_steps, decimal_is_IsNumeral, IsAscii-decimal}
-use Rattle.rng_model.specs.Characters.{is_ncname, is_name_char, is_name_start, is_colon}
-use Rattle.rnc_text.specs.Tokens.{keyword_of}
-use Rattle.rng_print.specs.Numbering.{has, place_in}
-use Rattle.rng_print.specs.Same.{same_tree}
-use Rattle.rng_print.specs.PrintedText.{Item, element, pattern, element_in, pattern_in, item_name, prefix_of}
+use Rattle.rng_model.specs.names.Characters.{is_ncname, is_name_char, is_name_start, is_colon}
+use Rattle.rnc_model.specs.tokens.Tokens.{keyword_of}
+use Rattle.rncv_model.specs.printed.Numbering.{has, place_in}
+use Rattle.rncv_model.specs.printed.Same.{same_tree}
+use Rattle.rncv_model.specs.printed.PrintedText.{Item, element, pattern, element_in, pattern_in, item_name, prefix_of}
 use Rattle.std.proofs.lemmas.Bool.{false≢true}
 use Rattle.rng_print.proofs.Equal.{bytes_exact, bytes_differ}
 

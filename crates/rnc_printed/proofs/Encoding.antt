@@ -7,10 +7,10 @@ use Rattle.std.specs.Char.{encode_utf8}
 use Rattle.std.proofs.lemmas.Bool.{ne_eqb, eqb-true, and_parts, lt-ltb, le-ltb, ltb-true, ltb-false, and_from}
 use Rattle.std.proofs.lemmas.List.{append-nil}
 use Rattle.std.proofs.lemmas.Str.{encodes-append, encode_ascii}
-use Rattle.rng_model.specs.Characters.{is_xml_char}
-use Rattle.rng_print.specs.PrintedText.{delimiter, with_character, runs_of, escaped}
-use Rattle.rnc_text.specs.Marks.{is_within}
-use Rattle.rnc_text.specs.Tokens.{is_quote}
+use Rattle.rng_model.specs.names.Characters.{is_xml_char}
+use Rattle.rncv_model.specs.printed.PrintedText.{delimiter, with_character, runs_of, escaped}
+use Rattle.rnc_text.specs.plain.Marks.{is_within}
+use Rattle.rnc_model.specs.tokens.Tokens.{is_quote}
 use Rattle.std.proofs.lemmas.Bool.{false≢true}
 
 -- ---- the bytes of a character that is not ASCII

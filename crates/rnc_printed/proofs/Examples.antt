@@ -1,10 +1,10 @@
 -- A grammar that is printable, so that the law speaks of something.
 use Rattle.std.proofs.Common.{[], ◌∷◌, refl, arith, codes, inl, inr, rules}
-use Rattle.rng_model.specs.Names.{name_is}
-use Rattle.rng_model.specs.Patterns.{without_parameters}
-use Rattle.rng_model.specs.Tree.{s_text, s_leaf, s_attribute, s_value, s_joined, group}
-use Rattle.rng_model.specs.Table.{Grammar}
-use Rattle.rnc_printed.specs.Printable.{IsText, IsName, IsPrintable}
+use Rattle.rng_model.specs.names.Names.{name_is}
+use Rattle.rng_model.specs.schema.Patterns.{without_parameters}
+use Rattle.rng_model.specs.simple.Tree.{s_text, s_leaf, s_attribute, s_value, s_joined, group}
+use Rattle.rng_model.specs.simple.Table.{Grammar}
+use Rattle.rnc_printed.specs.plain.Printable.{IsText, IsName, IsPrintable}
 use Rattle.rnc_printed.proofs.Datatypes.{ascii_text, ascii_name}
 
 -- an element `doc` of the namespace `urn:a`, with an attribute `kind` that is `a`, and text

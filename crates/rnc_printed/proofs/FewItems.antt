@@ -1,8 +1,8 @@
 -- A text has more bytes than items and than namespaces.
 use Rattle.std.proofs.Common.{◌≡◌, ap, ℕ, ◌≤◌, ◌<◌, List, [], ◌∷◌, ◌++◌, length, flat_map, codes, arith}
 use Rattle.std.proofs.lemmas.List.{length-append}
-use Rattle.rng_model.specs.Table.{Grammar}
-use Rattle.rng_print.specs.PrintedText.{item_name, item_text, item_line, namespace_line, namespaces, prefix_of, literal, reference, line, text_of, IsPrinted}
+use Rattle.rng_model.specs.simple.Table.{Grammar}
+use Rattle.rncv_model.specs.printed.PrintedText.{item_name, item_text, item_line, namespace_line, namespaces, prefix_of, literal, reference, line, text_of, IsPrinted}
 
 each_longer : {A : Type 0} (f : A → List ℕ) → ((a : A) → 0 < length (f a)) → (xs : List A) → length xs ≤ length (flat_map f xs)
 each_longer f h [] = omega arith

@@ -3,21 +3,21 @@ use Rattle.std.proofs.Common.{◌≡◌, ◌∙◌, ℕ, Bool, true, false, List
 use Rattle.std.specs.Prelude.{◌||◌, cond}
 use Rattle.std.specs.Str.{bytes_eq}
 use Rattle.std.proofs.lemmas.List.{append-nil}
-use Rattle.rng_model.specs.Names.{NameClass, any_name, any_except, ns_name, ns_except, name_is, one_of, NameClasses, no_classes, class_and}
-use Rattle.rng_model.specs.Tree.{Datatype, Connector, choice, group, interleave, Simple, s_not_allowed, s_empty, s_text, s_leaf, s_attribute, s_list, s_data}
-use Rattle.rng_model.specs.Tree.{s_data_except, s_value, s_one_or_more, s_joined}
-use Rattle.rng_model.specs.Table.{Grammar}
-use Rattle.rnc_text.specs.declared.token.Sign.TheVariants as signs
-use Rattle.rng_print.specs.PrintedText as printed
-use Rattle.rng_print.specs.PrintedText.{Item, element, pattern, element_at, item_name, prefix_of, escaped, runs_of, is_choice, is_except, namespaces, run_text}
-use Rattle.rng_print.specs.PrintedText.{more_runs, joined_runs, literal, class_text, classes_text, name_text, type_text, parameter_text, parameters_text}
-use Rattle.rng_print.specs.PrintedText.{datatype_text, reference, connector_text, pattern_text, element_text, item_text, line, namespace_line, item_line, lines}
-use Rattle.rng_print.specs.PrintedText.{text_of}
-use Rattle.rnc_text.specs.Marks.{Mark, space, line_end, word, cname, segment, sign, mark_text, text_of_marks}
-use Rattle.rnc_text.specs.Marks as marks
-use Rattle.rnc_printed.specs.PrintedMarks.{run_mark, joined_run_marks, literal_marks, in_parentheses_if, name_mark, class_marks, classes_marks, type_mark}
-use Rattle.rnc_printed.specs.PrintedMarks.{parameter_marks, parameters_marks, datatype_marks, reference_marks, connector_marks, braced_marks, pattern_marks}
-use Rattle.rnc_printed.specs.PrintedMarks.{item_marks, line_marks, namespace_marks, item_line_marks, lines_marks, marks_of}
+use Rattle.rng_model.specs.names.Names.{NameClass, any_name, any_except, ns_name, ns_except, name_is, one_of, NameClasses, no_classes, class_and}
+use Rattle.rng_model.specs.simple.Tree.{Datatype, Connector, choice, group, interleave, Simple, s_not_allowed, s_empty, s_text, s_leaf, s_attribute, s_list, s_data}
+use Rattle.rng_model.specs.simple.Tree.{s_data_except, s_value, s_one_or_more, s_joined}
+use Rattle.rng_model.specs.simple.Table.{Grammar}
+use Rattle.rnc_model.specs.declared.token.Sign.TheVariants as signs
+use Rattle.rncv_model.specs.printed.PrintedText as printed
+use Rattle.rncv_model.specs.printed.PrintedText.{Item, element, pattern, element_at, item_name, prefix_of, escaped, runs_of, is_choice, is_except, namespaces, run_text}
+use Rattle.rncv_model.specs.printed.PrintedText.{more_runs, joined_runs, literal, class_text, classes_text, name_text, type_text, parameter_text, parameters_text}
+use Rattle.rncv_model.specs.printed.PrintedText.{datatype_text, reference, connector_text, pattern_text, element_text, item_text, line, namespace_line, item_line, lines}
+use Rattle.rncv_model.specs.printed.PrintedText.{text_of}
+use Rattle.rnc_text.specs.plain.Marks.{Mark, space, line_end, word, cname, segment, sign, mark_text, text_of_marks}
+use Rattle.rnc_text.specs.plain.Marks as marks
+use Rattle.rnc_printed.specs.plain.PrintedMarks.{run_mark, joined_run_marks, literal_marks, in_parentheses_if, name_mark, class_marks, classes_marks, type_mark}
+use Rattle.rnc_printed.specs.plain.PrintedMarks.{parameter_marks, parameters_marks, datatype_marks, reference_marks, connector_marks, braced_marks, pattern_marks}
+use Rattle.rnc_printed.specs.plain.PrintedMarks.{item_marks, line_marks, namespace_marks, item_line_marks, lines_marks, marks_of}
 
 pub text_append : (ms ns : List Mark) → text_of_marks escaped (ms ++ ns) ≡ text_of_marks escaped ms ++ text_of_marks escaped ns
 text_append [] ns = refl

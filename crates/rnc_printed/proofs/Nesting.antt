@@ -2,31 +2,31 @@
 use Rattle.std.proofs.Common.{◌≡◌, ◌∙◌, ℕ, suc, zero, ◌+◌, ◌≤◌, Bool, true, false, List, [], ◌∷◌, ◌++◌, take, flat_map, refl, sym, ap, subst, arith, codes}
 use Rattle.std.specs.Prelude.{◌||◌, max}
 use Rattle.std.specs.List.{AllByRecursion}
-use Rattle.rng_model.specs.Names as names
-use Rattle.rng_model.specs.Tree.{Datatype, Connector, choice, group, interleave, Simple, s_not_allowed, s_empty, s_text, s_leaf, s_attribute, s_list, s_data}
-use Rattle.rng_model.specs.Tree.{s_data_except, s_value, s_one_or_more, s_joined}
-use Rattle.rng_model.specs.Table.{Grammar}
-use Rattle.rnc_text.specs.declared.token.Sign.{Sign}
-use Rattle.rnc_text.specs.declared.token.Sign.TheVariants as signs
-use Rattle.rnc_syntax.specs.Lexeme.{Lexeme}
-use Rattle.rnc_syntax.specs.Lexeme as lexeme
-use Rattle.rnc_syntax.specs.Sentence.{is_opening, is_closing, openings, closings, NestsWithin}
-use Rattle.rng_print.specs.PrintedText.{Item, element, pattern, element_at, item_name, prefix_of, is_choice, is_except}
-use Rattle.rnc_text.specs.Marks.{Mark, space, line_end, word, cname, segment, sign}
-use Rattle.rnc_text.specs.Marks as marks
+use Rattle.rng_model.specs.names.Names as names
+use Rattle.rng_model.specs.simple.Tree.{Datatype, Connector, choice, group, interleave, Simple, s_not_allowed, s_empty, s_text, s_leaf, s_attribute, s_list, s_data}
+use Rattle.rng_model.specs.simple.Tree.{s_data_except, s_value, s_one_or_more, s_joined}
+use Rattle.rng_model.specs.simple.Table.{Grammar}
+use Rattle.rnc_model.specs.declared.token.Sign.{Sign}
+use Rattle.rnc_model.specs.declared.token.Sign.TheVariants as signs
+use Rattle.rnc_model.specs.tokens.Lexeme.{Lexeme}
+use Rattle.rnc_model.specs.tokens.Lexeme as lexeme
+use Rattle.rnc_model.specs.grammar.Sentence.{is_opening, is_closing, openings, closings, NestsWithin}
+use Rattle.rncv_model.specs.printed.PrintedText.{Item, element, pattern, element_at, item_name, prefix_of, is_choice, is_except}
+use Rattle.rnc_text.specs.plain.Marks.{Mark, space, line_end, word, cname, segment, sign}
+use Rattle.rnc_text.specs.plain.Marks as marks
 use Rattle.std.specs.Str.{bytes_eq}
 use Rattle.std.proofs.Common.{Option, Some, None}
 use Rattle.std.specs.Prelude.{cond}
-use Rattle.rnc_text.specs.Tokens.{keyword_of, keyword_or_identifier}
-use Rattle.rnc_text.specs.declared.token.Keyword.{Keyword}
-use Rattle.rng_print.specs.PrintedText.{runs_of}
-use Rattle.rnc_printed.specs.Printable.{one_more_if, parentheses, parentheses_among}
-use Rattle.rnc_printed.specs.PrintedMarks.{more_run_marks, joined_run_marks, literal_marks, in_parentheses_if, name_mark, class_marks, classes_marks, type_mark}
-use Rattle.rnc_printed.specs.PrintedMarks.{parameter_marks, parameters_marks, datatype_marks, reference_marks, connector_marks, braced_marks, pattern_marks}
-use Rattle.rnc_printed.specs.PrintedMarks.{item_marks, line_marks, namespace_marks, item_line_marks, lines_marks}
+use Rattle.rnc_model.specs.tokens.Tokens.{keyword_of, keyword_or_identifier}
+use Rattle.rnc_model.specs.declared.token.Keyword.{Keyword}
+use Rattle.rncv_model.specs.printed.PrintedText.{runs_of}
+use Rattle.rnc_printed.specs.plain.Printable.{one_more_if, parentheses, parentheses_among}
+use Rattle.rnc_printed.specs.plain.PrintedMarks.{more_run_marks, joined_run_marks, literal_marks, in_parentheses_if, name_mark, class_marks, classes_marks, type_mark}
+use Rattle.rnc_printed.specs.plain.PrintedMarks.{parameter_marks, parameters_marks, datatype_marks, reference_marks, connector_marks, braced_marks, pattern_marks}
+use Rattle.rnc_printed.specs.plain.PrintedMarks.{item_marks, line_marks, namespace_marks, item_line_marks, lines_marks}
 use Rattle.std.proofs.lemmas.Bool.{false≢true}
 use Rattle.std.proofs.lemmas.List.Sums.{sum_by-cons}
-use Rattle.rnc_printed.specs.MarkLexemes.{word_at, lexemes_from}
+use Rattle.rnc_printed.specs.plain.MarkLexemes.{word_at, lexemes_from}
 
 -- ---- room for brackets
 

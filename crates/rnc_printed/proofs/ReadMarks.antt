@@ -7,21 +7,21 @@ use Rattle.std.specs.Str.{bytes_eq}
 use Rattle.std.proofs.lemmas.Bool.{or_cases, eqb-true, or_right}
 use Rattle.std.proofs.lemmas.Str.{encodes-chars}
 use Rattle.std.specs.Char.{encode_utf8}
-use Rattle.rng_model.specs.Characters.{is_ncname}
-use Rattle.rng_model.specs.Names.{NameClass, any_name, any_except, ns_name, ns_except, name_is, one_of, NameClasses, no_classes, class_and}
-use Rattle.rng_model.specs.Tree.{Datatype, Connector, choice, group, interleave, Simple, s_not_allowed, s_empty, s_text, s_leaf, s_attribute, s_list, s_data}
-use Rattle.rng_model.specs.Tree.{s_data_except, s_value, s_one_or_more, s_joined}
-use Rattle.rng_model.specs.Table.{Grammar}
-use Rattle.rnc_text.specs.declared.token.Sign.TheVariants as signs
-use Rattle.rnc_text.specs.Tokens.{is_quote}
-use Rattle.rng_print.specs.Numbering.{has, with_new, and_new}
-use Rattle.rng_print.specs.PrintedText.{Item, element, pattern, element_at, item_name, prefix_of, runs_of, is_choice, is_except, namespace_of, namespaces_in}
-use Rattle.rng_print.specs.PrintedText.{namespaces_among, namespaces_of, namespaces}
-use Rattle.rnc_printed.specs.Printable.{IsText, IsName, HasNames, HaveNames, CanBeNamed, IsPrintableParameter, IsPrintableType, IsPrintableTree, IsPrintable}
-use Rattle.rnc_text.specs.Marks.{Mark, space, line_end, word, cname, sign, IsMark, is_open, begins_apart}
-use Rattle.rnc_printed.specs.PrintedMarks.{run_mark, more_run_marks, joined_run_marks, literal_marks, in_parentheses_if, name_mark, class_marks, classes_marks}
-use Rattle.rnc_printed.specs.PrintedMarks.{type_mark, parameter_marks, parameters_marks, datatype_marks, reference_marks, connector_marks, braced_marks}
-use Rattle.rnc_printed.specs.PrintedMarks.{pattern_marks, item_marks, line_marks, namespace_marks, item_line_marks, marks_of}
+use Rattle.rng_model.specs.names.Characters.{is_ncname}
+use Rattle.rng_model.specs.names.Names.{NameClass, any_name, any_except, ns_name, ns_except, name_is, one_of, NameClasses, no_classes, class_and}
+use Rattle.rng_model.specs.simple.Tree.{Datatype, Connector, choice, group, interleave, Simple, s_not_allowed, s_empty, s_text, s_leaf, s_attribute, s_list, s_data}
+use Rattle.rng_model.specs.simple.Tree.{s_data_except, s_value, s_one_or_more, s_joined}
+use Rattle.rng_model.specs.simple.Table.{Grammar}
+use Rattle.rnc_model.specs.declared.token.Sign.TheVariants as signs
+use Rattle.rnc_model.specs.tokens.Tokens.{is_quote}
+use Rattle.rncv_model.specs.printed.Numbering.{has, with_new, and_new}
+use Rattle.rncv_model.specs.printed.PrintedText.{Item, element, pattern, element_at, item_name, prefix_of, runs_of, is_choice, is_except, namespace_of, namespaces_in}
+use Rattle.rncv_model.specs.printed.PrintedText.{namespaces_among, namespaces_of, namespaces}
+use Rattle.rnc_printed.specs.plain.Printable.{IsText, IsName, HasNames, HaveNames, CanBeNamed, IsPrintableParameter, IsPrintableType, IsPrintableTree, IsPrintable}
+use Rattle.rnc_text.specs.plain.Marks.{Mark, space, line_end, word, cname, sign, IsMark, is_open, begins_apart}
+use Rattle.rnc_printed.specs.plain.PrintedMarks.{run_mark, more_run_marks, joined_run_marks, literal_marks, in_parentheses_if, name_mark, class_marks, classes_marks}
+use Rattle.rnc_printed.specs.plain.PrintedMarks.{type_mark, parameter_marks, parameters_marks, datatype_marks, reference_marks, connector_marks, braced_marks}
+use Rattle.rnc_printed.specs.plain.PrintedMarks.{pattern_marks, item_marks, line_marks, namespace_marks, item_line_marks, marks_of}
 use Rattle.rng_print.proofs.Numberings.{all_append}
 use Rattle.rnc_printed.proofs.Digits.{item_ncname, prefix_ncname, item_bytes, prefix_bytes}
 use Rattle.rnc_printed.proofs.Encoding.{encoded_run, encoded_runs, IsRun, all_runs}

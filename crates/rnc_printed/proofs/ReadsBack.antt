@@ -1,15 +1,15 @@
 -- The printed text of a printable grammar is read back.
 use Rattle.std.proofs.Common.{ℕ, ◌≤◌, ◌<◌, ◌^◌, List, length, map, sym, subst, arith}
-use Rattle.rng_model.specs.Table.{Grammar}
-use Rattle.rng_print.specs.PrintedText.{Item, IsItemsOf, namespaces, text_of, IsPrinted}
-use Rattle.rnc_text.specs.Decoding.{IsDecoded}
-use Rattle.rnc_text.specs.Cut.{tokens_at}
-use Rattle.rnc_syntax.specs.Lexeme.{Lexeme}
-use Rattle.rnc_grammar.specs.Parsing.{IsFileTree}
-use Rattle.rnc_printed.specs.Printable.{IsPrintable}
-use Rattle.rnc_text.specs.Marks.{characters_of_marks, piece_of_mark, MarksAreCut, MarksAreDecoded}
-use Rattle.rnc_printed.specs.LinesTree.{lines_tree}
-use Rattle.rnc_printed.specs.ReadBack.{IsReadAs}
+use Rattle.rng_model.specs.simple.Table.{Grammar}
+use Rattle.rncv_model.specs.printed.PrintedText.{Item, IsItemsOf, namespaces, text_of, IsPrinted}
+use Rattle.rnc_model.specs.characters.Decoding.{IsDecoded}
+use Rattle.rnc_model.specs.tokens.Cut.{tokens_at}
+use Rattle.rnc_model.specs.tokens.Lexeme.{Lexeme}
+use Rattle.rnc_model.specs.declarations.Parsing.{IsFileTree}
+use Rattle.rnc_printed.specs.plain.Printable.{IsPrintable}
+use Rattle.rnc_text.specs.plain.Marks.{characters_of_marks, piece_of_mark, MarksAreCut, MarksAreDecoded}
+use Rattle.rnc_printed.specs.plain.LinesTree.{lines_tree}
+use Rattle.rnc_printed.specs.views.ReadBack.{IsReadAs}
 use Rattle.rnc_printed.proofs.FewItems.{items_few}
 use Rattle.rnc_printed.proofs.MarksText.{text_is}
 use Rattle.rnc_printed.proofs.Conditions.{items_printable, tokens_read}

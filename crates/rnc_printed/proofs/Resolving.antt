@@ -3,19 +3,19 @@ use Rattle.std.proofs.Common.{◌≡◌, ◌∙◌, ◌⊎◌, inl, inr, ℕ, fa
 use Rattle.std.specs.Prelude.{cond}
 use Rattle.std.specs.List.{AllByRecursion}
 use Rattle.std.specs.Str.{bytes_eq}
-use Rattle.rng_model.specs.Names as names
-use Rattle.rng_model.specs.Tree.{Simple, s_not_allowed, s_empty, s_text, s_leaf, s_attribute, s_list, s_data, s_data_except, s_value, s_one_or_more, s_joined}
-use Rattle.rng_model.specs.Table.{Grammar}
+use Rattle.rng_model.specs.names.Names as names
+use Rattle.rng_model.specs.simple.Tree.{Simple, s_not_allowed, s_empty, s_text, s_leaf, s_attribute, s_list, s_data, s_data_except, s_value, s_one_or_more, s_joined}
+use Rattle.rng_model.specs.simple.Table.{Grammar}
 use Rattle.rng_model.specs.declared.method.Method.TheVariants as methods
-use Rattle.rnc_syntax.specs.Syntax as syntax
-use Rattle.rnc_grammar.specs.FileTree as tree
-use Rattle.rnc_grammar.specs.FileTree.{Namespace, inherited, given}
-use Rattle.rnc_grammar.specs.Declarations.{Scope, class_in, classes_in, pattern_in, components_in, type_in, name_in, namespace_in, default_of}
-use Rattle.rnc_grammar.specs.Declarations.{nothing_declared, declare, declare_all, file_tree}
-use Rattle.rng_print.specs.PrintedText.{Item, element, pattern, element_at, item_name, prefix_of, namespaces_in, namespaces_among, namespace_of, namespaces_of}
-use Rattle.rnc_printed.specs.Printable.{CanBeNamed}
-use Rattle.rnc_printed.specs.LinesSyntax as lines
-use Rattle.rnc_printed.specs.LinesTree as trees
+use Rattle.rnc_model.specs.grammar.Syntax as syntax
+use Rattle.rnc_model.specs.declarations.FileTree as tree
+use Rattle.rnc_model.specs.declarations.FileTree.{Namespace, inherited, given}
+use Rattle.rnc_model.specs.declarations.Declarations.{Scope, class_in, classes_in, pattern_in, components_in, type_in, name_in, namespace_in, default_of}
+use Rattle.rnc_model.specs.declarations.Declarations.{nothing_declared, declare, declare_all, file_tree}
+use Rattle.rncv_model.specs.printed.PrintedText.{Item, element, pattern, element_at, item_name, prefix_of, namespaces_in, namespaces_among, namespace_of, namespaces_of}
+use Rattle.rnc_printed.specs.plain.Printable.{CanBeNamed}
+use Rattle.rnc_printed.specs.plain.LinesSyntax as lines
+use Rattle.rnc_printed.specs.plain.LinesTree as trees
 use Rattle.rng_print.proofs.Equal.{bytes_itself, bytes_other_way}
 use Rattle.rnc_printed.proofs.Sentences.{KnowsType, KnowsTypes, KnowsItem}
 

@@ -3,19 +3,19 @@ use Rattle.std.proofs.Common.{◌≡◌, ◌≢◌, ◌∙◌, ◌⊎◌, inl, i
 use Rattle.std.specs.List.{AllByRecursion}
 use Rattle.std.specs.Str.{bytes_eq}
 use Rattle.std.proofs.lemmas.Bool.{false≢true}
-use Rattle.rng_model.specs.Lists.{Among, here, there}
-use Rattle.rng_model.specs.Names as names
-use Rattle.rng_model.specs.Tree.{Simple, s_not_allowed, s_empty, s_text, s_leaf, s_attribute, s_list, s_data, s_data_except, s_value, s_one_or_more, s_joined}
-use Rattle.rng_model.specs.Table.{Grammar}
+use Rattle.rng_model.specs.names.Lists.{Among, here, there}
+use Rattle.rng_model.specs.names.Names as names
+use Rattle.rng_model.specs.simple.Tree.{Simple, s_not_allowed, s_empty, s_text, s_leaf, s_attribute, s_list, s_data, s_data_except, s_value, s_one_or_more, s_joined}
+use Rattle.rng_model.specs.simple.Table.{Grammar}
 use Rattle.rng_model.specs.declared.method.Method.TheVariants as methods
-use Rattle.rng_print.specs.PrintedText.{Item, element, pattern, element_at, item_name, prefix_of, namespace_of, namespaces_in, namespaces_among, namespaces_of}
-use Rattle.rnc_syntax.specs.Syntax as syntax
-use Rattle.rnc_grammar.specs.DeclarationRules.{Declarable, namespace_prefix, datatype_prefix, declared_in, IsTwiceIn, at_first, later}
-use Rattle.rnc_grammar.specs.DeclarationRules.{BreaksDeclarationRule, namespace_prefix_twice, datatype_prefix_twice, default_namespace_twice, xml_as_another}
-use Rattle.rnc_grammar.specs.DeclarationRules.{xsd_as_another, xmlns_declared, namespace_prefix_undeclared, datatype_prefix_undeclared}
-use Rattle.rnc_grammar.specs.DeclarationRules.{prefixes_of_name, prefixes_of_class, prefixes_of_classes, prefixes_of_type, prefixes_of_pattern}
-use Rattle.rnc_grammar.specs.DeclarationRules.{prefixes_of_components, prefixes_of_body}
-use Rattle.rnc_printed.specs.LinesSyntax as lines
+use Rattle.rncv_model.specs.printed.PrintedText.{Item, element, pattern, element_at, item_name, prefix_of, namespace_of, namespaces_in, namespaces_among, namespaces_of}
+use Rattle.rnc_model.specs.grammar.Syntax as syntax
+use Rattle.rnc_model.specs.declarations.DeclarationRules.{Declarable, namespace_prefix, datatype_prefix, declared_in, IsTwiceIn, at_first, later}
+use Rattle.rnc_model.specs.declarations.DeclarationRules.{BreaksDeclarationRule, namespace_prefix_twice, datatype_prefix_twice, default_namespace_twice, xml_as_another}
+use Rattle.rnc_model.specs.declarations.DeclarationRules.{xsd_as_another, xmlns_declared, namespace_prefix_undeclared, datatype_prefix_undeclared}
+use Rattle.rnc_model.specs.declarations.DeclarationRules.{prefixes_of_name, prefixes_of_class, prefixes_of_classes, prefixes_of_type, prefixes_of_pattern}
+use Rattle.rnc_model.specs.declarations.DeclarationRules.{prefixes_of_components, prefixes_of_body}
+use Rattle.rnc_printed.specs.plain.LinesSyntax as lines
 use Rattle.rng_print.proofs.Equal.{bytes_itself}
 use Rattle.rng_print.proofs.Numberings.{all_append}
 use Rattle.rnc_printed.proofs.Resolving.{Apart, AreApart}

@@ -4,37 +4,37 @@ use Rattle.std.proofs.Common.{append_assoc, codes}
 use Rattle.std.specs.Prelude.{◌||◌, ◌==◌, cond}
 use Rattle.std.specs.List.{AllByRecursion}
 use Rattle.std.proofs.lemmas.List.{append-nil}
-use Rattle.rng_model.specs.Names as names
-use Rattle.rng_model.specs.Tree.{Datatype, Connector, choice, group, interleave, Simple, s_not_allowed, s_empty, s_text, s_leaf, s_attribute, s_list, s_data}
-use Rattle.rng_model.specs.Tree.{s_data_except, s_value, s_one_or_more, s_joined}
-use Rattle.rng_model.specs.Table.{Grammar}
-use Rattle.rnc_text.specs.Tokens.{keyword_of, keyword_or_identifier}
-use Rattle.rnc_text.specs.declared.token.Keyword.{Keyword}
-use Rattle.rnc_text.specs.declared.token.Sign.TheVariants as signs
+use Rattle.rng_model.specs.names.Names as names
+use Rattle.rng_model.specs.simple.Tree.{Datatype, Connector, choice, group, interleave, Simple, s_not_allowed, s_empty, s_text, s_leaf, s_attribute, s_list, s_data}
+use Rattle.rng_model.specs.simple.Tree.{s_data_except, s_value, s_one_or_more, s_joined}
+use Rattle.rng_model.specs.simple.Table.{Grammar}
+use Rattle.rnc_model.specs.tokens.Tokens.{keyword_of, keyword_or_identifier}
+use Rattle.rnc_model.specs.declared.token.Keyword.{Keyword}
+use Rattle.rnc_model.specs.declared.token.Sign.TheVariants as signs
 use Rattle.rng_model.specs.declared.method.Method.TheVariants as methods
-use Rattle.rnc_syntax.specs.Lexeme.{Lexeme, lexeme_at, identifier}
-use Rattle.rnc_syntax.specs.Lexeme as lexeme
-use Rattle.rnc_syntax.specs.Syntax.{NameClass, NameClasses, DatatypeName, Pattern, Component, Declaration, File, string_type, token_type, prefixed_type}
-use Rattle.rnc_syntax.specs.Syntax.{choice_of, classes_of}
-use Rattle.rnc_syntax.specs.Syntax as syntax
-use Rattle.rnc_syntax.specs.Grammar.{word_of, type_of, connector_of, IsLiteral, one_segment, more_segments, AreParameters, no_parameters, and_parameter}
-use Rattle.rnc_syntax.specs.Grammar.{MayBeParameters, without_parameters, with_parameters, IsClass, basic_class, choice_class, AreMoreClasses, last_class}
-use Rattle.rnc_syntax.specs.Grammar.{more_classes, IsBasic, annotated_basic, MayBeAnnotation, without_annotation, IsBareBasic, IsBarePrimary}
-use Rattle.rnc_syntax.specs.Grammar.{annotated_primary, IsBareComponent, annotated_component, word_class, cname_class, ns_class, any_class, class_in_parens}
-use Rattle.rnc_syntax.specs.Grammar.{content, IsPattern, one_particle, particles, AreMore, last_particle, IsParticle, once, IsPrimary, IsBraced, in_braces}
-use Rattle.rnc_syntax.specs.Grammar.{AreComponents, no_components, and_component, IsComponent, IsUri, IsDeclaration, AreDeclarations, no_declarations}
-use Rattle.rnc_syntax.specs.Grammar.{and_declaration, IsBody, grammar_body, IsFile}
-use Rattle.rnc_syntax.specs.Grammar as grammar
-use Rattle.rng_print.specs.PrintedText.{Item, element, pattern, element_at, item_name, prefix_of, runs_of, with_character, delimiter, is_choice, is_except}
-use Rattle.rnc_text.specs.Marks.{Mark, space, line_end, word, cname, segment, sign}
-use Rattle.rnc_text.specs.Marks as marks
-use Rattle.rnc_printed.specs.MarkLexemes.{word_at, lexemes_from, place_behind}
-use Rattle.rnc_printed.specs.PrintedMarks.{joined_run_marks, literal_marks, in_parentheses_if, name_mark, class_marks, classes_marks, type_mark}
-use Rattle.rnc_printed.specs.PrintedMarks.{parameter_marks, parameters_marks, datatype_marks, reference_marks, connector_marks, braced_marks, pattern_marks}
-use Rattle.rnc_printed.specs.PrintedMarks.{item_marks, line_marks, namespace_marks, item_line_marks, lines_marks}
-use Rattle.rnc_printed.specs.Printable.{CanBeNamed}
-use Rattle.rnc_printed.specs.LinesSyntax.{list_of, members_in, written_name, class_of, reference_of, pattern_of, item_pattern, components, declarations, file}
-use Rattle.rnc_printed.specs.LinesSyntax as lines
+use Rattle.rnc_model.specs.tokens.Lexeme.{Lexeme, lexeme_at, identifier}
+use Rattle.rnc_model.specs.tokens.Lexeme as lexeme
+use Rattle.rnc_model.specs.grammar.Syntax.{NameClass, NameClasses, DatatypeName, Pattern, Component, Declaration, File, string_type, token_type, prefixed_type}
+use Rattle.rnc_model.specs.grammar.Syntax.{choice_of, classes_of}
+use Rattle.rnc_model.specs.grammar.Syntax as syntax
+use Rattle.rnc_model.specs.grammar.Grammar.{word_of, type_of, connector_of, IsLiteral, one_segment, more_segments, AreParameters, no_parameters, and_parameter}
+use Rattle.rnc_model.specs.grammar.Grammar.{MayBeParameters, without_parameters, with_parameters, IsClass, basic_class, choice_class, AreMoreClasses, last_class}
+use Rattle.rnc_model.specs.grammar.Grammar.{more_classes, IsBasic, annotated_basic, MayBeAnnotation, without_annotation, IsBareBasic, IsBarePrimary}
+use Rattle.rnc_model.specs.grammar.Grammar.{annotated_primary, IsBareComponent, annotated_component, word_class, cname_class, ns_class, any_class, class_in_parens}
+use Rattle.rnc_model.specs.grammar.Grammar.{content, IsPattern, one_particle, particles, AreMore, last_particle, IsParticle, once, IsPrimary, IsBraced, in_braces}
+use Rattle.rnc_model.specs.grammar.Grammar.{AreComponents, no_components, and_component, IsComponent, IsUri, IsDeclaration, AreDeclarations, no_declarations}
+use Rattle.rnc_model.specs.grammar.Grammar.{and_declaration, IsBody, grammar_body, IsFile}
+use Rattle.rnc_model.specs.grammar.Grammar as grammar
+use Rattle.rncv_model.specs.printed.PrintedText.{Item, element, pattern, element_at, item_name, prefix_of, runs_of, with_character, delimiter, is_choice, is_except}
+use Rattle.rnc_text.specs.plain.Marks.{Mark, space, line_end, word, cname, segment, sign}
+use Rattle.rnc_text.specs.plain.Marks as marks
+use Rattle.rnc_printed.specs.plain.MarkLexemes.{word_at, lexemes_from, place_behind}
+use Rattle.rnc_printed.specs.plain.PrintedMarks.{joined_run_marks, literal_marks, in_parentheses_if, name_mark, class_marks, classes_marks, type_mark}
+use Rattle.rnc_printed.specs.plain.PrintedMarks.{parameter_marks, parameters_marks, datatype_marks, reference_marks, connector_marks, braced_marks, pattern_marks}
+use Rattle.rnc_printed.specs.plain.PrintedMarks.{item_marks, line_marks, namespace_marks, item_line_marks, lines_marks}
+use Rattle.rnc_printed.specs.plain.Printable.{CanBeNamed}
+use Rattle.rnc_printed.specs.plain.LinesSyntax.{list_of, members_in, written_name, class_of, reference_of, pattern_of, item_pattern, components, declarations, file}
+use Rattle.rnc_printed.specs.plain.LinesSyntax as lines
 
 -- ---- marks one after the other
 

@@ -1,6 +1,2 @@
-pub mod Printable
-pub mod LinesTree
-pub mod PrintedMarks
-pub mod MarkLexemes
-pub mod LinesSyntax
-pub mod ReadBack
+pub mod plain
+pub mod views

@@ -15,12 +15,12 @@
 #![tactic(auto)]
 
 ghost use Rattle.std.specs.Prelude.{◌≤◌, ℕ, List, length};
-ghost use Rattle.rng_model.specs.Datatypes.{IsKnownType};
-ghost use Rattle.rng_model.specs.Table.{Grammar};
-ghost use Rattle.rng_print.specs.PrintedText.{IsPrinted};
-ghost use Rattle.rnc_printed.specs.LinesTree.{lines_tree};
-ghost use Rattle.rnc_printed.specs.Printable.{CanBeNamed, IsPrintable};
-ghost use Rattle.rnc_printed.specs.ReadBack.{IsReadAs};
+ghost use Rattle.rng_model.specs.datatypes.Datatypes.{IsKnownType};
+ghost use Rattle.rng_model.specs.simple.Table.{Grammar};
+ghost use Rattle.rncv_model.specs.printed.PrintedText.{IsPrinted};
+ghost use Rattle.rnc_printed.specs.plain.LinesTree.{lines_tree};
+ghost use Rattle.rnc_printed.specs.plain.Printable.{CanBeNamed, IsPrintable};
+ghost use Rattle.rnc_printed.specs.views.ReadBack.{IsReadAs};
 
 use rnc_text::marks_laws;
 

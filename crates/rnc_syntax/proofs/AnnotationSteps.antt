@@ -5,11 +5,12 @@ use Rattle.rnc_syntax.specs.declared.annotations.Role.TheVariants as roles
 use Rattle.rnc_syntax.specs.declared.fault.ReadFault.{ReadFault}
 use Rattle.rnc_syntax.specs.declared.fault.ReadFault.TheVariants as read_faults
 use Rattle.rnc_syntax.specs.declared.fault.Stop.TheVariants.{Unexpected}
-use Rattle.rnc_syntax.specs.Lexeme.{Lexeme}
-use Rattle.rnc_syntax.specs.Combinators.{Outcome, unexpected}
-use Rattle.rnc_syntax.specs.Fault.{Refuses, stop_of}
+use Rattle.rnc_model.specs.tokens.Lexeme.{Lexeme}
+use Rattle.rnc_syntax.specs.plain.Combinators.{Outcome, unexpected}
+use Rattle.rng_model.specs.plain.Answers.{Refuses}
+use Rattle.rnc_syntax.specs.views.Fault.{stop_of}
 use Rattle.rnc_syntax.proofs.Soundness.{some_is}
-use Rattle.rnc_syntax.specs.Productions.{role_of, role_front, by_role, one_less, annotation_end}
+use Rattle.rnc_syntax.specs.plain.Productions.{role_of, role_front, by_role, one_less, annotation_end}
 
 -- what follows a token of this role, with so many annotations open
 abbrev pub onwards : Role → ℕ → List Lexeme → List Lexeme → Outcome (Unit {0})

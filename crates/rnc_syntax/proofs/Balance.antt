@@ -4,20 +4,20 @@ use Rattle.std.proofs.Common.{◌∙◌, arith}
 use Rattle.std.proofs.lemmas.List.{take-append-le, take_min}
 use Rattle.std.proofs.lemmas.List.Sums.{sum_by-cons, sum_by-append}
 use Rattle.std.proofs.Math.Seq.{take-append-add}
-use Rattle.rng_model.specs.Tree.{Connector}
-use Rattle.rnc_text.specs.declared.token.Keyword.TheVariants as keywords
-use Rattle.rnc_text.specs.declared.token.Sign.{Sign}
-use Rattle.rnc_text.specs.declared.token.Sign.TheVariants.{Equal, BarEqual, AndEqual, Comma, Bar, And, Question, Star, Plus, Minus, OpenBrace, CloseBrace}
-use Rattle.rnc_text.specs.declared.token.Sign.TheVariants.{OpenParenthesis, CloseParenthesis, OpenBracket, CloseBracket, Tilde}
+use Rattle.rng_model.specs.simple.Tree.{Connector}
+use Rattle.rnc_model.specs.declared.token.Keyword.TheVariants as keywords
+use Rattle.rnc_model.specs.declared.token.Sign.{Sign}
+use Rattle.rnc_model.specs.declared.token.Sign.TheVariants.{Equal, BarEqual, AndEqual, Comma, Bar, And, Question, Star, Plus, Minus, OpenBrace, CloseBrace}
+use Rattle.rnc_model.specs.declared.token.Sign.TheVariants.{OpenParenthesis, CloseParenthesis, OpenBracket, CloseBracket, Tilde}
 use Rattle.rng_model.specs.declared.method.Method.{Method}
-use Rattle.rnc_syntax.specs.Lexeme.{Lexeme, keyword, identifier, cname, ns_name, segment, sign}
-use Rattle.rnc_syntax.specs.Syntax.{NameClass, DatatypeName, Pattern, Component, Uri, Declaration}
-use Rattle.rnc_syntax.specs.Grammar as grammar
-use Rattle.rnc_syntax.specs.Grammar.{word_of, type_of, method_of, connector_of, Setting, IsLiteral, AreParameters, MayBeParameters, MayInherit, IsClass}
-use Rattle.rnc_syntax.specs.Grammar.{AreMoreClasses, IsBasic, IsPattern, AreMore, IsParticle, IsPrimary, IsBraced, AreComponents, IsComponent, MayOverride}
-use Rattle.rnc_syntax.specs.Grammar.{is_bracket, IsAnnotationContent, MayBeAnnotation, IsBareBasic, IsBarePrimary, IsBareComponent, IsUri, IsDeclaration}
-use Rattle.rnc_syntax.specs.Grammar.{AreDeclarations}
-use Rattle.rnc_syntax.specs.Sentence.{is_opening, is_closing, openings, closings, NestsWithin}
+use Rattle.rnc_model.specs.tokens.Lexeme.{Lexeme, keyword, identifier, cname, ns_name, segment, sign}
+use Rattle.rnc_model.specs.grammar.Syntax.{NameClass, DatatypeName, Pattern, Component, Uri, Declaration}
+use Rattle.rnc_model.specs.grammar.Grammar as grammar
+use Rattle.rnc_model.specs.grammar.Grammar.{word_of, type_of, method_of, connector_of, Setting, IsLiteral, AreParameters, MayBeParameters, MayInherit, IsClass}
+use Rattle.rnc_model.specs.grammar.Grammar.{AreMoreClasses, IsBasic, IsPattern, AreMore, IsParticle, IsPrimary, IsBraced, AreComponents, IsComponent, MayOverride}
+use Rattle.rnc_model.specs.grammar.Grammar.{is_bracket, IsAnnotationContent, MayBeAnnotation, IsBareBasic, IsBarePrimary, IsBareComponent, IsUri, IsDeclaration}
+use Rattle.rnc_model.specs.grammar.Grammar.{AreDeclarations}
+use Rattle.rnc_model.specs.grammar.Sentence.{is_opening, is_closing, openings, closings, NestsWithin}
 
 -- as many brackets are closed as are opened
 abbrev pub Balanced : List Lexeme → Type 0

@@ -1,15 +1,15 @@
 -- What is in the grammar and nests within a limit is read, whatever follows: name classes.
 use Rattle.std.proofs.Common.{◌≡◌, ℕ, zero, suc, ◌<◌, List, [], ◌∷◌, ◌++◌, length, Some, None, Ok, refl, sym, ap, subst, ◌∙◌, append_assoc, arith}
 use Rattle.std.proofs.lemmas.List.{length-append}
-use Rattle.rnc_text.specs.declared.token.Sign.TheVariants.{Bar, Star, Minus, OpenParenthesis, CloseParenthesis}
-use Rattle.rnc_syntax.specs.Lexeme.{Lexeme, keyword, identifier, cname, ns_name, sign}
-use Rattle.rnc_syntax.specs.Syntax as syntax
-use Rattle.rnc_syntax.specs.Syntax.{NameClass}
-use Rattle.rnc_syntax.specs.Grammar as grammar
-use Rattle.rnc_syntax.specs.Grammar.{word_of, IsClass, AreMoreClasses, IsBasic, IsBareBasic}
-use Rattle.rnc_syntax.specs.Combinators.{Outcome, follow, after, many}
-use Rattle.rnc_syntax.specs.Productions.{class_in_parens, bare_basic_with, basic_with, choice_with, except_front, bare_class_with, class_with, inside_at}
-use Rattle.rnc_syntax.specs.Sentence.{NestsWithin}
+use Rattle.rnc_model.specs.declared.token.Sign.TheVariants.{Bar, Star, Minus, OpenParenthesis, CloseParenthesis}
+use Rattle.rnc_model.specs.tokens.Lexeme.{Lexeme, keyword, identifier, cname, ns_name, sign}
+use Rattle.rnc_model.specs.grammar.Syntax as syntax
+use Rattle.rnc_model.specs.grammar.Syntax.{NameClass}
+use Rattle.rnc_model.specs.grammar.Grammar as grammar
+use Rattle.rnc_model.specs.grammar.Grammar.{word_of, IsClass, AreMoreClasses, IsBasic, IsBareBasic}
+use Rattle.rnc_syntax.specs.plain.Combinators.{Outcome, follow, after, many}
+use Rattle.rnc_syntax.specs.plain.Productions.{class_in_parens, bare_basic_with, basic_with, choice_with, except_front, bare_class_with, class_with, inside_at}
+use Rattle.rnc_model.specs.grammar.Sentence.{NestsWithin}
 use Rattle.rnc_syntax.proofs.Balance.{plain, parens, first_within, second_within, behind_within, inside_within, none_within, annotation_even, basic_even}
 use Rattle.rnc_syntax.proofs.CompletenessAnnotations.{StandsAlone, annotated_parts, annotated_behind, annotated_read}
 use Rattle.rnc_syntax.proofs.Completeness.{Manys, manys_end, manys_more, manys_read}

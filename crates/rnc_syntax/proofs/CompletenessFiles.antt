@@ -2,24 +2,24 @@
 use Rattle.std.proofs.Common.{◌≡◌, ℕ, ◌<◌, Bool, true, false, List, [], ◌∷◌, ◌++◌, length, Option, Some, None, Result, Ok, refl, sym, ap, subst, ◌∙◌}
 use Rattle.std.proofs.Common.{append_assoc, arith}
 use Rattle.std.proofs.lemmas.List.{length-append, append-nil}
-use Rattle.rnc_text.specs.declared.token.Keyword.TheVariants as keywords
+use Rattle.rnc_model.specs.declared.token.Keyword.TheVariants as keywords
 use Rattle.rng_model.specs.declared.method.Method.{Method}
-use Rattle.rnc_text.specs.declared.token.Sign.TheVariants.{Equal, BarEqual, AndEqual, Question, Star, Plus, Minus, OpenBracket, CloseBracket}
-use Rattle.rnc_text.specs.declared.token.Sign.TheVariants.{Tilde}
+use Rattle.rnc_model.specs.declared.token.Sign.TheVariants.{Equal, BarEqual, AndEqual, Question, Star, Plus, Minus, OpenBracket, CloseBracket}
+use Rattle.rnc_model.specs.declared.token.Sign.TheVariants.{Tilde}
 use Rattle.rnc_syntax.specs.declared.fault.Stop.{Stop}
-use Rattle.rnc_syntax.specs.Lexeme.{Lexeme, Spelling, keyword, identifier, cname, segment, sign}
-use Rattle.rnc_syntax.specs.Syntax as syntax
-use Rattle.rnc_syntax.specs.Syntax.{DatatypeName, Pattern, Component, Uri, Declaration, Body, File}
-use Rattle.rnc_syntax.specs.Grammar as grammar
-use Rattle.rnc_syntax.specs.Grammar.{content, word_of, type_of, method_of, IsAnnotationContent, MayBeAnnotation, IsLiteral, IsPattern, IsParticle, IsPrimary}
-use Rattle.rnc_syntax.specs.Grammar.{IsBarePrimary, AreComponents, IsBareComponent}
-use Rattle.rnc_syntax.specs.Grammar.{IsComponent, IsUri, IsDeclaration, AreDeclarations, IsBody, IsFile}
-use Rattle.rnc_syntax.specs.Combinators.{Outcome, ◌>>=◌, follow, after, after_keyword, many}
-use Rattle.rnc_syntax.specs.Productions.{annotation_end, annotation_at, literal_at, parameter_at, bare_primary_with, atom_at, other_at, rest_with}
-use Rattle.rnc_syntax.specs.Productions.{bare_pattern_with, pattern_with, bare_component_with, components_with, inside_at, uri_at, prefix_at, default_at}
-use Rattle.rnc_syntax.specs.Productions.{declaration_at, bare_body_with, annotated_body_with}
-use Rattle.rnc_syntax.specs.Productions.{declaration_front, is_grammar_body, body_with, declarations_at, file_with}
-use Rattle.rnc_syntax.specs.Sentence.{NestsWithin}
+use Rattle.rnc_model.specs.tokens.Lexeme.{Lexeme, Spelling, keyword, identifier, cname, segment, sign}
+use Rattle.rnc_model.specs.grammar.Syntax as syntax
+use Rattle.rnc_model.specs.grammar.Syntax.{DatatypeName, Pattern, Component, Uri, Declaration, Body, File}
+use Rattle.rnc_model.specs.grammar.Grammar as grammar
+use Rattle.rnc_model.specs.grammar.Grammar.{content, word_of, type_of, method_of, IsAnnotationContent, MayBeAnnotation, IsLiteral, IsPattern, IsParticle, IsPrimary}
+use Rattle.rnc_model.specs.grammar.Grammar.{IsBarePrimary, AreComponents, IsBareComponent}
+use Rattle.rnc_model.specs.grammar.Grammar.{IsComponent, IsUri, IsDeclaration, AreDeclarations, IsBody, IsFile}
+use Rattle.rnc_syntax.specs.plain.Combinators.{Outcome, ◌>>=◌, follow, after, after_keyword, many}
+use Rattle.rnc_syntax.specs.plain.Productions.{annotation_end, annotation_at, literal_at, parameter_at, bare_primary_with, atom_at, other_at, rest_with}
+use Rattle.rnc_syntax.specs.plain.Productions.{bare_pattern_with, pattern_with, bare_component_with, components_with, inside_at, uri_at, prefix_at, default_at}
+use Rattle.rnc_syntax.specs.plain.Productions.{declaration_at, bare_body_with, annotated_body_with}
+use Rattle.rnc_syntax.specs.plain.Productions.{declaration_front, is_grammar_body, body_with, declarations_at, file_with}
+use Rattle.rnc_model.specs.grammar.Sentence.{NestsWithin}
 use Rattle.rnc_syntax.proofs.Balance.{first_within, second_within, annotation_even, component_even, declarations_even, length_within}
 use Rattle.rnc_syntax.proofs.Soundness.{bind_ok, ok_is}
 use Rattle.rnc_syntax.proofs.CompletenessAnnotations.{end_read, annotated_is}

@@ -2,27 +2,27 @@
 use Rattle.std.proofs.Common.{◌≡◌, ℕ, zero, suc, ◌<◌, Bool, true, false, List, [], ◌∷◌, ◌++◌, length, Some, None, Ok, refl, sym, ap, subst, ◌∙◌, append_assoc}
 use Rattle.std.proofs.Common.{arith, ◌⊎◌, inl, inr}
 use Rattle.std.proofs.lemmas.List.{length-append}
-use Rattle.rng_model.specs.Tree.{Connector, choice, group, interleave}
-use Rattle.rnc_text.specs.declared.token.Keyword.TheVariants as keywords
-use Rattle.rnc_text.specs.declared.token.Sign.{Sign}
-use Rattle.rnc_text.specs.declared.token.Sign.TheVariants.{Equal, BarEqual, AndEqual, Comma, Bar, And, Question, Star, Plus, Minus, OpenBrace, CloseBrace}
-use Rattle.rnc_text.specs.declared.token.Sign.TheVariants.{OpenParenthesis, CloseParenthesis, OpenBracket, CloseBracket, Tilde}
+use Rattle.rng_model.specs.simple.Tree.{Connector, choice, group, interleave}
+use Rattle.rnc_model.specs.declared.token.Keyword.TheVariants as keywords
+use Rattle.rnc_model.specs.declared.token.Sign.{Sign}
+use Rattle.rnc_model.specs.declared.token.Sign.TheVariants.{Equal, BarEqual, AndEqual, Comma, Bar, And, Question, Star, Plus, Minus, OpenBrace, CloseBrace}
+use Rattle.rnc_model.specs.declared.token.Sign.TheVariants.{OpenParenthesis, CloseParenthesis, OpenBracket, CloseBracket, Tilde}
 use Rattle.rng_model.specs.declared.method.Method.{Method}
 use Rattle.rng_model.specs.declared.method.Method.TheVariants as methods
-use Rattle.rnc_syntax.specs.Lexeme.{Lexeme, Spelling, keyword, identifier, cname, segment, sign}
-use Rattle.rnc_syntax.specs.Syntax as syntax
-use Rattle.rnc_syntax.specs.Syntax.{NameClass, DatatypeName, Mention, Pattern, Component}
-use Rattle.rnc_syntax.specs.Grammar as grammar
-use Rattle.rnc_syntax.specs.Grammar.{Setting, content, override, type_of, method_of, connector_of, IsLiteral, MayBeParameters, IsClass, IsPattern, AreMore}
-use Rattle.rnc_syntax.specs.Grammar.{IsParticle, IsPrimary, IsBarePrimary, IsBraced, AreComponents, IsComponent, IsBareComponent, MayOverride}
-use Rattle.rnc_syntax.specs.Grammar.{MayBeAnnotation}
-use Rattle.rnc_syntax.specs.Combinators.{follow, follow_keyword, after, identifier_at, many}
-use Rattle.rnc_syntax.specs.Productions.{literal_at, parameters_at, mention_at, braced_with, contents_with, named_with, begins_segment, typed_at, type_front}
-use Rattle.rnc_syntax.specs.Productions.{other_at, atom_at, parens_with, opened_with, bare_primary_with, primary_with, repeated, particle_with, separator_of}
-use Rattle.rnc_syntax.specs.Productions.{joined, rest_with}
-use Rattle.rnc_syntax.specs.Productions.{pattern_from, data_front, data_with, bare_pattern_with, pattern_with, method_at, overrides_with, component_front}
-use Rattle.rnc_syntax.specs.Productions.{assigned_at, bare_component_with, component_with, components_with, inside_at}
-use Rattle.rnc_syntax.specs.Sentence.{NestsWithin}
+use Rattle.rnc_model.specs.tokens.Lexeme.{Lexeme, Spelling, keyword, identifier, cname, segment, sign}
+use Rattle.rnc_model.specs.grammar.Syntax as syntax
+use Rattle.rnc_model.specs.grammar.Syntax.{NameClass, DatatypeName, Mention, Pattern, Component}
+use Rattle.rnc_model.specs.grammar.Grammar as grammar
+use Rattle.rnc_model.specs.grammar.Grammar.{Setting, content, override, type_of, method_of, connector_of, IsLiteral, MayBeParameters, IsClass, IsPattern, AreMore}
+use Rattle.rnc_model.specs.grammar.Grammar.{IsParticle, IsPrimary, IsBarePrimary, IsBraced, AreComponents, IsComponent, IsBareComponent, MayOverride}
+use Rattle.rnc_model.specs.grammar.Grammar.{MayBeAnnotation}
+use Rattle.rnc_syntax.specs.plain.Combinators.{follow, follow_keyword, after, identifier_at, many}
+use Rattle.rnc_syntax.specs.plain.Productions.{literal_at, parameters_at, mention_at, braced_with, contents_with, named_with, begins_segment, typed_at, type_front}
+use Rattle.rnc_syntax.specs.plain.Productions.{other_at, atom_at, parens_with, opened_with, bare_primary_with, primary_with, repeated, particle_with, separator_of}
+use Rattle.rnc_syntax.specs.plain.Productions.{joined, rest_with}
+use Rattle.rnc_syntax.specs.plain.Productions.{pattern_from, data_front, data_with, bare_pattern_with, pattern_with, method_at, overrides_with, component_front}
+use Rattle.rnc_syntax.specs.plain.Productions.{assigned_at, bare_component_with, component_with, components_with, inside_at}
+use Rattle.rnc_model.specs.grammar.Sentence.{NestsWithin}
 use Rattle.rnc_syntax.proofs.Balance.{Plain, plain, braces, parens, first_within, second_within, behind_within, inside_within, none_within, plain_type}
 use Rattle.rnc_syntax.proofs.Balance.{plain_method, plain_connector, annotation_even, literal_even, may_parameters_even, may_inherit_even, class_even}
 use Rattle.rnc_syntax.proofs.Balance.{particle_even, component_even}

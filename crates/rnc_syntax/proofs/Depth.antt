@@ -2,35 +2,35 @@
 use Rattle.std.proofs.Common.{◌≡◌, ℕ, zero, suc, ◌+◌, ◌<◌, ◌≤◌, Bool, true, false, cond, List, [], ◌∷◌, length, take, Option, Some, None, Result, Ok, Err, refl}
 use Rattle.std.proofs.Common.{sym, ap, subst, ◌∙◌, arith}
 use Rattle.std.proofs.lemmas.List.Sums.{sum_by-cons}
-use Rattle.rnc_text.specs.declared.token.Keyword.{Keyword}
-use Rattle.rnc_text.specs.declared.token.Keyword.TheVariants as keywords
-use Rattle.rnc_text.specs.declared.token.Sign.{Sign}
-use Rattle.rnc_text.specs.declared.token.Sign.TheVariants.{Equal, BarEqual, AndEqual, Comma, Bar, And, Question, Star, Plus, Minus, OpenBrace, CloseBrace}
-use Rattle.rnc_text.specs.declared.token.Sign.TheVariants.{OpenParenthesis, CloseParenthesis, OpenBracket, Tilde}
+use Rattle.rnc_model.specs.declared.token.Keyword.{Keyword}
+use Rattle.rnc_model.specs.declared.token.Keyword.TheVariants as keywords
+use Rattle.rnc_model.specs.declared.token.Sign.{Sign}
+use Rattle.rnc_model.specs.declared.token.Sign.TheVariants.{Equal, BarEqual, AndEqual, Comma, Bar, And, Question, Star, Plus, Minus, OpenBrace, CloseBrace}
+use Rattle.rnc_model.specs.declared.token.Sign.TheVariants.{OpenParenthesis, CloseParenthesis, OpenBracket, Tilde}
 use Rattle.rnc_syntax.specs.declared.annotations.Role.{Role}
 use Rattle.rnc_syntax.specs.declared.annotations.Role.TheVariants as roles
 use Rattle.rng_model.specs.declared.method.Method.{Method}
 use Rattle.rnc_syntax.specs.declared.fault.Stop.{Stop}
 use Rattle.rnc_syntax.specs.declared.fault.Stop.TheVariants.{Unexpected, TooDeep}
-use Rattle.rnc_syntax.specs.Lexeme.{Lexeme, Spelling, keyword, identifier, cname, ns_name, segment, sign}
-use Rattle.rnc_syntax.specs.Syntax as syntax
-use Rattle.rnc_syntax.specs.Syntax.{NameClass, DatatypeName, Pattern, Component, Uri, Declaration, File}
-use Rattle.rnc_syntax.specs.Grammar as grammar
-use Rattle.rnc_syntax.specs.Grammar.{Setting, content, override, IsBasic, IsParticle, IsComponent, IsDeclaration, method_of, MayBeParameters, IsPrimary}
-use Rattle.rnc_syntax.specs.Grammar.{MayBeAnnotation, IsClass}
-use Rattle.rnc_syntax.specs.Combinators.{Outcome, ◌>>=◌, follow, follow_keyword, sign_read, after, after_keyword, word_at, identifier_at, segment_at}
-use Rattle.rnc_syntax.specs.Combinators.{either_way, many_with, many}
-use Rattle.rnc_syntax.specs.Productions.{role_of, annotation_end, annotation_at, annotated, literal_at, parameter_at, parameter_front, annotated_parameter_at}
-use Rattle.rnc_syntax.specs.Productions.{in_braces_at, parameters_at, word_after_equal, inherit_at, mention_at}
-use Rattle.rnc_syntax.specs.Productions.{class_in_parens, bare_basic_with, basic_with, choice_with, except_front, bare_class_with, class_with, braced_with}
-use Rattle.rnc_syntax.specs.Productions.{contents_with, named_with}
-use Rattle.rnc_syntax.specs.Productions.{begins_segment, typed_at, other_at, atom_at, parens_with, opened_with, bare_primary_with, primary_with, repeated}
-use Rattle.rnc_syntax.specs.Productions.{particle_with, separator_of, rest_with, pattern_from, data_front, data_with, bare_pattern_with, pattern_with}
-use Rattle.rnc_syntax.specs.Productions.{method_at, overrides_with, component_front, bare_component_with}
-use Rattle.rnc_syntax.specs.Productions.{assigned_at, assigned, component_with, components_with, inside_at, uri_at, prefix_at, default_at, declaration_at}
-use Rattle.rnc_syntax.specs.Productions.{declaration_front, is_grammar_body, pattern_body_with, bare_body_with, annotated_body_with, body_with, if_ended}
-use Rattle.rnc_syntax.specs.Productions.{declarations_at, file_with}
-use Rattle.rnc_syntax.specs.Sentence.{is_opening, is_closing, openings, closings, NestsWithin}
+use Rattle.rnc_model.specs.tokens.Lexeme.{Lexeme, Spelling, keyword, identifier, cname, ns_name, segment, sign}
+use Rattle.rnc_model.specs.grammar.Syntax as syntax
+use Rattle.rnc_model.specs.grammar.Syntax.{NameClass, DatatypeName, Pattern, Component, Uri, Declaration, File}
+use Rattle.rnc_model.specs.grammar.Grammar as grammar
+use Rattle.rnc_model.specs.grammar.Grammar.{Setting, content, override, IsBasic, IsParticle, IsComponent, IsDeclaration, method_of, MayBeParameters, IsPrimary}
+use Rattle.rnc_model.specs.grammar.Grammar.{MayBeAnnotation, IsClass}
+use Rattle.rnc_syntax.specs.plain.Combinators.{Outcome, ◌>>=◌, follow, follow_keyword, sign_read, after, after_keyword, word_at, identifier_at, segment_at}
+use Rattle.rnc_syntax.specs.plain.Combinators.{either_way, many_with, many}
+use Rattle.rnc_syntax.specs.plain.Productions.{role_of, annotation_end, annotation_at, annotated, literal_at, parameter_at, parameter_front, annotated_parameter_at}
+use Rattle.rnc_syntax.specs.plain.Productions.{in_braces_at, parameters_at, word_after_equal, inherit_at, mention_at}
+use Rattle.rnc_syntax.specs.plain.Productions.{class_in_parens, bare_basic_with, basic_with, choice_with, except_front, bare_class_with, class_with, braced_with}
+use Rattle.rnc_syntax.specs.plain.Productions.{contents_with, named_with}
+use Rattle.rnc_syntax.specs.plain.Productions.{begins_segment, typed_at, other_at, atom_at, parens_with, opened_with, bare_primary_with, primary_with, repeated}
+use Rattle.rnc_syntax.specs.plain.Productions.{particle_with, separator_of, rest_with, pattern_from, data_front, data_with, bare_pattern_with, pattern_with}
+use Rattle.rnc_syntax.specs.plain.Productions.{method_at, overrides_with, component_front, bare_component_with}
+use Rattle.rnc_syntax.specs.plain.Productions.{assigned_at, assigned, component_with, components_with, inside_at, uri_at, prefix_at, default_at, declaration_at}
+use Rattle.rnc_syntax.specs.plain.Productions.{declaration_front, is_grammar_body, pattern_body_with, bare_body_with, annotated_body_with, body_with, if_ended}
+use Rattle.rnc_syntax.specs.plain.Productions.{declarations_at, file_with}
+use Rattle.rnc_model.specs.grammar.Sentence.{is_opening, is_closing, openings, closings, NestsWithin}
 use Rattle.rnc_syntax.proofs.Balance.{Balanced, Plain, plain, plain_type, join_even, declarations_even, second_within, behind_within, basic_even, class_even}
 use Rattle.rnc_syntax.proofs.Balance.{annotation_even, particle_even, primary_even, component_even, may_parameters_even, literal_even, may_inherit_even}
 use Rattle.rnc_syntax.proofs.AnnotationSteps.{onwards}

@@ -1,11 +1,11 @@
 -- Where the reading of a file stops at a token, some sentence begins with the tokens before it, and none with those up to and with it.
 use Rattle.std.proofs.Common.{◌≡◌, ℕ, ◌+◌, ◌-◌, List, [], ◌∷◌, ◌++◌, length, Ok, Err, refl, sym, ap, ◌∙◌}
 use Rattle.rnc_syntax.specs.declared.fault.Stop.TheVariants.{Unexpected, TooDeep}
-use Rattle.rnc_syntax.specs.Lexeme.{Lexeme}
-use Rattle.rnc_syntax.specs.Syntax.{Declaration, File}
-use Rattle.rnc_syntax.specs.Sentence.{IsStuckAt}
-use Rattle.rnc_syntax.specs.Combinators.{Outcome, ◌>>=◌}
-use Rattle.rnc_syntax.specs.Productions.{Inside, inside_at, body_with, if_ended, declarations_at, file_with}
+use Rattle.rnc_model.specs.tokens.Lexeme.{Lexeme}
+use Rattle.rnc_model.specs.grammar.Syntax.{Declaration, File}
+use Rattle.rnc_model.specs.grammar.Sentence.{IsStuckAt}
+use Rattle.rnc_syntax.specs.plain.Combinators.{Outcome, ◌>>=◌}
+use Rattle.rnc_syntax.specs.plain.Productions.{Inside, inside_at, body_with, if_ended, declarations_at, file_with}
 use Rattle.rnc_syntax.proofs.Items.{bind_bind}
 use Rattle.rnc_syntax.proofs.Locality.{SameHead, LocalAt, reads, stuck as stuck_there, deep, IsLocal, bind_local}
 use Rattle.rnc_syntax.proofs.LocalityLiterals.{made_local}

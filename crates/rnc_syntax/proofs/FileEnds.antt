@@ -1,15 +1,16 @@
 -- A file that is read to its end, and one with tokens left.
 use Rattle.std.proofs.Common.{◌≡◌, ◌==◌, ℕ, true, false, List, [], ◌∷◌, length, Ok, refl, arith}
 use Rattle.std.proofs.lemmas.Bool.{eqb-true}
-use Rattle.rnc_text.specs.declared.token.Token.{Token}
+use Rattle.rnc_model.specs.declared.token.Token.{Token}
 use Rattle.rnc_syntax.specs.declared.fault.Stop.TheVariants.{Unexpected}
 use Rattle.rnc_syntax.specs.declared.fault.ReadFault.{ReadFault}
 use Rattle.rnc_syntax.specs.declared.fault.ReadFault.TheVariants as read_faults
-use Rattle.rnc_syntax.specs.Lexeme.{Lexeme}
-use Rattle.rnc_syntax.specs.Reading.{lexemes_in}
-use Rattle.rnc_syntax.specs.Fault.{Refuses, stop_of}
-use Rattle.rnc_syntax.specs.Productions.{Inside, declarations_at, body_with, file_with}
-use Rattle.rnc_syntax.specs.Syntax.{Declaration, Body}
+use Rattle.rnc_model.specs.tokens.Lexeme.{Lexeme}
+use Rattle.rnc_syntax.specs.plain.Reading.{lexemes_in}
+use Rattle.rng_model.specs.plain.Answers.{Refuses}
+use Rattle.rnc_syntax.specs.views.Fault.{stop_of}
+use Rattle.rnc_syntax.specs.plain.Productions.{Inside, declarations_at, body_with, file_with}
+use Rattle.rnc_model.specs.grammar.Syntax.{Declaration, Body}
 
 module _ (inside : Inside) (total : ℕ) (ts rest : List Lexeme) (declarations : List Declaration) (body : Body) where
   pub file_ends : (left : List Token) → declarations_at ts ≡ Ok (declarations, rest) → body_with inside rest ≡ Ok (body, lexemes_in total left)

@@ -1,8 +1,8 @@
 -- Where components and declarations begin.
 use Rattle.std.proofs.Common.{◌≡◌, Bool, true, false, List, Some, None, refl, sym, ◌∙◌}
-use Rattle.rnc_syntax.specs.Grammar.{Setting}
-use Rattle.rnc_syntax.specs.Lexeme.{Lexeme}
-use Rattle.rnc_syntax.specs.Productions.{begins_component, component_front, begins_declaration, declaration_front}
+use Rattle.rnc_model.specs.grammar.Grammar.{Setting}
+use Rattle.rnc_model.specs.tokens.Lexeme.{Lexeme}
+use Rattle.rnc_syntax.specs.plain.Productions.{begins_component, component_front, begins_declaration, declaration_front}
 
 pub component_starts : (w : Setting) (ts : List Lexeme) (b : Bool) → b ≡ begins_component w ts → b ≡ true → component_front w ts ≡ Some ts
 component_starts w ts b is e = rw (sym is ∙ e) refl

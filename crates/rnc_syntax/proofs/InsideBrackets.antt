@@ -1,9 +1,9 @@
 -- How what is inside brackets is read, by how many may still be opened.
 use Rattle.std.proofs.Common.{◌≡◌, ℕ, zero, suc, ◌-◌, ◌<◌, List, Err, refl, arith, sub-one}
 use Rattle.rnc_syntax.specs.declared.fault.Stop.TheVariants.{TooDeep}
-use Rattle.rnc_syntax.specs.Grammar.{Setting}
-use Rattle.rnc_syntax.specs.Lexeme.{Lexeme}
-use Rattle.rnc_syntax.specs.Productions.{inside_at, class_with, pattern_with, components_with}
+use Rattle.rnc_model.specs.grammar.Grammar.{Setting}
+use Rattle.rnc_model.specs.tokens.Lexeme.{Lexeme}
+use Rattle.rnc_syntax.specs.plain.Productions.{inside_at, class_with, pattern_with, components_with}
 
 pub class_too_deep : (n : ℕ) (ts : List Lexeme) → n ≡ 0 → (inside_at n).class ts ≡ Err TooDeep
 unfolding inside_at

@@ -4,9 +4,10 @@ use Rattle.std.proofs.Common.{arith}
 use Rattle.rnc_syntax.specs.declared.fault.Stop.{Stop}
 use Rattle.rnc_syntax.specs.declared.fault.ReadFault.{ReadFault}
 use Rattle.rnc_syntax.specs.declared.fault.ReadFault.TheVariants as read_faults
-use Rattle.rnc_syntax.specs.Lexeme.{Lexeme}
-use Rattle.rnc_syntax.specs.Combinators.{Outcome, ◌>>=◌, many_with, many, with_front}
-use Rattle.rnc_syntax.specs.Fault.{Refuses, stop_of}
+use Rattle.rnc_model.specs.tokens.Lexeme.{Lexeme}
+use Rattle.rnc_syntax.specs.plain.Combinators.{Outcome, ◌>>=◌, many_with, many, with_front}
+use Rattle.rng_model.specs.plain.Answers.{Refuses}
+use Rattle.rnc_syntax.specs.views.Fault.{stop_of}
 
 -- brackets about steps are moved
 pub bind_bind : {A B C : Type 0} (r : Result A Stop) (f : A → Result B Stop) (g : B → Result C Stop) → ((r >>= f) >>= g) ≡ (r >>= λ x. f x >>= g)

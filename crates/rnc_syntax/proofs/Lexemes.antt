@@ -1,9 +1,9 @@
 -- The tokens that a reader has, against all tokens of a file.
 use Rattle.std.proofs.Common.{◌≡◌, ℕ, suc, ◌+◌, ◌-◌, List, [], ◌∷◌, length, refl, ap, ◌∙◌, arith}
-use Rattle.rnc_text.specs.Cut.{tokens_of}
-use Rattle.rnc_text.specs.declared.token.Token.{Token}
-use Rattle.rnc_syntax.specs.Lexeme.{Lexeme, lexeme_at, lexemes, numbered}
-use Rattle.rnc_syntax.specs.Reading.{lexemes_in}
+use Rattle.rnc_model.specs.tokens.Cut.{tokens_of}
+use Rattle.rnc_model.specs.declared.token.Token.{Token}
+use Rattle.rnc_model.specs.tokens.Lexeme.{Lexeme, lexeme_at, lexemes, numbered}
+use Rattle.rnc_syntax.specs.plain.Reading.{lexemes_in}
 
 -- how many there are
 pub length_of_lexemes : (n : ℕ) (ts : List Token) → length (lexemes_in n ts) ≡ length ts

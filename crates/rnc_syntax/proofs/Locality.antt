@@ -1,9 +1,9 @@
 -- What a reader answers depends on what it took and on the one token after it: the steps from which readers are made.
 use Rattle.std.proofs.Common.{◌≡◌, Bool, true, false, List, [], ◌∷◌, ◌++◌, length, Option, None, Ok, Err, refl, sym, ap, subst, ◌∙◌, append_assoc}
-use Rattle.rnc_text.specs.declared.token.Sign.{Sign}
+use Rattle.rnc_model.specs.declared.token.Sign.{Sign}
 use Rattle.rnc_syntax.specs.declared.fault.Stop.TheVariants.{Unexpected, TooDeep}
-use Rattle.rnc_syntax.specs.Lexeme.{Lexeme, keyword, identifier, cname, ns_name, segment, sign}
-use Rattle.rnc_syntax.specs.Combinators.{Outcome, ◌>>=◌, unexpected, same_sign, after, word_at, identifier_at, segment_at, either_way}
+use Rattle.rnc_model.specs.tokens.Lexeme.{Lexeme, keyword, identifier, cname, ns_name, segment, sign}
+use Rattle.rnc_syntax.specs.plain.Combinators.{Outcome, ◌>>=◌, unexpected, same_sign, after, word_at, identifier_at, segment_at, either_way}
 
 -- both are at the end, or have the same token in front
 abbrev pub SameHead : List Lexeme → List Lexeme → Type 0

@@ -1,11 +1,11 @@
 -- What a reader answers depends on what it took and on the one token after it: annotations, and what is read behind them.
 use Rattle.std.proofs.Common.{◌≡◌, ℕ, zero, suc, List, [], ◌∷◌, Ok, refl}
-use Rattle.rnc_text.specs.declared.token.Sign.TheVariants.{OpenBracket}
+use Rattle.rnc_model.specs.declared.token.Sign.TheVariants.{OpenBracket}
 use Rattle.rnc_syntax.specs.declared.annotations.Role.{Role}
 use Rattle.rnc_syntax.specs.declared.annotations.Role.TheVariants as roles
-use Rattle.rnc_syntax.specs.Lexeme.{Lexeme}
-use Rattle.rnc_syntax.specs.Combinators.{Outcome, ◌>>=◌, follow}
-use Rattle.rnc_syntax.specs.Productions.{role_of, annotation_end, annotation_at, annotated}
+use Rattle.rnc_model.specs.tokens.Lexeme.{Lexeme}
+use Rattle.rnc_syntax.specs.plain.Combinators.{Outcome, ◌>>=◌, follow}
+use Rattle.rnc_syntax.specs.plain.Productions.{role_of, annotation_end, annotation_at, annotated}
 use Rattle.rnc_syntax.proofs.AnnotationSteps.{by_front}
 use Rattle.rnc_syntax.proofs.Locality.{LocalAt, IsLocal, ok_local, stuck_end, stuck_front, cons_local, bind_local}
 use Rattle.rnc_syntax.proofs.LocalityFronts.{either_local, follow_front}

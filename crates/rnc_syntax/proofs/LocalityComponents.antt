@@ -1,16 +1,16 @@
 -- What a reader answers depends on what it took and on the one token after it: components, and what is inside brackets at any depth.
 use Rattle.std.proofs.Common.{ℕ, zero, suc, ◌≤◌, List, [], ◌∷◌, Option, Some, None, Ok, refl, arith}
-use Rattle.rnc_text.specs.declared.token.Keyword.TheVariants as keywords
-use Rattle.rnc_text.specs.declared.token.Sign.TheVariants.{Equal, BarEqual, AndEqual, OpenBrace, OpenBracket}
+use Rattle.rnc_model.specs.declared.token.Keyword.TheVariants as keywords
+use Rattle.rnc_model.specs.declared.token.Sign.TheVariants.{Equal, BarEqual, AndEqual, OpenBrace, OpenBracket}
 use Rattle.rng_model.specs.declared.method.Method.{Method}
 use Rattle.rng_model.specs.declared.method.Method.TheVariants as methods
-use Rattle.rnc_syntax.specs.Lexeme.{Lexeme, keyword, identifier, sign}
-use Rattle.rnc_syntax.specs.Syntax as syntax
-use Rattle.rnc_syntax.specs.Syntax.{Mention, Component}
-use Rattle.rnc_syntax.specs.Grammar.{Setting, content, override}
-use Rattle.rnc_syntax.specs.Combinators.{Outcome, ◌>>=◌, follow}
-use Rattle.rnc_syntax.specs.Productions.{annotation_at, mention_at, Inside, contents_with, class_with, pattern_with, method_at, overrides_with}
-use Rattle.rnc_syntax.specs.Productions.{component_front, assigned_at, assigned, bare_component_with, component_with, components_with, inside_at}
+use Rattle.rnc_model.specs.tokens.Lexeme.{Lexeme, keyword, identifier, sign}
+use Rattle.rnc_model.specs.grammar.Syntax as syntax
+use Rattle.rnc_model.specs.grammar.Syntax.{Mention, Component}
+use Rattle.rnc_model.specs.grammar.Grammar.{Setting, content, override}
+use Rattle.rnc_syntax.specs.plain.Combinators.{Outcome, ◌>>=◌, follow}
+use Rattle.rnc_syntax.specs.plain.Productions.{annotation_at, mention_at, Inside, contents_with, class_with, pattern_with, method_at, overrides_with}
+use Rattle.rnc_syntax.specs.plain.Productions.{component_front, assigned_at, assigned, bare_component_with, component_with, components_with, inside_at}
 use Rattle.rnc_syntax.proofs.Locality.{IsLocal, ok_local, deep_local, stuck_end, stuck_front, cons_local, bind_local}
 use Rattle.rnc_syntax.proofs.LocalityFronts.{kept_local, FrontAt, closes, opens, follow_heads}
 use Rattle.rnc_syntax.proofs.LocalityItems.{many_local, many_behind}

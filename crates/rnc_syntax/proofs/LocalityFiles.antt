@@ -1,15 +1,15 @@
 -- What a reader answers depends on what it took and on the one token after it: declarations and files.
 use Rattle.std.proofs.Common.{◌≡◌, ℕ, List, [], ◌∷◌, Some, None, Ok, refl, if◌then◌else◌}
-use Rattle.rnc_text.specs.declared.token.Keyword.TheVariants as keywords
-use Rattle.rnc_text.specs.declared.token.Sign.TheVariants.{Equal, BarEqual, AndEqual, OpenBracket}
-use Rattle.rnc_syntax.specs.Lexeme.{Lexeme, keyword, identifier, sign}
-use Rattle.rnc_syntax.specs.Syntax as syntax
-use Rattle.rnc_syntax.specs.Syntax.{Component, Uri, Declaration, Body}
-use Rattle.rnc_syntax.specs.Grammar.{content}
-use Rattle.rnc_syntax.specs.Combinators.{Outcome, ◌>>=◌, follow, follow_keyword, after, after_keyword, word_at}
-use Rattle.rnc_syntax.specs.Productions.{annotation_end, literal_at, parameter_at, Inside, bare_pattern_with, bare_component_with, components_with, uri_at}
-use Rattle.rnc_syntax.specs.Productions.{prefix_at, default_at, declaration_at, declaration_front, begins_method, pattern_body_with, bare_body_with}
-use Rattle.rnc_syntax.specs.Productions.{annotated_body_with, body_with, declarations_at}
+use Rattle.rnc_model.specs.declared.token.Keyword.TheVariants as keywords
+use Rattle.rnc_model.specs.declared.token.Sign.TheVariants.{Equal, BarEqual, AndEqual, OpenBracket}
+use Rattle.rnc_model.specs.tokens.Lexeme.{Lexeme, keyword, identifier, sign}
+use Rattle.rnc_model.specs.grammar.Syntax as syntax
+use Rattle.rnc_model.specs.grammar.Syntax.{Component, Uri, Declaration, Body}
+use Rattle.rnc_model.specs.grammar.Grammar.{content}
+use Rattle.rnc_syntax.specs.plain.Combinators.{Outcome, ◌>>=◌, follow, follow_keyword, after, after_keyword, word_at}
+use Rattle.rnc_syntax.specs.plain.Productions.{annotation_end, literal_at, parameter_at, Inside, bare_pattern_with, bare_component_with, components_with, uri_at}
+use Rattle.rnc_syntax.specs.plain.Productions.{prefix_at, default_at, declaration_at, declaration_front, begins_method, pattern_body_with, bare_body_with}
+use Rattle.rnc_syntax.specs.plain.Productions.{annotated_body_with, body_with, declarations_at}
 use Rattle.rnc_syntax.proofs.Locality.{IsLocal, ok_local, stuck_end, stuck_front, cons_local, bind_local, after_local, word_local}
 use Rattle.rnc_syntax.proofs.LocalityFronts.{end_local, token_local, test_heads, if_local, FrontAt, closes, opens, either_local, follow_front}
 use Rattle.rnc_syntax.proofs.LocalityFronts.{follow_keyword_front}

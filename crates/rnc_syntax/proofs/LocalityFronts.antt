@@ -1,10 +1,10 @@
 -- What a reader answers depends on what it took and on the one token after it: tests of the first token.
 use Rattle.std.proofs.Common.{◌≡◌, ◌≤◌, Bool, true, false, List, [], ◌∷◌, ◌++◌, length, Option, Some, None, Ok, refl, sym, ap, subst, ◌∙◌, arith, if◌then◌else◌}
 use Rattle.std.proofs.lemmas.List.{length-append}
-use Rattle.rnc_text.specs.declared.token.Keyword.{Keyword}
-use Rattle.rnc_text.specs.declared.token.Sign.{Sign}
-use Rattle.rnc_syntax.specs.Lexeme.{Lexeme, keyword, sign}
-use Rattle.rnc_syntax.specs.Combinators.{Outcome, same_sign, follow, same_keyword, follow_keyword, either_way}
+use Rattle.rnc_model.specs.declared.token.Keyword.{Keyword}
+use Rattle.rnc_model.specs.declared.token.Sign.{Sign}
+use Rattle.rnc_model.specs.tokens.Lexeme.{Lexeme, keyword, sign}
+use Rattle.rnc_syntax.specs.plain.Combinators.{Outcome, same_sign, follow, same_keyword, follow_keyword, either_way}
 use Rattle.rnc_syntax.proofs.Locality.{SameHead, SameHead-behind, LocalAt, reads, stuck, deep, IsLocal, ok_local, cons_local, none_local}
 
 module _ {A : Type 0} (read deeper by deeper_by : List Lexeme → Outcome A) (ts : List Lexeme) where

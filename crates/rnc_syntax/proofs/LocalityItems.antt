@@ -1,8 +1,8 @@
 -- Items one after another depend on what they took and on the one token after it, if each of them does.
 use Rattle.std.proofs.Common.{◌≡◌, ℕ, zero, suc, ◌<◌, ◌≤◌, List, [], ◌∷◌, length, Option, Some, None, Result, Ok, Err, refl, sym, ap, ◌∙◌, arith}
 use Rattle.rnc_syntax.specs.declared.fault.Stop.{Stop}
-use Rattle.rnc_syntax.specs.Lexeme.{Lexeme}
-use Rattle.rnc_syntax.specs.Combinators.{Outcome, ◌>>=◌, many_with, many}
+use Rattle.rnc_model.specs.tokens.Lexeme.{Lexeme}
+use Rattle.rnc_syntax.specs.plain.Combinators.{Outcome, ◌>>=◌, many_with, many}
 use Rattle.rnc_syntax.proofs.Items.{opened, closed}
 use Rattle.rnc_syntax.proofs.Locality.{LocalAt, reads, IsLocal, ok_local, cons_local, bind_local}
 use Rattle.rnc_syntax.proofs.LocalityFronts.{same_local, shortens, FrontAt, closes, opens, heads_closed}

@@ -1,14 +1,14 @@
 -- What a reader answers depends on what it took and on the one token after it: particles and patterns.
 use Rattle.std.proofs.Common.{◌≡◌, ℕ, Bool, true, false, List, [], ◌∷◌, Option, Some, None, Ok, refl, sym, ◌∙◌, if◌then◌else◌}
-use Rattle.rnc_text.specs.declared.token.Keyword.TheVariants as keywords
-use Rattle.rnc_text.specs.declared.token.Sign.{Sign}
-use Rattle.rnc_text.specs.declared.token.Sign.TheVariants.{Comma, Bar, And, Question, Star, Plus, Minus}
-use Rattle.rnc_syntax.specs.Lexeme.{Lexeme, keyword, identifier, cname, sign}
-use Rattle.rnc_syntax.specs.Syntax as syntax
-use Rattle.rnc_syntax.specs.Syntax.{DatatypeName, Pattern}
-use Rattle.rnc_syntax.specs.Combinators.{Outcome, ◌>>=◌, follow, either_way, many}
-use Rattle.rnc_syntax.specs.Productions.{parameters_at, Inside, begins_segment, typed_at, other_at, atom_at, bare_primary_with, primary_with, repeated}
-use Rattle.rnc_syntax.specs.Productions.{particle_with, separator_of, joined, rest_with, pattern_from, data_with, bare_pattern_with, pattern_with}
+use Rattle.rnc_model.specs.declared.token.Keyword.TheVariants as keywords
+use Rattle.rnc_model.specs.declared.token.Sign.{Sign}
+use Rattle.rnc_model.specs.declared.token.Sign.TheVariants.{Comma, Bar, And, Question, Star, Plus, Minus}
+use Rattle.rnc_model.specs.tokens.Lexeme.{Lexeme, keyword, identifier, cname, sign}
+use Rattle.rnc_model.specs.grammar.Syntax as syntax
+use Rattle.rnc_model.specs.grammar.Syntax.{DatatypeName, Pattern}
+use Rattle.rnc_syntax.specs.plain.Combinators.{Outcome, ◌>>=◌, follow, either_way, many}
+use Rattle.rnc_syntax.specs.plain.Productions.{parameters_at, Inside, begins_segment, typed_at, other_at, atom_at, bare_primary_with, primary_with, repeated}
+use Rattle.rnc_syntax.specs.plain.Productions.{particle_with, separator_of, joined, rest_with, pattern_from, data_with, bare_pattern_with, pattern_with}
 use Rattle.rnc_syntax.proofs.Locality.{LocalAt, IsLocal, ok_local, stuck_end, cons_local, bind_local}
 use Rattle.rnc_syntax.proofs.LocalityFronts.{same_local, end_local, token_local, test_heads, if_local, either_local, follow_front}
 use Rattle.rnc_syntax.proofs.LocalityItems.{many_local}

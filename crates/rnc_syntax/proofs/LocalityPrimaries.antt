@@ -1,17 +1,17 @@
 -- What a reader answers depends on what it took and on the one token after it: primaries.
 use Rattle.std.proofs.Common.{◌≡◌, List, [], ◌∷◌, Ok, refl}
-use Rattle.rnc_text.specs.declared.token.Keyword.TheVariants as keywords
-use Rattle.rnc_text.specs.declared.token.Sign.TheVariants.{OpenBrace, OpenParenthesis, CloseParenthesis}
+use Rattle.rnc_model.specs.declared.token.Keyword.TheVariants as keywords
+use Rattle.rnc_model.specs.declared.token.Sign.TheVariants.{OpenBrace, OpenParenthesis, CloseParenthesis}
 use Rattle.rnc_syntax.specs.declared.atoms.Opening.{Opening}
 use Rattle.rnc_syntax.specs.declared.atoms.Opening.TheVariants as openings
-use Rattle.rnc_syntax.specs.Lexeme.{Lexeme, keyword, identifier, cname, segment, sign}
-use Rattle.rnc_syntax.specs.Syntax as syntax
-use Rattle.rnc_syntax.specs.Syntax.{NameClass, DatatypeName, Pattern}
-use Rattle.rnc_syntax.specs.Grammar.{Setting, content}
-use Rattle.rnc_syntax.specs.Combinators.{Outcome, ◌>>=◌, after, identifier_at, either_way}
-use Rattle.rnc_syntax.specs.Productions.{literal_at, parameters_at, in_braces_at, mention_at, class_with, Inside, braced_with, contents_with}
-use Rattle.rnc_syntax.specs.Productions.{named_with, begins_segment, typed_at, type_front, lone_front, other_at, atom_at, parens_with, opening_front}
-use Rattle.rnc_syntax.specs.Productions.{opened_with, bare_primary_with, primary_with}
+use Rattle.rnc_model.specs.tokens.Lexeme.{Lexeme, keyword, identifier, cname, segment, sign}
+use Rattle.rnc_model.specs.grammar.Syntax as syntax
+use Rattle.rnc_model.specs.grammar.Syntax.{NameClass, DatatypeName, Pattern}
+use Rattle.rnc_model.specs.grammar.Grammar.{Setting, content}
+use Rattle.rnc_syntax.specs.plain.Combinators.{Outcome, ◌>>=◌, after, identifier_at, either_way}
+use Rattle.rnc_syntax.specs.plain.Productions.{literal_at, parameters_at, in_braces_at, mention_at, class_with, Inside, braced_with, contents_with}
+use Rattle.rnc_syntax.specs.plain.Productions.{named_with, begins_segment, typed_at, type_front, lone_front, other_at, atom_at, parens_with, opening_front}
+use Rattle.rnc_syntax.specs.plain.Productions.{opened_with, bare_primary_with, primary_with}
 use Rattle.rnc_syntax.proofs.Locality.{IsLocal, ok_local, stuck_end, stuck_front, cons_local, bind_local, after_local, identifier_local}
 use Rattle.rnc_syntax.proofs.LocalityFronts.{token_local, test_heads, if_local, FrontAt, closes, opens, either_local}
 use Rattle.rnc_syntax.proofs.LocalityAnnotations.{annotated_local}

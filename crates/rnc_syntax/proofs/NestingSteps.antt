@@ -3,12 +3,12 @@ use mir.Val.{bool_byte}
 use Rattle.std.proofs.Common.{◌≡◌, ◌∙◌, ℕ, zero, suc, ◌+◌, ◌≤◌, ◌<◌, ◌-◌, cond, Bool, true, false, List, [], ◌∷◌, length, take, drop, get_or, arith, refl, sym}
 use Rattle.std.proofs.Common.{ap, subst, add-one}
 use Rattle.std.proofs.Math.Seq.{drop-cons}
-use Rattle.rnc_text.specs.declared.token.Token.{Token}
-use Rattle.rnc_text.specs.declared.token.TokenKind.{TokenKind}
-use Rattle.rnc_text.specs.declared.token.TokenKind.TheVariants as kinds
-use Rattle.rnc_syntax.specs.Lexeme.{Lexeme, lexeme_at}
-use Rattle.rnc_syntax.specs.Reading.{lexemes_in}
-use Rattle.rnc_syntax.specs.Sentence.{is_opening, is_closing, openings, closings, nesting_limit, NestsWithin, BreaksNesting}
+use Rattle.rnc_model.specs.declared.token.Token.{Token}
+use Rattle.rnc_model.specs.declared.token.TokenKind.{TokenKind}
+use Rattle.rnc_model.specs.declared.token.TokenKind.TheVariants as kinds
+use Rattle.rnc_model.specs.tokens.Lexeme.{Lexeme, lexeme_at}
+use Rattle.rnc_syntax.specs.plain.Reading.{lexemes_in}
+use Rattle.rnc_model.specs.grammar.Sentence.{is_opening, is_closing, openings, closings, nesting_limit, NestsWithin, BreaksNesting}
 use Rattle.rnc_syntax.proofs.Balance.{counts, discounts, openings-cons, closings-cons}
 
 -- after so many opening brackets and so many closing ones, these tokens keep the limit

@@ -1,17 +1,17 @@
 -- What is read is in the grammar: steps of reading, and items one after another.
 use Rattle.std.proofs.Common.{◌≡◌, ℕ, zero, suc, true, List, [], ◌∷◌, ◌++◌, length, Option, Some, None, Result, Ok, Err, refl, sym, ap}
 use Rattle.std.proofs.Common.{subst, ◌∙◌, append_assoc, inl, inr}
-use Rattle.rnc_text.specs.declared.token.Keyword.{Keyword}
-use Rattle.rnc_text.specs.declared.token.Keyword.TheVariants as keywords
-use Rattle.rnc_text.specs.declared.token.Sign.{Sign}
-use Rattle.rnc_text.specs.declared.token.Sign.TheVariants.{Equal, BarEqual, AndEqual, Comma, Bar, And, Question, Star, Plus, Minus, OpenBrace, CloseBrace}
-use Rattle.rnc_text.specs.declared.token.Sign.TheVariants.{OpenParenthesis, CloseParenthesis, OpenBracket, CloseBracket, Tilde}
+use Rattle.rnc_model.specs.declared.token.Keyword.{Keyword}
+use Rattle.rnc_model.specs.declared.token.Keyword.TheVariants as keywords
+use Rattle.rnc_model.specs.declared.token.Sign.{Sign}
+use Rattle.rnc_model.specs.declared.token.Sign.TheVariants.{Equal, BarEqual, AndEqual, Comma, Bar, And, Question, Star, Plus, Minus, OpenBrace, CloseBrace}
+use Rattle.rnc_model.specs.declared.token.Sign.TheVariants.{OpenParenthesis, CloseParenthesis, OpenBracket, CloseBracket, Tilde}
 use Rattle.rnc_syntax.specs.declared.fault.Stop.{Stop}
-use Rattle.rnc_syntax.specs.Lexeme.{Lexeme, Spelling, keyword, identifier, cname, ns_name, segment, sign}
-use Rattle.rnc_syntax.specs.Grammar.{word_of}
-use Rattle.rnc_syntax.specs.Combinators.{Outcome, ◌>>=◌, same_sign, same_keyword, follow, follow_keyword, sign_read, after, after_keyword, word_at}
-use Rattle.rnc_syntax.specs.Combinators.{identifier_at, segment_at, either_way, many_with, many}
-use Rattle.rnc_syntax.specs.Productions.{in_braces_at}
+use Rattle.rnc_model.specs.tokens.Lexeme.{Lexeme, Spelling, keyword, identifier, cname, ns_name, segment, sign}
+use Rattle.rnc_model.specs.grammar.Grammar.{word_of}
+use Rattle.rnc_syntax.specs.plain.Combinators.{Outcome, ◌>>=◌, same_sign, same_keyword, follow, follow_keyword, sign_read, after, after_keyword, word_at}
+use Rattle.rnc_syntax.specs.plain.Combinators.{identifier_at, segment_at, either_way, many_with, many}
+use Rattle.rnc_syntax.specs.plain.Productions.{in_braces_at}
 pub use Rattle.rnc_text.proofs.Basics.{chosen}
 
 -- the value of a step that did not fail

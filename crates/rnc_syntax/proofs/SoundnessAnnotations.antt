@@ -1,13 +1,13 @@
 -- What is read is in the grammar: annotations, and what is read behind them.
 use Rattle.std.proofs.Common.{◌≡◌, ℕ, zero, suc, false, List, [], ◌∷◌, ◌++◌, Option, Some, None, Ok, refl, sym, ap, subst, ◌∙◌, append_assoc}
-use Rattle.rnc_text.specs.declared.token.Sign.TheVariants.{OpenBracket, CloseBracket, OpenBrace, CloseBrace, OpenParenthesis, CloseParenthesis}
+use Rattle.rnc_model.specs.declared.token.Sign.TheVariants.{OpenBracket, CloseBracket, OpenBrace, CloseBrace, OpenParenthesis, CloseParenthesis}
 use Rattle.rnc_syntax.specs.declared.annotations.Role.{Role}
 use Rattle.rnc_syntax.specs.declared.annotations.Role.TheVariants as roles
-use Rattle.rnc_syntax.specs.Lexeme.{Lexeme, sign}
-use Rattle.rnc_syntax.specs.Grammar as grammar
-use Rattle.rnc_syntax.specs.Grammar.{is_bracket, IsAnnotationContent, MayBeAnnotation}
-use Rattle.rnc_syntax.specs.Combinators.{Outcome, ◌>>=◌, follow, either_way}
-use Rattle.rnc_syntax.specs.Productions.{role_of, annotation_end, annotation_at, annotated}
+use Rattle.rnc_model.specs.tokens.Lexeme.{Lexeme, sign}
+use Rattle.rnc_model.specs.grammar.Grammar as grammar
+use Rattle.rnc_model.specs.grammar.Grammar.{is_bracket, IsAnnotationContent, MayBeAnnotation}
+use Rattle.rnc_syntax.specs.plain.Combinators.{Outcome, ◌>>=◌, follow, either_way}
+use Rattle.rnc_syntax.specs.plain.Productions.{role_of, annotation_end, annotation_at, annotated}
 use Rattle.rnc_syntax.proofs.AnnotationSteps.{onwards}
 use Rattle.rnc_syntax.proofs.Soundness.{bind_ok, ok_is, follow_is, TakesFront, Sound}
 

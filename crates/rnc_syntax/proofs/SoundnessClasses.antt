@@ -1,15 +1,15 @@
 -- What is read is in the grammar: name classes.
 use Rattle.std.proofs.Common.{◌≡◌, ℕ, List, [], ◌∷◌, ◌++◌, Option, Some, None, Ok, refl, sym, ap, subst, ◌∙◌, append_assoc}
 use Rattle.std.proofs.lemmas.List.{append-nil}
-use Rattle.rnc_text.specs.declared.token.Sign.TheVariants.{Bar, Star, Minus, OpenParenthesis, CloseParenthesis}
-use Rattle.rnc_syntax.specs.Lexeme.{Lexeme, keyword, identifier, cname, ns_name, segment, sign}
-use Rattle.rnc_syntax.specs.Syntax as syntax
-use Rattle.rnc_syntax.specs.Syntax.{NameClass}
-use Rattle.rnc_syntax.specs.Grammar as grammar
-use Rattle.rnc_syntax.specs.Grammar.{MayBeAnnotation, IsClass, AreMoreClasses, IsBasic, IsBareBasic}
-use Rattle.rnc_syntax.specs.Combinators.{Outcome, ◌>>=◌, follow, either_way, many}
-use Rattle.rnc_syntax.specs.Productions.{class_in_parens, bare_basic_with, basic_with, choice_with, wide_front, except_front, excepted, bare_class_with}
-use Rattle.rnc_syntax.specs.Productions.{class_with}
+use Rattle.rnc_model.specs.declared.token.Sign.TheVariants.{Bar, Star, Minus, OpenParenthesis, CloseParenthesis}
+use Rattle.rnc_model.specs.tokens.Lexeme.{Lexeme, keyword, identifier, cname, ns_name, segment, sign}
+use Rattle.rnc_model.specs.grammar.Syntax as syntax
+use Rattle.rnc_model.specs.grammar.Syntax.{NameClass}
+use Rattle.rnc_model.specs.grammar.Grammar as grammar
+use Rattle.rnc_model.specs.grammar.Grammar.{MayBeAnnotation, IsClass, AreMoreClasses, IsBasic, IsBareBasic}
+use Rattle.rnc_syntax.specs.plain.Combinators.{Outcome, ◌>>=◌, follow, either_way, many}
+use Rattle.rnc_syntax.specs.plain.Productions.{class_in_parens, bare_basic_with, basic_with, choice_with, wide_front, except_front, excepted, bare_class_with}
+use Rattle.rnc_syntax.specs.plain.Productions.{class_with}
 use Rattle.rnc_syntax.proofs.Soundness.{bind_ok, front_some, ok_is, some_is, follow_is, TakesFront, Sound, Preceded, closes_sound, Each, no_items, and_item}
 use Rattle.rnc_syntax.proofs.Soundness.{many_sound, some_is_read, preceded_sound, nothing_left}
 use Rattle.rnc_syntax.proofs.SoundnessAnnotations.{SoundBehind, annotated_sound, bare_sound}

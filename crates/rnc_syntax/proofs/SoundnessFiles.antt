@@ -1,19 +1,19 @@
 -- What is read is in the grammar: files.
 use Rattle.std.proofs.Common.{◌≡◌, ℕ, true, false, List, [], ◌∷◌, ◌++◌, Option, Some, None, Ok, refl, ap, subst, ◌∙◌, inl, inr}
 use Rattle.std.proofs.lemmas.List.{append-nil}
-use Rattle.rnc_text.specs.declared.token.Keyword.TheVariants as keywords
-use Rattle.rnc_text.specs.declared.token.Sign.TheVariants.{Equal, OpenBracket}
-use Rattle.rnc_syntax.specs.Lexeme.{Lexeme, Spelling, keyword, sign}
-use Rattle.rnc_syntax.specs.Syntax as syntax
-use Rattle.rnc_syntax.specs.Syntax.{Pattern, Component, Uri, Declaration, Body, File}
-use Rattle.rnc_syntax.specs.Grammar as grammar
-use Rattle.rnc_syntax.specs.Grammar.{content, IsLiteral, AreComponents, IsComponent, IsUri, IsDeclaration, AreDeclarations, IsBody, IsFile}
-use Rattle.rnc_syntax.specs.Combinators.{Outcome, ◌>>=◌, follow, after_keyword, either_way, many}
-use Rattle.rnc_syntax.specs.Productions.{annotation_end, literal_at, parameter_at, Inside, bare_pattern_with, bare_component_with, components_with, inside_at}
-use Rattle.rnc_syntax.specs.Productions.{uri_at, prefix_at, default_at}
-use Rattle.rnc_syntax.specs.Productions.{declaration_at, begins_declaration, declaration_front, is_grammar_body, pattern_body_with, bare_body_with}
-use Rattle.rnc_syntax.specs.Productions.{annotated_body_with, body_with, if_ended, declarations_at}
-use Rattle.rnc_syntax.specs.Productions.{file_with}
+use Rattle.rnc_model.specs.declared.token.Keyword.TheVariants as keywords
+use Rattle.rnc_model.specs.declared.token.Sign.TheVariants.{Equal, OpenBracket}
+use Rattle.rnc_model.specs.tokens.Lexeme.{Lexeme, Spelling, keyword, sign}
+use Rattle.rnc_model.specs.grammar.Syntax as syntax
+use Rattle.rnc_model.specs.grammar.Syntax.{Pattern, Component, Uri, Declaration, Body, File}
+use Rattle.rnc_model.specs.grammar.Grammar as grammar
+use Rattle.rnc_model.specs.grammar.Grammar.{content, IsLiteral, AreComponents, IsComponent, IsUri, IsDeclaration, AreDeclarations, IsBody, IsFile}
+use Rattle.rnc_syntax.specs.plain.Combinators.{Outcome, ◌>>=◌, follow, after_keyword, either_way, many}
+use Rattle.rnc_syntax.specs.plain.Productions.{annotation_end, literal_at, parameter_at, Inside, bare_pattern_with, bare_component_with, components_with, inside_at}
+use Rattle.rnc_syntax.specs.plain.Productions.{uri_at, prefix_at, default_at}
+use Rattle.rnc_syntax.specs.plain.Productions.{declaration_at, begins_declaration, declaration_front, is_grammar_body, pattern_body_with, bare_body_with}
+use Rattle.rnc_syntax.specs.plain.Productions.{annotated_body_with, body_with, if_ended, declarations_at}
+use Rattle.rnc_syntax.specs.plain.Productions.{file_with}
 use Rattle.rnc_syntax.proofs.Soundness.{bind_ok, chosen, ok_is, some_is, same_namespace, after_keyword_is, TakesFront, Sound, Each, no_items, and_item}
 use Rattle.rnc_syntax.proofs.Soundness.{many_sound, Behind, behind, mapped_sound, both_reads, IsSetting, setting_sound}
 use Rattle.rnc_syntax.proofs.SoundnessAnnotations.{SoundBehind, opened_sound}

@@ -1,16 +1,16 @@
 -- What is read is in the grammar: literals, parameters, and what mentions hand on.
 use Rattle.std.proofs.Common.{◌≡◌, ℕ, List, [], ◌∷◌, ◌++◌, Option, Some, None, Ok, refl, sym, ap, subst, ◌∙◌, append_assoc}
 use Rattle.std.proofs.lemmas.List.{append-nil}
-use Rattle.rnc_text.specs.declared.token.Keyword.TheVariants as keywords
-use Rattle.rnc_text.specs.declared.token.Sign.TheVariants.{Equal, OpenBrace, CloseBrace, OpenBracket, Tilde}
-use Rattle.rnc_syntax.specs.Lexeme.{Lexeme, Spelling, keyword, identifier, segment, sign}
-use Rattle.rnc_syntax.specs.Syntax.{Mention}
-use Rattle.rnc_syntax.specs.Grammar as grammar
-use Rattle.rnc_syntax.specs.Grammar.{word_of, MayBeAnnotation, IsLiteral, AreParameters, MayBeParameters, MayInherit}
-use Rattle.rnc_syntax.specs.Combinators.{follow, follow_keyword, after, word_at, segment_at, either_way, many}
-use Rattle.rnc_syntax.specs.Productions.{literal_at, parameter_at, parameter_front, annotated_parameter_at, in_braces_at, parameters_at, word_after_equal}
-use Rattle.rnc_syntax.specs.Productions.{inherit_at, mention_at}
-use Rattle.rnc_syntax.specs.Syntax.{joined_text}
+use Rattle.rnc_model.specs.declared.token.Keyword.TheVariants as keywords
+use Rattle.rnc_model.specs.declared.token.Sign.TheVariants.{Equal, OpenBrace, CloseBrace, OpenBracket, Tilde}
+use Rattle.rnc_model.specs.tokens.Lexeme.{Lexeme, Spelling, keyword, identifier, segment, sign}
+use Rattle.rnc_model.specs.grammar.Syntax.{Mention}
+use Rattle.rnc_model.specs.grammar.Grammar as grammar
+use Rattle.rnc_model.specs.grammar.Grammar.{word_of, MayBeAnnotation, IsLiteral, AreParameters, MayBeParameters, MayInherit}
+use Rattle.rnc_syntax.specs.plain.Combinators.{follow, follow_keyword, after, word_at, segment_at, either_way, many}
+use Rattle.rnc_syntax.specs.plain.Productions.{literal_at, parameter_at, parameter_front, annotated_parameter_at, in_braces_at, parameters_at, word_after_equal}
+use Rattle.rnc_syntax.specs.plain.Productions.{inherit_at, mention_at}
+use Rattle.rnc_model.specs.grammar.Syntax.{joined_text}
 use Rattle.rnc_syntax.proofs.Soundness.{bind_ok, ok_is, some_is, same_inherit, keyword_follows, after_is, TakesFront, Sound, IsWord, word_sound, IsSegment}
 use Rattle.rnc_syntax.proofs.Soundness.{segment_sound, Closed, Preceded, in_braces_sound, Each, no_items, and_item, many_sound, preceded_sound, both_sound}
 use Rattle.rnc_syntax.proofs.Soundness.{bracketed, IsSetting, setting_sound}

@@ -1,27 +1,27 @@
 -- What is read is in the grammar: patterns and components.
 use Rattle.std.proofs.Common.{◌≡◌, ℕ, zero, suc, List, [], ◌∷◌, ◌++◌, Option, Some, None, Ok, refl, sym, ap, subst, ◌∙◌, append_assoc, inl, inr, if◌then◌else◌}
 use Rattle.std.proofs.lemmas.List.{append-nil}
-use Rattle.rng_model.specs.Tree.{Connector, choice, group, interleave}
-use Rattle.rnc_text.specs.declared.token.Keyword.TheVariants as keywords
-use Rattle.rnc_text.specs.declared.token.Sign.{Sign}
-use Rattle.rnc_text.specs.declared.token.Sign.TheVariants.{Equal, BarEqual, AndEqual, Comma, Bar, And, Question, Star, Plus, Minus, OpenBrace, CloseBrace}
-use Rattle.rnc_text.specs.declared.token.Sign.TheVariants.{OpenParenthesis, CloseParenthesis}
+use Rattle.rng_model.specs.simple.Tree.{Connector, choice, group, interleave}
+use Rattle.rnc_model.specs.declared.token.Keyword.TheVariants as keywords
+use Rattle.rnc_model.specs.declared.token.Sign.{Sign}
+use Rattle.rnc_model.specs.declared.token.Sign.TheVariants.{Equal, BarEqual, AndEqual, Comma, Bar, And, Question, Star, Plus, Minus, OpenBrace, CloseBrace}
+use Rattle.rnc_model.specs.declared.token.Sign.TheVariants.{OpenParenthesis, CloseParenthesis}
 use Rattle.rng_model.specs.declared.method.Method.{Method}
 use Rattle.rng_model.specs.declared.method.Method.TheVariants as methods
-use Rattle.rnc_syntax.specs.Lexeme.{Lexeme, Spelling, keyword, identifier, cname, segment, sign}
-use Rattle.rnc_syntax.specs.Syntax as syntax
-use Rattle.rnc_syntax.specs.Syntax.{NameClass, DatatypeName, Mention, Pattern, Component}
-use Rattle.rnc_syntax.specs.Grammar as grammar
-use Rattle.rnc_syntax.specs.Grammar.{Setting, content, override, type_of, method_of, connector_of, IsLiteral, MayBeParameters, IsClass, IsBasic, IsPattern}
-use Rattle.rnc_syntax.specs.Grammar.{AreMore, IsParticle, IsPrimary, IsBarePrimary, IsBraced, AreComponents, IsComponent, IsBareComponent, MayOverride}
-use Rattle.rnc_syntax.specs.Grammar.{MayBeAnnotation}
-use Rattle.rnc_syntax.specs.Combinators.{Outcome, ◌>>=◌, follow, identifier_at, either_way, many}
-use Rattle.rnc_syntax.specs.Productions.{in_braces_at, literal_at, parameters_at, mention_at, class_with, Inside, braced_with, contents_with}
-use Rattle.rnc_syntax.specs.Productions.{named_with, begins_segment, typed_at, type_front, other_at, atom_at, parens_with, opened_with, bare_primary_with}
-use Rattle.rnc_syntax.specs.Productions.{repeated, primary_with, particle_with, separator_of, joined, rest_with, pattern_from, data_front, data_with}
-use Rattle.rnc_syntax.specs.Productions.{bare_pattern_with, pattern_with, method_at}
-use Rattle.rnc_syntax.specs.Productions.{overrides_with, begins_component, component_front, assigned_at, assigned, bare_component_with, component_with}
-use Rattle.rnc_syntax.specs.Productions.{components_with, inside_at}
+use Rattle.rnc_model.specs.tokens.Lexeme.{Lexeme, Spelling, keyword, identifier, cname, segment, sign}
+use Rattle.rnc_model.specs.grammar.Syntax as syntax
+use Rattle.rnc_model.specs.grammar.Syntax.{NameClass, DatatypeName, Mention, Pattern, Component}
+use Rattle.rnc_model.specs.grammar.Grammar as grammar
+use Rattle.rnc_model.specs.grammar.Grammar.{Setting, content, override, type_of, method_of, connector_of, IsLiteral, MayBeParameters, IsClass, IsBasic, IsPattern}
+use Rattle.rnc_model.specs.grammar.Grammar.{AreMore, IsParticle, IsPrimary, IsBarePrimary, IsBraced, AreComponents, IsComponent, IsBareComponent, MayOverride}
+use Rattle.rnc_model.specs.grammar.Grammar.{MayBeAnnotation}
+use Rattle.rnc_syntax.specs.plain.Combinators.{Outcome, ◌>>=◌, follow, identifier_at, either_way, many}
+use Rattle.rnc_syntax.specs.plain.Productions.{in_braces_at, literal_at, parameters_at, mention_at, class_with, Inside, braced_with, contents_with}
+use Rattle.rnc_syntax.specs.plain.Productions.{named_with, begins_segment, typed_at, type_front, other_at, atom_at, parens_with, opened_with, bare_primary_with}
+use Rattle.rnc_syntax.specs.plain.Productions.{repeated, primary_with, particle_with, separator_of, joined, rest_with, pattern_from, data_front, data_with}
+use Rattle.rnc_syntax.specs.plain.Productions.{bare_pattern_with, pattern_with, method_at}
+use Rattle.rnc_syntax.specs.plain.Productions.{overrides_with, begins_component, component_front, assigned_at, assigned, bare_component_with, component_with}
+use Rattle.rnc_syntax.specs.plain.Productions.{components_with, inside_at}
 use Rattle.rnc_syntax.proofs.Items.{bind_bind}
 use Rattle.rnc_syntax.proofs.Soundness.{bind_ok, chosen, front_some, ok_is, some_is, follow_is, identifier_is, TakesFront, Sound, Closed, Preceded}
 use Rattle.rnc_syntax.proofs.Soundness.{closes_sound, in_braces_sound, Each, no_items, and_item, many_sound, some_is_read, preceded_sound, nothing_left, Behind}

@@ -5,12 +5,14 @@ use Rattle.rnc_syntax.specs.declared.fault.Stop.TheVariants.{Unexpected, TooDeep
 use Rattle.rnc_syntax.specs.declared.fault.SyntaxFault.{SyntaxFault}
 use Rattle.rnc_syntax.specs.declared.fault.SyntaxFault.TheVariants as faults
 use Rattle.rnc_syntax.specs.declared.syntax_tree.File as declared
-use Rattle.rnc_syntax.specs.Fault.{Gives, Refuses, fault_at, told, unless_memory}
-use Rattle.rnc_syntax.specs.Lexeme.{Lexeme}
-use Rattle.rnc_syntax.specs.Syntax.{File}
-use Rattle.rnc_syntax.specs.SyntaxView.{file_of}
-use Rattle.rnc_syntax.specs.Sentence.{nesting_limit, NestsWithin, IsStuckAt, BreaksGrammar, IsSyntaxTree, IsFaultOf}
-use Rattle.rnc_syntax.specs.Productions.{file_with, inside_at}
+use Rattle.rng_model.specs.plain.Answers.{Gives, Refuses}
+use Rattle.rnc_syntax.specs.views.Fault.{fault_at, told, unless_memory}
+use Rattle.rnc_model.specs.tokens.Lexeme.{Lexeme}
+use Rattle.rnc_model.specs.grammar.Syntax.{File}
+use Rattle.rnc_syntax.specs.views.SyntaxView.{file_of}
+use Rattle.rnc_model.specs.grammar.Sentence.{nesting_limit, NestsWithin, IsStuckAt, BreaksGrammar, IsSyntaxTree}
+use Rattle.rnc_syntax.specs.views.SentenceFaults.{IsFaultOf}
+use Rattle.rnc_syntax.specs.plain.Productions.{file_with, inside_at}
 use Rattle.rnc_syntax.proofs.SoundnessFiles.{file_sound}
 use Rattle.rnc_syntax.proofs.CompletenessFiles.{file_complete}
 use Rattle.rnc_syntax.proofs.Depth.{file_not_deep}

@@ -2,13 +2,13 @@
 use Rattle.std.proofs.Common.{◌≡◌, ℕ, zero, suc, List, [], ◌∷◌, ◌++◌, length, Option, Some, None, Result, Ok, Err, refl, sym, ap, subst, ◌∙◌, append_assoc, ◌⊎◌}
 use Rattle.std.proofs.Common.{inl, inr}
 use Rattle.std.proofs.lemmas.List.{append-nil}
-use Rattle.rnc_text.specs.declared.token.Sign.{Sign}
-use Rattle.rnc_text.specs.declared.token.Sign.TheVariants.{CloseBrace}
+use Rattle.rnc_model.specs.declared.token.Sign.{Sign}
+use Rattle.rnc_model.specs.declared.token.Sign.TheVariants.{CloseBrace}
 use Rattle.rnc_syntax.specs.declared.fault.Stop.{Stop}
 use Rattle.rnc_syntax.specs.declared.fault.Stop.TheVariants.{Unexpected}
-use Rattle.rnc_syntax.specs.Lexeme.{Lexeme, sign}
-use Rattle.rnc_syntax.specs.Combinators.{Outcome, ◌>>=◌, unexpected, follow, sign_read, after, either_way, many_with, many}
-use Rattle.rnc_syntax.specs.Productions.{in_braces_at}
+use Rattle.rnc_model.specs.tokens.Lexeme.{Lexeme, sign}
+use Rattle.rnc_syntax.specs.plain.Combinators.{Outcome, ◌>>=◌, unexpected, follow, sign_read, after, either_way, many_with, many}
+use Rattle.rnc_syntax.specs.plain.Productions.{in_braces_at}
 use Rattle.rnc_syntax.proofs.Soundness.{follow_is, after_is, TakesFront, Sound, Closed, Preceded, Each, no_items, and_item, Behind}
 
 -- what stopped: the first step, or the next one

@@ -1,14 +1,14 @@
 -- What was taken where the reading stops can be completed: annotations, and what is read behind them.
 use Rattle.std.proofs.Common.{◌≡◌, ℕ, zero, suc, List, [], ◌∷◌, ◌++◌, Option, Some, None, Ok, Err, refl, ap, inl, inr}
-use Rattle.rnc_text.specs.declared.token.Sign.TheVariants.{OpenBracket, CloseBracket}
+use Rattle.rnc_model.specs.declared.token.Sign.TheVariants.{OpenBracket, CloseBracket}
 use Rattle.rnc_syntax.specs.declared.annotations.Role.{Role}
 use Rattle.rnc_syntax.specs.declared.annotations.Role.TheVariants as roles
 use Rattle.rnc_syntax.specs.declared.fault.Stop.TheVariants.{Unexpected}
-use Rattle.rnc_syntax.specs.Lexeme.{Lexeme, sign}
-use Rattle.rnc_syntax.specs.Grammar as grammar
-use Rattle.rnc_syntax.specs.Grammar.{MayBeAnnotation}
-use Rattle.rnc_syntax.specs.Combinators.{Outcome, ◌>>=◌, follow, either_way}
-use Rattle.rnc_syntax.specs.Productions.{role_of, annotation_end, annotation_at, annotated}
+use Rattle.rnc_model.specs.tokens.Lexeme.{Lexeme, sign}
+use Rattle.rnc_model.specs.grammar.Grammar as grammar
+use Rattle.rnc_model.specs.grammar.Grammar.{MayBeAnnotation}
+use Rattle.rnc_syntax.specs.plain.Combinators.{Outcome, ◌>>=◌, follow, either_way}
+use Rattle.rnc_syntax.specs.plain.Productions.{role_of, annotation_end, annotation_at, annotated}
 use Rattle.rnc_syntax.proofs.AnnotationSteps.{onwards}
 use Rattle.rnc_syntax.proofs.Soundness.{follow_is, Behind}
 use Rattle.rnc_syntax.proofs.SoundnessAnnotations.{Ends, ends_last, ends_inner, IsEnd, opened_at, closed_at, content_at, end_sound, IsSkipped, whole_annotation}

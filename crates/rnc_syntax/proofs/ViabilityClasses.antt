@@ -1,15 +1,15 @@
 -- What was taken where the reading stops can be completed: name classes.
 use Rattle.std.proofs.Common.{◌≡◌, ℕ, List, [], ◌∷◌, ◌++◌, Option, Some, None, Ok, Err, refl, sym, ap, subst, ◌∙◌, inl, inr}
 use Rattle.std.proofs.lemmas.List.{append-nil}
-use Rattle.rnc_text.specs.declared.token.Sign.TheVariants.{Bar, Star, Minus, OpenParenthesis, CloseParenthesis}
+use Rattle.rnc_model.specs.declared.token.Sign.TheVariants.{Bar, Star, Minus, OpenParenthesis, CloseParenthesis}
 use Rattle.rnc_syntax.specs.declared.fault.Stop.TheVariants.{Unexpected}
-use Rattle.rnc_syntax.specs.Lexeme.{Lexeme, keyword, identifier, cname, ns_name, sign}
-use Rattle.rnc_syntax.specs.Syntax as syntax
-use Rattle.rnc_syntax.specs.Syntax.{NameClass}
-use Rattle.rnc_syntax.specs.Grammar as grammar
-use Rattle.rnc_syntax.specs.Grammar.{MayBeAnnotation, IsClass, IsBasic, IsBareBasic}
-use Rattle.rnc_syntax.specs.Combinators.{Outcome, ◌>>=◌, follow, either_way, many}
-use Rattle.rnc_syntax.specs.Productions.{class_in_parens, bare_basic_with, basic_with, choice_with, except_front, excepted, bare_class_with, class_with}
+use Rattle.rnc_model.specs.tokens.Lexeme.{Lexeme, keyword, identifier, cname, ns_name, sign}
+use Rattle.rnc_model.specs.grammar.Syntax as syntax
+use Rattle.rnc_model.specs.grammar.Syntax.{NameClass}
+use Rattle.rnc_model.specs.grammar.Grammar as grammar
+use Rattle.rnc_model.specs.grammar.Grammar.{MayBeAnnotation, IsClass, IsBasic, IsBareBasic}
+use Rattle.rnc_syntax.specs.plain.Combinators.{Outcome, ◌>>=◌, follow, either_way, many}
+use Rattle.rnc_syntax.specs.plain.Productions.{class_in_parens, bare_basic_with, basic_with, choice_with, except_front, excepted, bare_class_with, class_with}
 use Rattle.rnc_syntax.proofs.Soundness.{Sound, Closed, Preceded, Each, preceded_sound, nothing_left, Behind}
 use Rattle.rnc_syntax.proofs.SoundnessClasses.{more_classes_are, except_tokens, except_is, basic_is, bare_basic_behind, basic_sound}
 use Rattle.rnc_syntax.proofs.Viability.{Begins, Viable, IsViable, Completes, Behinds, exactly, nothing_taken, first_stopped, moved, behind_token, completed}

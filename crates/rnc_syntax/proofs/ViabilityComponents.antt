@@ -1,18 +1,18 @@
 -- What was taken where the reading stops can be completed: components, and what is inside brackets at any depth.
 use Rattle.std.proofs.Common.{◌≡◌, ℕ, zero, suc, List, [], ◌∷◌, ◌++◌, Option, Some, None, Ok, Err, refl, ap, ◌∙◌}
-use Rattle.rnc_text.specs.declared.token.Keyword.TheVariants as keywords
-use Rattle.rnc_text.specs.declared.token.Sign.TheVariants.{Equal, BarEqual, AndEqual, OpenBrace, CloseBrace}
+use Rattle.rnc_model.specs.declared.token.Keyword.TheVariants as keywords
+use Rattle.rnc_model.specs.declared.token.Sign.TheVariants.{Equal, BarEqual, AndEqual, OpenBrace, CloseBrace}
 use Rattle.rnc_syntax.specs.declared.fault.Stop.TheVariants.{Unexpected}
 use Rattle.rng_model.specs.declared.method.Method.{Method}
 use Rattle.rng_model.specs.declared.method.Method.TheVariants as methods
-use Rattle.rnc_syntax.specs.Lexeme.{Lexeme, Spelling, keyword, identifier, sign}
-use Rattle.rnc_syntax.specs.Syntax as syntax
-use Rattle.rnc_syntax.specs.Syntax.{Pattern, Component}
-use Rattle.rnc_syntax.specs.Grammar as grammar
-use Rattle.rnc_syntax.specs.Grammar.{Setting, content, override, IsPattern, AreComponents, IsComponent, IsBareComponent, MayOverride}
-use Rattle.rnc_syntax.specs.Combinators.{Outcome, ◌>>=◌, follow, either_way}
-use Rattle.rnc_syntax.specs.Productions.{mention_at, Inside, contents_with, pattern_with, method_at, overrides_with, component_front, assigned_at}
-use Rattle.rnc_syntax.specs.Productions.{assigned, bare_component_with, component_with, components_with, inside_at}
+use Rattle.rnc_model.specs.tokens.Lexeme.{Lexeme, Spelling, keyword, identifier, sign}
+use Rattle.rnc_model.specs.grammar.Syntax as syntax
+use Rattle.rnc_model.specs.grammar.Syntax.{Pattern, Component}
+use Rattle.rnc_model.specs.grammar.Grammar as grammar
+use Rattle.rnc_model.specs.grammar.Grammar.{Setting, content, override, IsPattern, AreComponents, IsComponent, IsBareComponent, MayOverride}
+use Rattle.rnc_syntax.specs.plain.Combinators.{Outcome, ◌>>=◌, follow, either_way}
+use Rattle.rnc_syntax.specs.plain.Productions.{mention_at, Inside, contents_with, pattern_with, method_at, overrides_with, component_front, assigned_at}
+use Rattle.rnc_syntax.specs.plain.Productions.{assigned, bare_component_with, component_with, components_with, inside_at}
 use Rattle.rnc_syntax.proofs.Soundness.{Each, Behind, Bracketed}
 use Rattle.rnc_syntax.proofs.SoundnessLiterals.{IsMention, mention_sound}
 use Rattle.rnc_syntax.proofs.SoundnessPatterns.{InsideSound, IsMethod, method_sound, assignment_with, assignment_is, include_is, start_is, define_is}

@@ -1,15 +1,15 @@
 -- What was taken where the reading stops can be completed: words, literals, parameters, and what mentions hand on.
 use Rattle.std.proofs.Common.{◌≡◌, ℕ, List, [], ◌∷◌, ◌++◌, Option, Some, None, Ok, Err, refl, sym, ap, subst, ◌∙◌}
-use Rattle.rnc_text.specs.declared.token.Keyword.TheVariants as keywords
-use Rattle.rnc_text.specs.declared.token.Sign.TheVariants.{Equal, OpenBrace, CloseBrace, Tilde}
+use Rattle.rnc_model.specs.declared.token.Keyword.TheVariants as keywords
+use Rattle.rnc_model.specs.declared.token.Sign.TheVariants.{Equal, OpenBrace, CloseBrace, Tilde}
 use Rattle.rnc_syntax.specs.declared.fault.Stop.TheVariants.{Unexpected}
-use Rattle.rnc_syntax.specs.Lexeme.{Lexeme, Spelling, keyword, identifier, segment, sign}
-use Rattle.rnc_syntax.specs.Grammar as grammar
-use Rattle.rnc_syntax.specs.Grammar.{IsLiteral, MayBeParameters, MayInherit}
-use Rattle.rnc_syntax.specs.Combinators.{Outcome, ◌>>=◌, follow, follow_keyword, after, word_at, identifier_at, segment_at, either_way, many}
-use Rattle.rnc_syntax.specs.Productions.{literal_at, parameter_at, parameter_front, annotated_parameter_at, in_braces_at, parameters_at, word_after_equal}
-use Rattle.rnc_syntax.specs.Productions.{inherit_at, mention_at}
-use Rattle.rnc_syntax.specs.Syntax.{joined_text}
+use Rattle.rnc_model.specs.tokens.Lexeme.{Lexeme, Spelling, keyword, identifier, segment, sign}
+use Rattle.rnc_model.specs.grammar.Grammar as grammar
+use Rattle.rnc_model.specs.grammar.Grammar.{IsLiteral, MayBeParameters, MayInherit}
+use Rattle.rnc_syntax.specs.plain.Combinators.{Outcome, ◌>>=◌, follow, follow_keyword, after, word_at, identifier_at, segment_at, either_way, many}
+use Rattle.rnc_syntax.specs.plain.Productions.{literal_at, parameter_at, parameter_front, annotated_parameter_at, in_braces_at, parameters_at, word_after_equal}
+use Rattle.rnc_syntax.specs.plain.Productions.{inherit_at, mention_at}
+use Rattle.rnc_model.specs.grammar.Syntax.{joined_text}
 use Rattle.rnc_syntax.proofs.Soundness.{same_inherit, keyword_follows, IsWord, word_sound, IsSegment, segment_sound, Closed, Preceded, Each, many_sound}
 use Rattle.rnc_syntax.proofs.Soundness.{preceded_sound, Behind, bracketed, IsSetting}
 use Rattle.rnc_syntax.proofs.SoundnessLiterals.{literal_is, literal_sound, IsParameter, parameter_is, parameters_are, parameter_front_is, parameter_item}

@@ -1,18 +1,18 @@
 -- What was taken where the reading stops can be completed: patterns.
 use Rattle.std.proofs.Common.{◌≡◌, ℕ, List, [], ◌∷◌, ◌++◌, Option, Some, None, Ok, Err, refl, sym, ap, subst, ◌∙◌, inl, inr}
 use Rattle.std.proofs.lemmas.List.{append-nil}
-use Rattle.rng_model.specs.Tree.{Connector}
-use Rattle.rnc_text.specs.declared.token.Sign.{Sign}
-use Rattle.rnc_text.specs.declared.token.Sign.TheVariants.{Minus}
+use Rattle.rng_model.specs.simple.Tree.{Connector}
+use Rattle.rnc_model.specs.declared.token.Sign.{Sign}
+use Rattle.rnc_model.specs.declared.token.Sign.TheVariants.{Minus}
 use Rattle.rnc_syntax.specs.declared.fault.Stop.TheVariants.{Unexpected}
-use Rattle.rnc_syntax.specs.Lexeme.{Lexeme, sign}
-use Rattle.rnc_syntax.specs.Syntax as syntax
-use Rattle.rnc_syntax.specs.Syntax.{DatatypeName, Pattern}
-use Rattle.rnc_syntax.specs.Grammar as grammar
-use Rattle.rnc_syntax.specs.Grammar.{type_of, connector_of, MayBeAnnotation, IsBarePrimary, MayBeParameters, IsPattern, IsParticle, IsPrimary}
-use Rattle.rnc_syntax.specs.Combinators.{Outcome, ◌>>=◌, follow, either_way, many}
-use Rattle.rnc_syntax.specs.Productions.{parameters_at, Inside, bare_primary_with, primary_with, repeated, particle_with, separator_of, joined, rest_with}
-use Rattle.rnc_syntax.specs.Productions.{pattern_from, data_front, data_with, bare_pattern_with, pattern_with}
+use Rattle.rnc_model.specs.tokens.Lexeme.{Lexeme, sign}
+use Rattle.rnc_model.specs.grammar.Syntax as syntax
+use Rattle.rnc_model.specs.grammar.Syntax.{DatatypeName, Pattern}
+use Rattle.rnc_model.specs.grammar.Grammar as grammar
+use Rattle.rnc_model.specs.grammar.Grammar.{type_of, connector_of, MayBeAnnotation, IsBarePrimary, MayBeParameters, IsPattern, IsParticle, IsPrimary}
+use Rattle.rnc_syntax.specs.plain.Combinators.{Outcome, ◌>>=◌, follow, either_way, many}
+use Rattle.rnc_syntax.specs.plain.Productions.{parameters_at, Inside, bare_primary_with, primary_with, repeated, particle_with, separator_of, joined, rest_with}
+use Rattle.rnc_syntax.specs.plain.Productions.{pattern_from, data_front, data_with, bare_pattern_with, pattern_with}
 use Rattle.rnc_syntax.proofs.Soundness.{follow_is, TakesFront, Preceded, Each, preceded_sound, nothing_left, Behind}
 use Rattle.rnc_syntax.proofs.SoundnessLiterals.{parameters_sound}
 use Rattle.rnc_syntax.proofs.SoundnessPatterns.{InsideSound, data_front_is, separator_is, repeated_reads, more_are, bare_primary_behind, particle_sound}

@@ -1,18 +1,18 @@
 -- What was taken where the reading stops can be completed: primaries and particles.
 use Rattle.std.proofs.Common.{◌≡◌, ℕ, List, [], ◌∷◌, ◌++◌, Some, Ok, Err, refl, ap, inl, inr}
-use Rattle.rnc_text.specs.declared.token.Keyword.TheVariants as keywords
-use Rattle.rnc_text.specs.declared.token.Sign.TheVariants.{OpenBrace, CloseBrace, OpenParenthesis, CloseParenthesis}
+use Rattle.rnc_model.specs.declared.token.Keyword.TheVariants as keywords
+use Rattle.rnc_model.specs.declared.token.Sign.TheVariants.{OpenBrace, CloseBrace, OpenParenthesis, CloseParenthesis}
 use Rattle.rnc_syntax.specs.declared.fault.Stop.TheVariants.{Unexpected}
-use Rattle.rnc_syntax.specs.Lexeme.{Lexeme, keyword, identifier, cname, segment, sign}
-use Rattle.rnc_syntax.specs.Syntax as syntax
-use Rattle.rnc_syntax.specs.Syntax.{NameClass, DatatypeName, Pattern, Component}
-use Rattle.rnc_syntax.specs.Grammar as grammar
-use Rattle.rnc_syntax.specs.Grammar.{Setting, content, type_of, MayBeAnnotation, IsLiteral, MayBeParameters, IsClass, IsPattern, IsParticle, IsPrimary}
-use Rattle.rnc_syntax.specs.Grammar.{IsBarePrimary, IsBraced, AreComponents}
-use Rattle.rnc_syntax.specs.Combinators.{Outcome, ◌>>=◌, identifier_at}
-use Rattle.rnc_syntax.specs.Productions.{in_braces_at, literal_at, parameters_at, mention_at, class_with, Inside, braced_with, contents_with}
-use Rattle.rnc_syntax.specs.Productions.{named_with, begins_segment, typed_at, other_at, atom_at, parens_with, opened_with, bare_primary_with, primary_with}
-use Rattle.rnc_syntax.specs.Productions.{repeated, particle_with}
+use Rattle.rnc_model.specs.tokens.Lexeme.{Lexeme, keyword, identifier, cname, segment, sign}
+use Rattle.rnc_model.specs.grammar.Syntax as syntax
+use Rattle.rnc_model.specs.grammar.Syntax.{NameClass, DatatypeName, Pattern, Component}
+use Rattle.rnc_model.specs.grammar.Grammar as grammar
+use Rattle.rnc_model.specs.grammar.Grammar.{Setting, content, type_of, MayBeAnnotation, IsLiteral, MayBeParameters, IsClass, IsPattern, IsParticle, IsPrimary}
+use Rattle.rnc_model.specs.grammar.Grammar.{IsBarePrimary, IsBraced, AreComponents}
+use Rattle.rnc_syntax.specs.plain.Combinators.{Outcome, ◌>>=◌, identifier_at}
+use Rattle.rnc_syntax.specs.plain.Productions.{in_braces_at, literal_at, parameters_at, mention_at, class_with, Inside, braced_with, contents_with}
+use Rattle.rnc_syntax.specs.plain.Productions.{named_with, begins_segment, typed_at, other_at, atom_at, parens_with, opened_with, bare_primary_with, primary_with}
+use Rattle.rnc_syntax.specs.plain.Productions.{repeated, particle_with}
 use Rattle.rnc_syntax.proofs.Soundness.{chosen, Closed, Preceded, Behind, Bracketed, bracketed}
 use Rattle.rnc_syntax.proofs.SoundnessLiterals.{IsMention}
 use Rattle.rnc_syntax.proofs.SoundnessClasses.{class_sound}

@@ -1,9 +1,2 @@
-pub mod Lexeme
-pub mod Syntax
-pub mod Grammar
-pub mod Sentence
-pub mod SyntaxView
-pub mod Fault
-pub mod Combinators
-pub mod Reading
-pub mod Productions
+pub mod plain
+pub mod views

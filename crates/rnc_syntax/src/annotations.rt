@@ -1,8 +1,9 @@
 // Reading annotations, which leave no trace in the tree.
 ghost use Rattle.std.specs.Prelude.{◌≡◌, ◌<◌, ◌≤◌, option_map, length, IfOk, IfSome};
-ghost use Rattle.rnc_syntax.specs.Reading.{lexemes_in};
-ghost use Rattle.rnc_syntax.specs.Fault.{Gives, stop_of};
-ghost use Rattle.rnc_syntax.specs.Productions.{annotation_at, annotation_end, role_front};
+ghost use Rattle.rnc_syntax.specs.plain.Reading.{lexemes_in};
+ghost use Rattle.rng_model.specs.plain.Answers.{Gives};
+ghost use Rattle.rnc_syntax.specs.views.Fault.{stop_of};
+ghost use Rattle.rnc_syntax.specs.plain.Productions.{annotation_at, annotation_end, role_front};
 
 use crate::fault::ReadFault;
 use crate::reading::{Reader, onward};
@@ -66,7 +67,7 @@ impl Reader {
     }
 
     /// The tokens behind an annotation, if one stands in front.
-    #[tactic(auto, unfolding(crate::specs::Productions::annotation_at))]
+    #[tactic(auto, unfolding(crate::specs::plain::Productions::annotation_at))]
     pub fn annotation<'t, 'a>(self, tokens: &'t [Token<'a>]) -> Result<&'t [Token<'a>], ReadFault>
         ensures reads { Gives stop_of (λ x. (tt, lexemes_in self.count x.now)) result (annotation_at (lexemes_in self.count tokens.now)) }
         ensures shorter { IfOk result (λ x. length x.now ≤ length tokens.now) }

@@ -12,28 +12,16 @@ ghost use Rattle.std.specs.Prelude.{
   IfOk,
   IfSome,
 };
-ghost use Rattle.rnc_syntax.specs.Lexeme.{local_in, prefix_in};
-ghost use Rattle.rnc_syntax.specs.Reading.{lexemes_in};
-ghost use Rattle.rnc_syntax.specs.Fault.{Gives, stop_of};
-ghost use Rattle.rnc_syntax.specs.Productions.{
-  atom_at,
-  begins_component as is_component_front,
-  begins_segment,
-  data_front,
-  joined,
-  lone_front,
-  method_at,
-  other_at,
-  repeated as repeated_of,
-  separator_of,
-  type_front,
-  typed_at,
-};
-ghost use Rattle.rnc_syntax.specs.Productions.{include_front, opening_front};
-ghost use Rattle.rnc_syntax.specs.Productions.{assigned_at};
-ghost use Rattle.rnc_syntax.specs.Productions.{assigned as assigned_of};
-ghost use Rattle.rnc_syntax.specs.Syntax as syntax;
-ghost use Rattle.rnc_syntax.specs.SyntaxView.{component_of, pattern_of, setting_of, type_of};
+ghost use Rattle.rnc_model.specs.tokens.Lexeme.{local_in, prefix_in};
+ghost use Rattle.rnc_syntax.specs.plain.Reading.{lexemes_in};
+ghost use Rattle.rng_model.specs.plain.Answers.{Gives};
+ghost use Rattle.rnc_syntax.specs.views.Fault.{stop_of};
+ghost use Rattle.rnc_syntax.specs.plain.Productions.{atom_at, begins_component as is_component_front, begins_segment, data_front, joined, lone_front, method_at, other_at, repeated as repeated_of, separator_of, type_front, typed_at};
+ghost use Rattle.rnc_syntax.specs.plain.Productions.{include_front, opening_front};
+ghost use Rattle.rnc_syntax.specs.plain.Productions.{assigned_at};
+ghost use Rattle.rnc_syntax.specs.plain.Productions.{assigned as assigned_of};
+ghost use Rattle.rnc_model.specs.grammar.Syntax as syntax;
+ghost use Rattle.rnc_syntax.specs.views.SyntaxView.{component_of, pattern_of, setting_of, type_of};
 
 use crate::fault::ReadFault;
 use crate::reading::{Reader, split_name};
@@ -142,7 +130,7 @@ impl Reader {
     }
 
     /// A define's name, or nothing for a start, with its method.
-    #[tactic(auto, unfolding(crate::specs::Productions::assigned_at))]
+    #[tactic(auto, unfolding(crate::specs::plain::Productions::assigned_at))]
     pub fn assigned<'t, 'a>(
         self,
         tokens: &'t [Token<'a>],
@@ -246,7 +234,7 @@ impl Reader {
     }
 
     /// A value or a datatype after its name: `literal` or `[params]`.
-    #[tactic(auto, unfolding(crate::specs::Productions::typed_at))]
+    #[tactic(auto, unfolding(crate::specs::plain::Productions::typed_at))]
     fn typed<'t, 'a>(
         self,
         type_name: DatatypeName<'a>,
@@ -283,7 +271,7 @@ impl Reader {
     }
 
     /// A primary of more tokens that begins with no datatype and holds no other pattern.
-    #[tactic(auto, unfolding(crate::specs::Productions::other_at))]
+    #[tactic(auto, unfolding(crate::specs::plain::Productions::other_at))]
     fn other<'t, 'a>(
         self,
         tokens: &'t [Token<'a>],
@@ -313,7 +301,7 @@ impl Reader {
     }
 
     /// A primary that holds no other pattern.
-    #[tactic(auto, unfolding(crate::specs::Productions::atom_at))]
+    #[tactic(auto, unfolding(crate::specs::plain::Productions::atom_at))]
     pub fn atom<'t, 'a>(
         self,
         tokens: &'t [Token<'a>],
@@ -331,7 +319,7 @@ impl Reader {
     }
 
     /// How a component is joined with others: `"=" | "|=" | "&="`.
-    #[tactic(auto, unfolding(crate::specs::Productions::method_at))]
+    #[tactic(auto, unfolding(crate::specs::plain::Productions::method_at))]
     pub fn method<'t, 'a>(
         self,
         tokens: &'t [Token<'a>],

@@ -1,22 +1,10 @@
 // Reading files: declarations, and what follows them.
 ghost use Rattle.std.specs.Prelude.{◌≡◌, ◌<◌, ◌≤◌, map, length, IfOk};
-ghost use Rattle.rnc_syntax.specs.Reading.{lexemes_in};
-ghost use Rattle.rnc_syntax.specs.Fault.{Gives, stop_of};
-ghost use Rattle.rnc_syntax.specs.Productions.{
-  annotated_body_with,
-  begins_declaration as is_declaration_front,
-  begins_method as is_method_front,
-  body_with,
-  declaration_at,
-  declarations_at,
-  default_at,
-  file_with,
-  inside_at,
-  is_grammar_body,
-  prefix_at,
-  uri_at,
-};
-ghost use Rattle.rnc_syntax.specs.SyntaxView.{body_of, declaration_of, file_of, uri_of};
+ghost use Rattle.rnc_syntax.specs.plain.Reading.{lexemes_in};
+ghost use Rattle.rng_model.specs.plain.Answers.{Gives};
+ghost use Rattle.rnc_syntax.specs.views.Fault.{stop_of};
+ghost use Rattle.rnc_syntax.specs.plain.Productions.{annotated_body_with, begins_declaration as is_declaration_front, begins_method as is_method_front, body_with, declaration_at, declarations_at, default_at, file_with, inside_at, is_grammar_body, prefix_at, uri_at};
+ghost use Rattle.rnc_syntax.specs.views.SyntaxView.{body_of, declaration_of, file_of, uri_of};
 
 use crate::atoms::Setting;
 use crate::fault::ReadFault;
@@ -75,7 +63,7 @@ impl Reader {
     }
 
     /// `literal | "inherit"`.
-    #[tactic(auto, unfolding(crate::specs::Productions::uri_at))]
+    #[tactic(auto, unfolding(crate::specs::plain::Productions::uri_at))]
     fn uri<'t, 'a>(self, tokens: &'t [Token<'a>]) -> Result<(Uri<'a>, &'t [Token<'a>]), ReadFault>
         ensures reads { Gives stop_of (λ x. (uri_of x.0, lexemes_in self.count x.1.now)) result (uri_at (lexemes_in self.count tokens.now)) }
         ensures shorter { IfOk result (λ x. length x.1.now < length tokens.now) }
@@ -90,7 +78,7 @@ impl Reader {
     }
 
     /// `word "=" uri`.
-    #[tactic(auto, unfolding(crate::specs::Productions::prefix_at))]
+    #[tactic(auto, unfolding(crate::specs::plain::Productions::prefix_at))]
     fn prefix<'t, 'a>(
         self,
         tokens: &'t [Token<'a>],
@@ -105,7 +93,7 @@ impl Reader {
     }
 
     /// What follows `default namespace`: `[word] "=" uri`.
-    #[tactic(auto, unfolding(crate::specs::Productions::default_at))]
+    #[tactic(auto, unfolding(crate::specs::plain::Productions::default_at))]
     fn default_namespace<'t, 'a>(
         self,
         tokens: &'t [Token<'a>],
@@ -132,7 +120,7 @@ impl Reader {
     }
 
     /// One declaration.
-    #[tactic(auto, unfolding(crate::specs::Productions::declaration_at))]
+    #[tactic(auto, unfolding(crate::specs::plain::Productions::declaration_at))]
     fn declaration<'t, 'a>(
         self,
         tokens: &'t [Token<'a>],
@@ -161,7 +149,7 @@ impl Reader {
     }
 
     /// The declarations at the start of a file.
-    #[tactic(auto, unfolding(crate::specs::Productions::declarations_at))]
+    #[tactic(auto, unfolding(crate::specs::plain::Productions::declarations_at))]
     fn declarations<'t, 'a>(
         self,
         tokens: &'t [Token<'a>],
@@ -180,7 +168,7 @@ impl Reader {
     }
 
     /// What follows the declarations.
-    #[tactic(auto, unfolding(crate::specs::Productions::body_with, crate::specs::Productions::bare_body_with))]
+    #[tactic(auto, unfolding(crate::specs::plain::Productions::body_with, crate::specs::plain::Productions::bare_body_with))]
     fn body<'t, 'a>(
         self,
         levels: u8,
@@ -203,7 +191,7 @@ impl Reader {
     }
 
     /// What follows the declarations, behind the annotation of its pattern or its first component.
-    #[tactic(auto, unfolding(crate::specs::Productions::annotated_body_with))]
+    #[tactic(auto, unfolding(crate::specs::plain::Productions::annotated_body_with))]
     fn annotated_body<'t, 'a>(
         self,
         levels: u8,
@@ -224,7 +212,7 @@ impl Reader {
     }
 
     /// A whole file, inside which so many brackets may be open.
-    #[tactic(auto, unfolding(crate::specs::Productions::file_with))]
+    #[tactic(auto, unfolding(crate::specs::plain::Productions::file_with))]
     pub fn file<'a>(self, levels: u8, tokens: &[Token<'a>]) -> Result<File<'a>, ReadFault>
         ensures { Gives stop_of file_of result (file_with (inside_at levels) (lexemes_in self.count tokens.now)) }
     {

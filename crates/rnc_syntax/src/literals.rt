@@ -1,11 +1,12 @@
 // Reading literals, parameters of datatypes, and mentions.
 ghost use Rattle.std.specs.Prelude.{◌≡◌, ◌<◌, ◌≤◌, ℕ, ◌-◌, Some, None, if◌then◌else◌, map, option_map, length, IfOk};
-ghost use Rattle.rnc_syntax.specs.Reading.{lexemes_in};
-ghost use Rattle.rnc_syntax.specs.Combinators.{follow, many, segment_at, with_front};
-ghost use Rattle.rnc_syntax.specs.Fault.{Gives, stop_of};
-ghost use Rattle.rnc_syntax.specs.Productions.{annotated_parameter_at, inherit_at, literal_at, mention_at, parameter_at, parameter_front, parameters_at};
-ghost use Rattle.rnc_syntax.specs.SyntaxView.{mention_of, parameter_of, text_of};
-ghost use Rattle.rnc_text.specs.declared.token.Sign.TheVariants.{Tilde};
+ghost use Rattle.rnc_syntax.specs.plain.Reading.{lexemes_in};
+ghost use Rattle.rnc_syntax.specs.plain.Combinators.{follow, many, segment_at, with_front};
+ghost use Rattle.rng_model.specs.plain.Answers.{Gives};
+ghost use Rattle.rnc_syntax.specs.views.Fault.{stop_of};
+ghost use Rattle.rnc_syntax.specs.plain.Productions.{annotated_parameter_at, inherit_at, literal_at, mention_at, parameter_at, parameter_front, parameters_at};
+ghost use Rattle.rnc_syntax.specs.views.SyntaxView.{mention_of, parameter_of, text_of};
+ghost use Rattle.rnc_model.specs.declared.token.Sign.TheVariants.{Tilde};
 
 use crate::fault::ReadFault;
 use crate::reading::{Reader, onward};
@@ -14,7 +15,7 @@ use rnc_text::{Keyword, Sign, Token, TokenKind};
 
 impl Reader {
     /// The segments of a literal: `segment ("~" segment)*`.
-    #[tactic(auto, unfolding(crate::specs::Productions::literal_at))]
+    #[tactic(auto, unfolding(crate::specs::plain::Productions::literal_at))]
     pub fn literal<'t, 'a>(
         self,
         tokens: &'t [Token<'a>],
@@ -48,7 +49,7 @@ impl Reader {
     }
 
     /// A parameter without its annotation, or what `datatypes` declares: `word "=" literal`.
-    #[tactic(auto, unfolding(crate::specs::Productions::parameter_at))]
+    #[tactic(auto, unfolding(crate::specs::plain::Productions::parameter_at))]
     pub fn parameter<'t, 'a>(
         self,
         tokens: &'t [Token<'a>],
@@ -63,7 +64,7 @@ impl Reader {
     }
 
     /// A parameter of a datatype: `[annotation] word "=" literal`.
-    #[tactic(auto, unfolding(crate::specs::Productions::annotated_parameter_at))]
+    #[tactic(auto, unfolding(crate::specs::plain::Productions::annotated_parameter_at))]
     fn annotated_parameter<'t, 'a>(
         self,
         tokens: &'t [Token<'a>],
@@ -76,7 +77,7 @@ impl Reader {
     }
 
     /// The parameters of a datatype, in braces, if a brace opens: `["{" param* "}"]`.
-    #[tactic(auto, unfolding(crate::specs::Productions::parameters_at, crate::specs::Productions::in_braces_at))]
+    #[tactic(auto, unfolding(crate::specs::plain::Productions::parameters_at, crate::specs::plain::Productions::in_braces_at))]
     pub fn parameters<'t, 'a>(
         self,
         tokens: &'t [Token<'a>],
@@ -113,7 +114,7 @@ impl Reader {
     }
 
     /// The prefix that a mention names: `["inherit" "=" word]`.
-    #[tactic(auto, unfolding(crate::specs::Productions::inherit_at, crate::specs::Productions::word_after_equal))]
+    #[tactic(auto, unfolding(crate::specs::plain::Productions::inherit_at, crate::specs::plain::Productions::word_after_equal))]
     pub fn inherit<'t, 'a>(
         self,
         tokens: &'t [Token<'a>],
@@ -132,7 +133,7 @@ impl Reader {
     }
 
     /// A mention, after its keyword, which has this number: `literal [inherit]`.
-    #[tactic(auto, unfolding(crate::specs::Productions::mention_at))]
+    #[tactic(auto, unfolding(crate::specs::plain::Productions::mention_at))]
     pub fn mention<'t, 'a>(
         self,
         token: usize,

@@ -1,23 +1,14 @@
 // Reading name classes.
 ghost use Rattle.std.specs.Prelude.{◌≡◌, ◌<◌, ◌≤◌, map, option_map, length, IfOk, IfSome};
-ghost use Rattle.rnc_syntax.specs.Lexeme.{prefix_in, local_in};
-ghost use Rattle.rnc_syntax.specs.Reading.{lexemes_in};
-ghost use Rattle.rnc_syntax.specs.Combinators.{follow, many, with_front};
-ghost use Rattle.rnc_syntax.specs.Fault.{Gives, stop_of};
-ghost use Rattle.rnc_syntax.specs.Productions.{
-  bare_basic_with,
-  bare_class_with,
-  basic_with,
-  choice_with,
-  class_with,
-  except_front,
-  excepted,
-  inside_at,
-  wide_front,
-};
-ghost use Rattle.rnc_syntax.specs.Syntax as syntax;
-ghost use Rattle.rnc_syntax.specs.SyntaxView.{class_of};
-ghost use Rattle.rnc_text.specs.declared.token.Sign.TheVariants.{Bar};
+ghost use Rattle.rnc_model.specs.tokens.Lexeme.{prefix_in, local_in};
+ghost use Rattle.rnc_syntax.specs.plain.Reading.{lexemes_in};
+ghost use Rattle.rnc_syntax.specs.plain.Combinators.{follow, many, with_front};
+ghost use Rattle.rng_model.specs.plain.Answers.{Gives};
+ghost use Rattle.rnc_syntax.specs.views.Fault.{stop_of};
+ghost use Rattle.rnc_syntax.specs.plain.Productions.{bare_basic_with, bare_class_with, basic_with, choice_with, class_with, except_front, excepted, inside_at, wide_front};
+ghost use Rattle.rnc_model.specs.grammar.Syntax as syntax;
+ghost use Rattle.rnc_syntax.specs.views.SyntaxView.{class_of};
+ghost use Rattle.rnc_model.specs.declared.token.Sign.TheVariants.{Bar};
 
 use crate::fault::{ReadFault, Stop};
 use crate::reading::{Reader, onward, split_name};
@@ -90,7 +81,7 @@ impl Reader {
     /// A name class that stands in so many brackets less than may be open:
     /// `basic | basic ("|" basic)+ | [annotation] (nsName | "*") "-" basic`.
     #[cycle(classes)]
-    #[tactic(auto, unfolding(crate::specs::Productions::class_with))]
+    #[tactic(auto, unfolding(crate::specs::plain::Productions::class_with))]
     pub fn class<'t, 'a>(
         self,
         levels: u8,
@@ -105,7 +96,7 @@ impl Reader {
 
     /// A name class behind an annotation.
     #[cycle(classes)]
-    #[tactic(auto, unfolding(crate::specs::Productions::bare_class_with))]
+    #[tactic(auto, unfolding(crate::specs::plain::Productions::bare_class_with))]
     fn bare_class<'t, 'a>(
         self,
         levels: u8,
@@ -129,7 +120,7 @@ impl Reader {
 
     /// A class and those that follow, each with `|` before it.
     #[cycle(classes)]
-    #[tactic(auto, unfolding(crate::specs::Productions::choice_with))]
+    #[tactic(auto, unfolding(crate::specs::plain::Productions::choice_with))]
     fn choice<'t, 'a>(
         self,
         levels: u8,
@@ -172,7 +163,7 @@ impl Reader {
 
     /// `[annotation] ( word | CName | nsName | "*" | "(" class ")" )`.
     #[cycle(classes)]
-    #[tactic(auto, unfolding(crate::specs::Productions::basic_with))]
+    #[tactic(auto, unfolding(crate::specs::plain::Productions::basic_with))]
     fn basic<'t, 'a>(
         self,
         levels: u8,
@@ -187,7 +178,7 @@ impl Reader {
 
     /// `word | CName | nsName | "*" | "(" class ")"`.
     #[cycle(classes)]
-    #[tactic(auto, unfolding(crate::specs::Productions::bare_basic_with, crate::specs::Productions::class_in_parens))]
+    #[tactic(auto, unfolding(crate::specs::plain::Productions::bare_basic_with, crate::specs::plain::Productions::class_in_parens))]
     fn bare_basic<'t, 'a>(
         self,
         levels: u8,

@@ -1,28 +1,11 @@
 // Reading patterns and the components of grammars.
 ghost use Rattle.std.specs.Prelude.{◌≡◌, ◌<◌, ◌≤◌, map, length, IfOk};
-ghost use Rattle.rnc_syntax.specs.Reading.{lexemes_in};
-ghost use Rattle.rnc_syntax.specs.Combinators.{follow, many, with_front};
-ghost use Rattle.rnc_syntax.specs.Fault.{Gives, stop_of};
-ghost use Rattle.rnc_syntax.specs.Productions.{
-  bare_component_with,
-  bare_pattern_with,
-  bare_primary_with,
-  braced_with,
-  component_with,
-  components_with,
-  contents_with,
-  data_with,
-  inside_at,
-  opened_with,
-  overrides_with,
-  particle_with,
-  pattern_from as pattern_read_from,
-  pattern_with,
-  primary_with,
-  rest_with,
-  separator_of,
-};
-ghost use Rattle.rnc_syntax.specs.SyntaxView.{component_of, parameter_of, pattern_of, setting_of, type_of};
+ghost use Rattle.rnc_syntax.specs.plain.Reading.{lexemes_in};
+ghost use Rattle.rnc_syntax.specs.plain.Combinators.{follow, many, with_front};
+ghost use Rattle.rng_model.specs.plain.Answers.{Gives};
+ghost use Rattle.rnc_syntax.specs.views.Fault.{stop_of};
+ghost use Rattle.rnc_syntax.specs.plain.Productions.{bare_component_with, bare_pattern_with, bare_primary_with, braced_with, component_with, components_with, contents_with, data_with, inside_at, opened_with, overrides_with, particle_with, pattern_from as pattern_read_from, pattern_with, primary_with, rest_with, separator_of};
+ghost use Rattle.rnc_syntax.specs.views.SyntaxView.{component_of, parameter_of, pattern_of, setting_of, type_of};
 
 use crate::atoms::{Opening, Setting, component, join};
 use crate::fault::{ReadFault, Stop};
@@ -68,7 +51,7 @@ impl Reader {
 
     /// `"{" pattern "}"`.
     #[cycle(patterns)]
-    #[tactic(auto, unfolding(crate::specs::Productions::braced_with, crate::specs::Productions::in_braces_at))]
+    #[tactic(auto, unfolding(crate::specs::plain::Productions::braced_with, crate::specs::plain::Productions::in_braces_at))]
     fn braced<'t, 'a>(
         self,
         levels: u8,
@@ -85,7 +68,7 @@ impl Reader {
 
     /// `"{" content* "}"` or `"{" over* "}"`.
     #[cycle(patterns)]
-    #[tactic(auto, unfolding(crate::specs::Productions::contents_with, crate::specs::Productions::in_braces_at))]
+    #[tactic(auto, unfolding(crate::specs::plain::Productions::contents_with, crate::specs::plain::Productions::in_braces_at))]
     fn contents<'t, 'a>(
         self,
         levels: u8,
@@ -103,7 +86,7 @@ impl Reader {
 
     /// How a primary that holds other patterns goes on after its keyword or its parenthesis.
     #[cycle(patterns)]
-    #[tactic(auto, unfolding(crate::specs::Productions::opened_with, crate::specs::Productions::named_with, crate::specs::Productions::parens_with))]
+    #[tactic(auto, unfolding(crate::specs::plain::Productions::opened_with, crate::specs::plain::Productions::named_with, crate::specs::plain::Productions::parens_with))]
     fn opened<'t, 'a>(
         self,
         levels: u8,
@@ -146,7 +129,7 @@ impl Reader {
 
     /// A pattern that no connector and no repetition splits.
     #[cycle(patterns)]
-    #[tactic(auto, unfolding(crate::specs::Productions::primary_with))]
+    #[tactic(auto, unfolding(crate::specs::plain::Productions::primary_with))]
     fn primary<'t, 'a>(
         self,
         levels: u8,
@@ -161,7 +144,7 @@ impl Reader {
 
     /// The same, behind its annotation.
     #[cycle(patterns)]
-    #[tactic(auto, unfolding(crate::specs::Productions::bare_primary_with))]
+    #[tactic(auto, unfolding(crate::specs::plain::Productions::bare_primary_with))]
     fn bare_primary<'t, 'a>(
         self,
         levels: u8,
@@ -178,7 +161,7 @@ impl Reader {
 
     /// `primary | primary "?" | primary "*" | primary "+"`.
     #[cycle(patterns)]
-    #[tactic(auto, unfolding(crate::specs::Productions::particle_with))]
+    #[tactic(auto, unfolding(crate::specs::plain::Productions::particle_with))]
     fn particle<'t, 'a>(
         self,
         levels: u8,
@@ -229,7 +212,7 @@ impl Reader {
 
     /// A pattern whose first particle has been read.
     #[cycle(patterns)]
-    #[tactic(auto, unfolding(crate::specs::Productions::rest_with))]
+    #[tactic(auto, unfolding(crate::specs::plain::Productions::rest_with))]
     fn members<'t, 'a>(
         self,
         levels: u8,
@@ -251,7 +234,7 @@ impl Reader {
 
     /// A pattern that begins with a datatype and its parameters.
     #[cycle(patterns)]
-    #[tactic(auto, unfolding(crate::specs::Productions::data_with))]
+    #[tactic(auto, unfolding(crate::specs::plain::Productions::data_with))]
     fn data<'t, 'a>(
         self,
         levels: u8,
@@ -274,7 +257,7 @@ impl Reader {
 
     /// A pattern, inside which so many brackets may be open.
     #[cycle(patterns)]
-    #[tactic(auto, unfolding(crate::specs::Productions::pattern_with))]
+    #[tactic(auto, unfolding(crate::specs::plain::Productions::pattern_with))]
     pub fn pattern<'t, 'a>(
         self,
         levels: u8,
@@ -289,7 +272,7 @@ impl Reader {
 
     /// The same, behind an annotation.
     #[cycle(patterns)]
-    #[tactic(auto, unfolding(crate::specs::Productions::bare_pattern_with))]
+    #[tactic(auto, unfolding(crate::specs::plain::Productions::bare_pattern_with))]
     pub fn bare_pattern<'t, 'a>(
         self,
         levels: u8,
@@ -312,7 +295,7 @@ impl Reader {
 
     /// The components in the braces of an include, if there are braces.
     #[cycle(patterns)]
-    #[tactic(auto, unfolding(crate::specs::Productions::overrides_with))]
+    #[tactic(auto, unfolding(crate::specs::plain::Productions::overrides_with))]
     fn overrides<'t, 'a>(
         self,
         levels: u8,
@@ -329,7 +312,7 @@ impl Reader {
 
     /// One component.
     #[cycle(patterns)]
-    #[tactic(auto, unfolding(crate::specs::Productions::component_with))]
+    #[tactic(auto, unfolding(crate::specs::plain::Productions::component_with))]
     fn component<'t, 'a>(
         self,
         levels: u8,
@@ -345,7 +328,7 @@ impl Reader {
 
     /// One component, behind its annotation.
     #[cycle(patterns)]
-    #[tactic(auto, unfolding(crate::specs::Productions::bare_component_with))]
+    #[tactic(auto, unfolding(crate::specs::plain::Productions::bare_component_with))]
     pub fn bare_component<'t, 'a>(
         self,
         levels: u8,
@@ -371,7 +354,7 @@ impl Reader {
 
     /// Components one after another, inside which so many brackets may be open.
     #[cycle(patterns)]
-    #[tactic(auto, unfolding(crate::specs::Productions::components_with))]
+    #[tactic(auto, unfolding(crate::specs::plain::Productions::components_with))]
     pub fn components<'t, 'a>(
         self,
         levels: u8,

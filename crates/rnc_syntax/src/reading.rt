@@ -1,9 +1,10 @@
 // Reading tokens from left to right.
 ghost use Rattle.std.specs.Prelude.{◌≡◌, ◌<◌, option_map, length, IfOk, IfSome};
-ghost use Rattle.rnc_syntax.specs.Lexeme.{local_in, prefix_in};
-ghost use Rattle.rnc_syntax.specs.Reading.{lexemes_in};
-ghost use Rattle.rnc_syntax.specs.Combinators.{after, after_keyword, follow, follow_keyword, word_at, identifier_at, segment_at};
-ghost use Rattle.rnc_syntax.specs.Fault.{Gives, stop_of};
+ghost use Rattle.rnc_model.specs.tokens.Lexeme.{local_in, prefix_in};
+ghost use Rattle.rnc_syntax.specs.plain.Reading.{lexemes_in};
+ghost use Rattle.rnc_syntax.specs.plain.Combinators.{after, after_keyword, follow, follow_keyword, word_at, identifier_at, segment_at};
+ghost use Rattle.rng_model.specs.plain.Answers.{Gives};
+ghost use Rattle.rnc_syntax.specs.views.Fault.{stop_of};
 ghost use Rattle.rnc_syntax.specs.declared.fault.Stop.TheVariants.{Unexpected};
 ghost use Rattle.rnc_syntax.specs.declared.fault.ReadFault.TheVariants as read_faults;
 
@@ -58,7 +59,7 @@ impl Reader {
     }
 
     /// The tokens after this sign, which has to stand in front.
-    #[tactic(auto, unfolding(crate::specs::Combinators::after))]
+    #[tactic(auto, unfolding(crate::specs::plain::Combinators::after))]
     pub fn skip<'t, 'a>(
         self,
         sign: Sign,
@@ -89,7 +90,7 @@ impl Reader {
     }
 
     /// The tokens after this keyword, which has to stand in front.
-    #[tactic(auto, unfolding(crate::specs::Combinators::after_keyword))]
+    #[tactic(auto, unfolding(crate::specs::plain::Combinators::after_keyword))]
     pub fn skip_keyword<'t, 'a>(
         self,
         keyword: Keyword,
@@ -105,7 +106,7 @@ impl Reader {
     }
 
     /// The name that a word in front says: an identifier or a keyword.
-    #[tactic(auto, unfolding(crate::specs::Combinators::word_at))]
+    #[tactic(auto, unfolding(crate::specs::plain::Combinators::word_at))]
     pub fn word<'t, 'a>(
         self,
         tokens: &'t [Token<'a>],
@@ -125,7 +126,7 @@ impl Reader {
     }
 
     /// The name that an identifier in front says.
-    #[tactic(auto, unfolding(crate::specs::Combinators::identifier_at))]
+    #[tactic(auto, unfolding(crate::specs::plain::Combinators::identifier_at))]
     pub fn identifier<'t, 'a>(
         self,
         tokens: &'t [Token<'a>],
@@ -143,7 +144,7 @@ impl Reader {
     }
 
     /// What a segment in front holds.
-    #[tactic(auto, unfolding(crate::specs::Combinators::segment_at))]
+    #[tactic(auto, unfolding(crate::specs::plain::Combinators::segment_at))]
     pub fn segment<'t, 'a>(
         self,
         tokens: &'t [Token<'a>],

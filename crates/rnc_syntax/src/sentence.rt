@@ -1,20 +1,16 @@
 // From the tokens of a schema file to its syntax tree.
 ghost use Rattle.std.specs.Prelude.{◌≡◌, ℕ, Err, IfErr, IfOk, Ok, length};
-ghost use Rattle.rnc_syntax.specs.Fault.{Gives, fault_at, told, unless_memory};
-ghost use Rattle.rnc_syntax.specs.Grammar.{IsFile};
-ghost use Rattle.rnc_syntax.specs.Lexeme.{lexemes};
-ghost use Rattle.rnc_syntax.specs.Productions.{file_with, inside_at};
-ghost use Rattle.rnc_syntax.specs.Sentence.{
-  BreaksGrammar,
-  BreaksNesting,
-  IsFaultOf,
-  IsSyntaxTree,
-  nesting_limit,
-};
-ghost use Rattle.rnc_syntax.specs.Syntax as syntax;
-ghost use Rattle.rnc_syntax.specs.SyntaxView.{file_of};
+ghost use Rattle.rng_model.specs.plain.Answers.{Gives};
+ghost use Rattle.rnc_syntax.specs.views.Fault.{fault_at, told, unless_memory};
+ghost use Rattle.rnc_model.specs.grammar.Grammar.{IsFile};
+ghost use Rattle.rnc_model.specs.tokens.Lexeme.{lexemes};
+ghost use Rattle.rnc_syntax.specs.plain.Productions.{file_with, inside_at};
+ghost use Rattle.rnc_model.specs.grammar.Sentence.{BreaksGrammar, BreaksNesting, IsSyntaxTree, nesting_limit};
+ghost use Rattle.rnc_syntax.specs.views.SentenceFaults.{IsFaultOf};
+ghost use Rattle.rnc_model.specs.grammar.Syntax as syntax;
+ghost use Rattle.rnc_syntax.specs.views.SyntaxView.{file_of};
 ghost use Rattle.rnc_syntax.specs.declared.fault.SyntaxFault.TheVariants as faults;
-ghost use Rattle.rnc_text.specs.Cut.{tokens_of};
+ghost use Rattle.rnc_model.specs.tokens.Cut.{tokens_of};
 
 use crate::fault::{ReadFault, Stop, SyntaxFault};
 use crate::nesting::{NESTING_LIMIT, nests_within_limit};

@@ -3,7 +3,7 @@ use Rattle.std.proofs.Common.{◌≡◌, ℕ, List, [], ◌++◌, Option, Some, 
 use Rattle.std.specs.Str.{chars, IsUtf8}
 use Rattle.std.specs.Char.{encode_utf8}
 use Rattle.std.proofs.lemmas.Str.{chars_past_char, chars-nil}
-use Rattle.rnc_text.specs.DecodingSteps.{first_and_rest}
+use Rattle.rnc_text.specs.plain.DecodingSteps.{first_and_rest}
 
 pub first_of_none : (bs : List ℕ) → bs ≡ [] → None ≡ first_and_rest (chars bs)
 first_of_none bs e = rw (e, chars-nil) refl

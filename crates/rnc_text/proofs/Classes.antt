@@ -3,12 +3,12 @@ use Rattle.std.proofs.Common.{◌≡◌, ℕ, Bool, true, false, List, [], ◌�
 use Rattle.std.specs.Prelude.{◌&&◌, not}
 use Rattle.std.specs.List.{list_all}
 use Rattle.std.proofs.lemmas.Bool.{and_parts, false≢true}
-use Rattle.rng_model.specs.Characters.{is_name_start, is_name_char, is_colon}
-use Rattle.rnc_text.specs.Characters.{numbers_of}
-use Rattle.rnc_text.specs.Tokens.{IsNcname}
-use Rattle.rnc_text.specs.CutSteps.{starts_ncname, is_ncname_number, is_in, front, after, begins_ncname}
-use Rattle.rnc_text.specs.declared.character.Character.{Character}
-use Rattle.rnc_text.specs.declared.character.Character.TheVariants.{LineEnd, Ordinary}
+use Rattle.rng_model.specs.names.Characters.{is_name_start, is_name_char, is_colon}
+use Rattle.rnc_model.specs.characters.Characters.{numbers_of}
+use Rattle.rnc_model.specs.tokens.Tokens.{IsNcname}
+use Rattle.rnc_text.specs.plain.CutSteps.{starts_ncname, is_ncname_number, is_in, front, after, begins_ncname}
+use Rattle.rnc_model.specs.declared.character.Character.{Character}
+use Rattle.rnc_model.specs.declared.character.Character.TheVariants.{LineEnd, Ordinary}
 use Rattle.rnc_text.specs.declared.scanning.Class.{Class}
 use Rattle.rnc_text.specs.declared.scanning.Class.TheVariants as classes
 

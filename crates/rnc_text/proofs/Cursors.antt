@@ -7,13 +7,13 @@ use Rattle.std.proofs.lemmas.List.{length-append, append-nil, map-append}
 use Rattle.std.proofs.Math.Seq.{take-append_seam}
 use Rattle.std.proofs.lemmas.Str.{encodes-append, encodes-chars, length-le-encodes, IsCharBoundary-at_seam}
 use Rattle.std.proofs.lemmas.Option.{none-some, same_Some, some_pair_parts}
-use Rattle.rnc_text.specs.declared.character.Character.{Character}
-use Rattle.rnc_text.specs.declared.character.Character.TheVariants.{Ordinary}
+use Rattle.rnc_model.specs.declared.character.Character.{Character}
+use Rattle.rnc_model.specs.declared.character.Character.TheVariants.{Ordinary}
 use Rattle.rnc_text.specs.declared.cursor.Cursor.{Cursor}
-use Rattle.rnc_text.specs.Characters.{number_of, numbers_of, bytes_of}
-use Rattle.rnc_text.specs.Held.{unmarked, marked, next_marks}
-use Rattle.rnc_text.specs.DecodingSteps.{first_and_rest}
-use Rattle.rnc_text.specs.Cursors.{remaining, IsPast}
+use Rattle.rnc_model.specs.characters.Characters.{number_of, numbers_of, bytes_of}
+use Rattle.rnc_text.specs.views.Held.{unmarked, marked, next_marks}
+use Rattle.rnc_text.specs.plain.DecodingSteps.{first_and_rest}
+use Rattle.rnc_text.specs.plain.Cursors.{remaining, IsPast}
 use Rattle.rnc_text.proofs.Basics.{chosen}
 
 pub bytes_append : (xs ys : List Character) → bytes_of (xs ++ ys) ≡ bytes_of xs ++ bytes_of ys

@@ -6,18 +6,18 @@ use Rattle.std.proofs.lemmas.List.{length-append, append-nil, append_cancel_left
 use Rattle.std.proofs.lemmas.Option.{none-some, some_pair_parts}
 use Rattle.std.specs.Char.{encode_utf8}
 use Rattle.std.proofs.lemmas.Str.{length-le-encodes}
-use Rattle.rnc_text.specs.declared.character.Character.{Character}
+use Rattle.rnc_model.specs.declared.character.Character.{Character}
 use Rattle.rnc_text.specs.declared.cursor.Cursor.{Cursor}
 use Rattle.rnc_text.specs.declared.fault.TextFault.{TextFault}
 use Rattle.rnc_text.specs.declared.fault.TextFault.TheVariants.{At, Memory}
 use Rattle.rnc_text.specs.declared.scanning.Part.{Part}
-use Rattle.rnc_text.specs.declared.token.TokenKind.{TokenKind}
-use Rattle.rnc_text.specs.Characters.{number_of, bytes_of, byte_length}
-use Rattle.rnc_text.specs.Tokens.{Piece, gap, token, characters_in, IsPiece}
-use Rattle.rnc_text.specs.Cut.{IsNext, NothingBegins, Cuts, here, next_is, Token, tokens_at, AreInOrder, HasTokens, BreaksTokensAt}
-use Rattle.rnc_text.specs.Answers.{GivesOk, GivesFault, IfBroken}
-use Rattle.rnc_text.specs.CutSteps.{Found, piece_of}
-use Rattle.rnc_text.specs.Cursors.{remaining, FindsPart, said, told}
+use Rattle.rnc_model.specs.declared.token.TokenKind.{TokenKind}
+use Rattle.rnc_model.specs.characters.Characters.{number_of, bytes_of, byte_length}
+use Rattle.rnc_model.specs.tokens.Tokens.{Piece, gap, token, characters_in, IsPiece}
+use Rattle.rnc_model.specs.tokens.Cut.{IsNext, NothingBegins, Cuts, here, next_is, Token, tokens_at, AreInOrder, HasTokens, BreaksTokensAt}
+use Rattle.rnc_text.specs.views.Answers.{GivesOk, GivesFault, IfBroken}
+use Rattle.rnc_text.specs.plain.CutSteps.{Found, piece_of}
+use Rattle.rnc_text.specs.plain.Cursors.{remaining, FindsPart, said, told}
 use Rattle.rnc_text.proofs.Cursors.{bytes_append}
 use Rattle.rnc_text.proofs.Pieces.{piece_front}
 use Rattle.rnc_text.proofs.Scans.{piece_none}

@@ -5,11 +5,11 @@ use Rattle.std.specs.Prelude.{IfOk, IfErr}
 use Rattle.std.specs.Str.{chars, IsUtf8, encode_utf8_all}
 use Rattle.std.proofs.lemmas.List.{length-append}
 use Rattle.std.proofs.lemmas.Str.{encodes-chars, scalars-chars, encodes_same, utf8_valid_len-IsValidUpTo, length-le-encodes, encodes-append}
-use Rattle.rnc_text.specs.Decoding.{Begins, carriage_return_line_feed, carriage_return, line_feed, escape, other, Decodes, here, next_is, IsSpelling, IsDecoded}
-use Rattle.rnc_text.specs.Decoding.{BreaksCharactersAt, BreaksTextAt}
-use Rattle.rnc_text.specs.Answers.{GivesOk, GivesFault, IfBroken}
+use Rattle.rnc_model.specs.characters.Decoding.{Begins, carriage_return_line_feed, carriage_return, line_feed, escape, other, Decodes, here, next_is, IsSpelling, IsDecoded}
+use Rattle.rnc_model.specs.characters.Decoding.{BreaksCharactersAt, BreaksTextAt}
+use Rattle.rnc_text.specs.views.Answers.{GivesOk, GivesFault, IfBroken}
 use Rattle.rnc_text.proofs.Fronts.{begins_one, begins_none}
-use Rattle.rnc_text.specs.declared.character.Character.{Character}
+use Rattle.rnc_model.specs.declared.character.Character.{Character}
 use Rattle.rnc_text.specs.declared.fault.TextFault.{TextFault}
 use Rattle.rnc_text.specs.declared.fault.TextFault.TheVariants.{At, Memory}
 

@@ -7,10 +7,10 @@ use Rattle.std.specs.Char.{encode_utf8}
 use Rattle.std.proofs.lemmas.Bool.{eqb-true, eq-eqb, ne_eqb}
 use Rattle.std.proofs.lemmas.List.{length-append, append-nil}
 use Rattle.std.proofs.lemmas.Str.{encodes-append, encodes_same, encodes-chars, length-le-encodes}
-use Rattle.rnc_text.specs.Characters.{number_of, numbers_of, bytes_of}
-use Rattle.rnc_text.specs.Held.{unmarked, marked, unused, with_marks, AreMarks}
-use Rattle.rnc_text.specs.declared.character.Character.{Character}
-use Rattle.rnc_text.specs.declared.character.Character.TheVariants.{Ordinary}
+use Rattle.rnc_model.specs.characters.Characters.{number_of, numbers_of, bytes_of}
+use Rattle.rnc_text.specs.views.Held.{unmarked, marked, unused, with_marks, AreMarks}
+use Rattle.rnc_model.specs.declared.character.Character.{Character}
+use Rattle.rnc_model.specs.declared.character.Character.TheVariants.{Ordinary}
 
 -- ---- the decoded text is that of the characters
 

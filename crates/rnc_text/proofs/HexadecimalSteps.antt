@@ -3,7 +3,7 @@ use Rattle.std.proofs.Common.{◌≡◌, ℕ, zero, suc, ◌+◌, ◌-◌, ◌*�
 use Rattle.std.specs.Prelude.{◌&&◌}
 use Rattle.std.specs.Char.{digit_value}
 use Rattle.std.proofs.lemmas.Bool.{lt-ltb, ltb-true, ne_eqb, le-ltb, and_right, false_from_ne_true}
-use Rattle.rnc_text.specs.DecodingSteps.{first_and_rest, hexadecimal_end, hexadecimal_step}
+use Rattle.rnc_text.specs.plain.DecodingSteps.{first_and_rest, hexadecimal_end, hexadecimal_step}
 
 step_at : (k count n : ℕ) (cs : List ℕ) → 7 - count ≡ suc k
     → hexadecimal_end (7 - count) n cs ≡ hexadecimal_step (hexadecimal_end (7 - (count + 1))) (6 - count) n (first_and_rest cs)

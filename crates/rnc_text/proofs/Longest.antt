@@ -8,18 +8,18 @@ use Rattle.std.proofs.lemmas.Bool.{eqb-true, eqb-false, ne_eqb, and_parts, or_pa
 use Rattle.std.proofs.lemmas.Slice.Eq.{bytes_eq-Decides}
 use Rattle.std.proofs.lemmas.List.{length-append, append-nil}
 use Rattle.std.proofs.lemmas.Option.{none-some, same_Some, some_pair_parts}
-use Rattle.rnc_text.specs.declared.character.Character.{Character}
-use Rattle.rnc_text.specs.declared.character.Character.TheVariants.{LineEnd, Ordinary}
+use Rattle.rnc_model.specs.declared.character.Character.{Character}
+use Rattle.rnc_model.specs.declared.character.Character.TheVariants.{LineEnd, Ordinary}
 use Rattle.rnc_text.specs.declared.scanning.Class.TheVariants as classes
-use Rattle.rnc_text.specs.declared.token.Sign.{Sign}
-use Rattle.rnc_text.specs.declared.token.TokenKind.{TokenKind}
-use Rattle.rnc_text.specs.declared.token.TokenKind.TheVariants as kinds
-use Rattle.rnc_text.specs.Characters.{number_of, numbers_of}
-use Rattle.rnc_text.specs.Tokens as spec
-use Rattle.rnc_text.specs.Tokens.{Piece, gap, token, characters_in, IsPiece, IsNcname, IsUpToThree, is_blank, is_in_line, is_in_segment, is_quote, word_kind}
-use Rattle.rnc_text.specs.Tokens.{sign_of, sign_table, look_up, three}
-use Rattle.rnc_text.specs.CutSteps.{Found, is_in, front, after, first_of, behind, behind_two, until_three, begins_ncname, starts_ncname, local_at, star_at}
-use Rattle.rnc_text.specs.CutSteps.{colon_at, name_at, segment_at, triple_with, triple_in, triple_at, or_else, signed, long_sign, piece_of}
+use Rattle.rnc_model.specs.declared.token.Sign.{Sign}
+use Rattle.rnc_model.specs.declared.token.TokenKind.{TokenKind}
+use Rattle.rnc_model.specs.declared.token.TokenKind.TheVariants as kinds
+use Rattle.rnc_model.specs.characters.Characters.{number_of, numbers_of}
+use Rattle.rnc_model.specs.tokens.Tokens as spec
+use Rattle.rnc_model.specs.tokens.Tokens.{Piece, gap, token, characters_in, IsPiece, IsNcname, IsUpToThree, is_blank, is_in_line, is_in_segment, is_quote, word_kind}
+use Rattle.rnc_model.specs.tokens.Tokens.{sign_of, sign_table, look_up, three}
+use Rattle.rnc_text.specs.plain.CutSteps.{Found, is_in, front, after, first_of, behind, behind_two, until_three, begins_ncname, starts_ncname, local_at, star_at}
+use Rattle.rnc_text.specs.plain.CutSteps.{colon_at, name_at, segment_at, triple_with, triple_in, triple_at, or_else, signed, long_sign, piece_of}
 use Rattle.rnc_text.proofs.Classes.{AllIn, front_out, after_out, front_append, after_append, name_of, name_all, name_begins}
 use Rattle.rnc_text.proofs.Quotes.{behind_is, two_parts, until_is}
 use Rattle.rnc_text.proofs.Scans.{IsOther, piece_line, piece_name, piece_blank, piece_hash, piece_backslash, piece_quote, piece_sign, name_colon, quoted_name}

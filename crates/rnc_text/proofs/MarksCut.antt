@@ -4,19 +4,19 @@ use Rattle.std.specs.Prelude.{◌||◌, not, ◌==◌}
 use Rattle.std.specs.List.{list_all}
 use Rattle.std.proofs.lemmas.Bool.{and_parts, ne_eqb, eqb-true, or_cases, not-true}
 use Rattle.std.proofs.lemmas.List.{append-nil}
-use Rattle.rng_model.specs.Characters.{is_ncname, is_xml_char}
-use Rattle.rnc_text.specs.declared.character.Character.{Character}
-use Rattle.rnc_text.specs.declared.character.Character.TheVariants.{LineEnd, Ordinary}
+use Rattle.rng_model.specs.names.Characters.{is_ncname, is_xml_char}
+use Rattle.rnc_model.specs.declared.character.Character.{Character}
+use Rattle.rnc_model.specs.declared.character.Character.TheVariants.{LineEnd, Ordinary}
 use Rattle.rnc_text.specs.declared.scanning.Class.TheVariants as classes
-use Rattle.rnc_text.specs.declared.token.Sign.{Sign}
-use Rattle.rnc_text.specs.declared.token.Sign.TheVariants as signs
-use Rattle.rnc_text.specs.declared.token.TokenKind.TheVariants as kinds
-use Rattle.rnc_text.specs.Characters.{numbers_of}
-use Rattle.rnc_text.specs.Tokens.{token, word_kind, sign_of, is_quote, IsNcname}
-use Rattle.rnc_text.specs.Cut.{here, next_is}
-use Rattle.rnc_text.specs.CutSteps.{is_in, front, after, first_of, behind, name_at, star_at, triple_at, segment_at, long_sign, piece_of, starts_ncname}
-use Rattle.rnc_text.specs.Marks.{Mark, space, line_end, word, cname, ns_name, segment, sign, sign_text, ordinary, characters_of_mark, characters_of_marks}
-use Rattle.rnc_text.specs.Marks.{piece_of_mark, is_within, IsMark, is_open, begins_apart, MarksAreCut}
+use Rattle.rnc_model.specs.declared.token.Sign.{Sign}
+use Rattle.rnc_model.specs.declared.token.Sign.TheVariants as signs
+use Rattle.rnc_model.specs.declared.token.TokenKind.TheVariants as kinds
+use Rattle.rnc_model.specs.characters.Characters.{numbers_of}
+use Rattle.rnc_model.specs.tokens.Tokens.{token, word_kind, sign_of, is_quote, IsNcname}
+use Rattle.rnc_model.specs.tokens.Cut.{here, next_is}
+use Rattle.rnc_text.specs.plain.CutSteps.{is_in, front, after, first_of, behind, name_at, star_at, triple_at, segment_at, long_sign, piece_of, starts_ncname}
+use Rattle.rnc_text.specs.plain.Marks.{Mark, space, line_end, word, cname, ns_name, segment, sign, sign_text, ordinary, characters_of_mark, characters_of_marks}
+use Rattle.rnc_text.specs.plain.Marks.{piece_of_mark, is_within, IsMark, is_open, begins_apart, MarksAreCut}
 use Rattle.std.proofs.lemmas.Bool.{false≢true}
 use Rattle.rnc_text.proofs.Classes.{AllIn, front_out, after_out, front_append, after_append, name_of, name_all, name_begins}
 use Rattle.rnc_text.proofs.Quotes.{behind_is}

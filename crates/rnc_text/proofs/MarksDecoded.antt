@@ -3,16 +3,16 @@ use Rattle.std.proofs.Common.{◌≡◌, ◌∙◌, ◌≢◌, ℕ, Bool, true, 
 use Rattle.std.specs.Prelude.{◌&&◌, not, ◌==◌, nat_le}
 use Rattle.std.specs.List.{list_all, list_any}
 use Rattle.std.proofs.lemmas.Bool.{and_parts, eqb-true, eqb-false, ne_eqb, not-true, or_cases, or_right}
-use Rattle.rng_model.specs.Characters.{is_ncname, is_xml_char, is_name_char, is_name_start, is_colon, is_in_ranges, xml_char_ranges, name_start_ranges}
-use Rattle.rng_model.specs.Characters.{more_name_ranges}
-use Rattle.rnc_text.specs.declared.character.Character.{Character}
-use Rattle.rnc_text.specs.declared.character.Character.TheVariants.{Ordinary}
-use Rattle.rnc_text.specs.declared.token.Sign.{Sign}
-use Rattle.rnc_text.specs.declared.token.Sign.TheVariants as signs
-use Rattle.rnc_text.specs.Tokens.{is_quote}
-use Rattle.rnc_text.specs.Decoding.{OpensEscape, Begins, line_feed, other, Decodes, here, next_is}
-use Rattle.rnc_text.specs.Marks.{Mark, space, line_end, word, cname, ns_name, segment, sign, sign_text, mark_text, text_of_marks, IsReadBack, ordinary}
-use Rattle.rnc_text.specs.Marks.{characters_of_mark, characters_of_marks, is_within, IsMark, AreParted}
+use Rattle.rng_model.specs.names.Characters.{is_ncname, is_xml_char, is_name_char, is_name_start, is_colon, is_in_ranges, xml_char_ranges, name_start_ranges}
+use Rattle.rng_model.specs.names.Characters.{more_name_ranges}
+use Rattle.rnc_model.specs.declared.character.Character.{Character}
+use Rattle.rnc_model.specs.declared.character.Character.TheVariants.{Ordinary}
+use Rattle.rnc_model.specs.declared.token.Sign.{Sign}
+use Rattle.rnc_model.specs.declared.token.Sign.TheVariants as signs
+use Rattle.rnc_model.specs.tokens.Tokens.{is_quote}
+use Rattle.rnc_model.specs.characters.Decoding.{OpensEscape, Begins, line_feed, other, Decodes, here, next_is}
+use Rattle.rnc_text.specs.plain.Marks.{Mark, space, line_end, word, cname, ns_name, segment, sign, sign_text, mark_text, text_of_marks, IsReadBack, ordinary}
+use Rattle.rnc_text.specs.plain.Marks.{characters_of_mark, characters_of_marks, is_within, IsMark, AreParted}
 use Rattle.std.proofs.lemmas.Bool.{false≢true}
 
 -- ---- what is neither a line end nor a backslash stands for itself

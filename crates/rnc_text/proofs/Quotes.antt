@@ -3,10 +3,10 @@ use Rattle.std.proofs.Common.{◌≡◌, ℕ, ◌≤◌, eqb, inl, inr, List, []
 use Rattle.std.proofs.lemmas.Bool.{eqb-true}
 use Rattle.std.proofs.lemmas.List.{length-append}
 use Rattle.std.proofs.lemmas.Option.{none-some, same_Some, some_pair_parts}
-use Rattle.rnc_text.specs.Tokens.{three, IsUpToThree}
-use Rattle.rnc_text.specs.CutSteps.{behind, behind_two, behind_three, then_behind, here_or, with_first, until_three}
-use Rattle.rnc_text.specs.declared.character.Character.{Character}
-use Rattle.rnc_text.specs.declared.character.Character.TheVariants.{LineEnd, Ordinary}
+use Rattle.rnc_model.specs.tokens.Tokens.{three, IsUpToThree}
+use Rattle.rnc_text.specs.plain.CutSteps.{behind, behind_two, behind_three, then_behind, here_or, with_first, until_three}
+use Rattle.rnc_model.specs.declared.character.Character.{Character}
+use Rattle.rnc_model.specs.declared.character.Character.TheVariants.{LineEnd, Ordinary}
 use Rattle.rnc_text.proofs.Basics.{chosen, eqb_same}
 
 pub behind_is : (n : ℕ) (cs : List Character) → behind n (Ordinary n ∷ cs) ≡ Some cs

@@ -2,20 +2,20 @@
 use Rattle.std.proofs.Common.{◌≡◌, ℕ, true, false, ◌⊎◌, inl, inr, List, [], ◌∷◌, ◌++◌, Option, Some, None, refl, sym, ap, subst, ◌∙◌, append_assoc}
 use Rattle.std.proofs.lemmas.Bool.{ne_eqb}
 use Rattle.std.proofs.lemmas.List.{append-nil}
-use Rattle.rnc_text.specs.declared.character.Character.{Character}
-use Rattle.rnc_text.specs.declared.character.Character.TheVariants.{LineEnd, Ordinary}
+use Rattle.rnc_model.specs.declared.character.Character.{Character}
+use Rattle.rnc_model.specs.declared.character.Character.TheVariants.{LineEnd, Ordinary}
 use Rattle.rnc_text.specs.declared.cursor.Cursor.{Cursor}
 use Rattle.rnc_text.specs.declared.scanning.Class.{Class}
 use Rattle.rnc_text.specs.declared.scanning.Class.TheVariants as classes
 use Rattle.rnc_text.specs.declared.scanning.Part.{Part}
-use Rattle.rnc_text.specs.declared.token.Sign.{Sign}
-use Rattle.rnc_text.specs.declared.token.TokenKind.{TokenKind}
-use Rattle.rnc_text.specs.declared.token.TokenKind.TheVariants as kinds
-use Rattle.rnc_text.specs.Characters.{number_of, bytes_of}
-use Rattle.rnc_text.specs.Tokens.{sign_of, Piece, gap, token, three, word_kind}
-use Rattle.rnc_text.specs.CutSteps.{Found, is_in, front, after, first_of, behind, behind_three, here_or, with_first, until_three, begins_ncname, star_at}
-use Rattle.rnc_text.specs.CutSteps.{colon_at, name_at, quoted_at, segment_at, triple_at, signed, long_sign, sign_at, starts_ncname, piece_by, piece_of, or_else}
-use Rattle.rnc_text.specs.Cursors.{remaining, IsPast, told, FindsPart, Finds, FindsThree}
+use Rattle.rnc_model.specs.declared.token.Sign.{Sign}
+use Rattle.rnc_model.specs.declared.token.TokenKind.{TokenKind}
+use Rattle.rnc_model.specs.declared.token.TokenKind.TheVariants as kinds
+use Rattle.rnc_model.specs.characters.Characters.{number_of, bytes_of}
+use Rattle.rnc_model.specs.tokens.Tokens.{sign_of, Piece, gap, token, three, word_kind}
+use Rattle.rnc_text.specs.plain.CutSteps.{Found, is_in, front, after, first_of, behind, behind_three, here_or, with_first, until_three, begins_ncname, star_at}
+use Rattle.rnc_text.specs.plain.CutSteps.{colon_at, name_at, quoted_at, segment_at, triple_at, signed, long_sign, sign_at, starts_ncname, piece_by, piece_of, or_else}
+use Rattle.rnc_text.specs.plain.Cursors.{remaining, IsPast, told, FindsPart, Finds, FindsThree}
 use Rattle.rnc_text.proofs.Cursors.{past_none, past_then}
 use Rattle.rnc_text.proofs.Classes.{front_in, front_out, after_in, after_out}
 use Rattle.rnc_text.proofs.Quotes.{until_at, until_none}

@@ -1,10 +1,2 @@
-pub mod Characters
-pub mod Decoding
-pub mod Tokens
-pub mod Cut
-pub mod Answers
-pub mod Marks
-pub mod Held
-pub mod DecodingSteps
-pub mod CutSteps
-pub mod Cursors
+pub mod plain
+pub mod views

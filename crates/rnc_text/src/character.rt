@@ -1,17 +1,8 @@
 // Characters of a decoded text, and the characters of a text one by one.
 ghost use Rattle.std.specs.Prelude.{◌≡◌, ◌++◌, [], MatchOption, option_map};
-ghost use Rattle.rnc_text.specs.DecodingSteps.{first_and_rest};
+ghost use Rattle.rnc_text.specs.plain.DecodingSteps.{first_and_rest};
 ghost use Rattle.std.specs.Str.{chars};
-ghost use Rattle.std.specs.Char.{encode_utf8, IsScalar};
-
-/// A character of a decoded text.
-#[derive(Clone, Copy, PartialEq, Eq)]
-pub enum Character {
-    /// A line end that stands in the file as CR LF, CR or LF. It is one LF in the decoded text.
-    LineEnd,
-    /// Any other character, also a CR or LF that came of an escape.
-    Ordinary(char),
-}
+ghost use Rattle.std.specs.Char.{encode_utf8};
 
 /// The first character, and what follows it.
 pub fn split_first(text: &str) -> Option<(char, &str)>

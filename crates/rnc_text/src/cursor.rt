@@ -1,12 +1,13 @@
 // Cursors in a decoded text.
 ghost use Rattle.std.specs.Prelude.{◌≡◌, ◌-◌, ◌==◌, ◌∷◌, [], List, MatchOption, option_map, length};
-ghost use Rattle.rnc_text.specs.Characters.{bytes_of};
-ghost use Rattle.rnc_text.specs.Held.{unmarked, next_marks};
-ghost use Rattle.rnc_text.specs.Cursors.{remaining, IsPast, IsBefore};
-ghost use Rattle.rnc_text.specs.declared.character.Character.{Character};
+ghost use Rattle.rnc_model.specs.characters.Characters.{bytes_of};
+ghost use Rattle.rnc_text.specs.views.Held.{unmarked, next_marks};
+ghost use Rattle.rnc_text.specs.plain.Cursors.{remaining, IsPast, IsBefore};
+ghost use Rattle.rnc_model.specs.declared.character.Character.{Character};
 
-use crate::character::{Character, split_first};
+use crate::character::split_first;
 use crate::text::Text;
+use rnc_model::Character;
 
 /// The character of a decoded text that did not come of an escape.
 fn unmarked(first: char) -> Character

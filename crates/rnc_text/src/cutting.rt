@@ -1,15 +1,15 @@
 // From characters to tokens.
 ghost use Rattle.std.specs.Prelude.{◌≡◌, ℕ, List, [], IfOk, IfErr};
-ghost use Rattle.rnc_text.specs.Tokens.{Piece};
-ghost use Rattle.rnc_text.specs.Cut as cut;
-ghost use Rattle.rnc_text.specs.Cut.{AreInOrder, Cuts, HasTokens, BreaksTokensAt, tokens_of};
-ghost use Rattle.rnc_text.specs.Answers.{IfBroken, GivesOk, GivesFault};
+ghost use Rattle.rnc_model.specs.tokens.Tokens.{Piece};
+ghost use Rattle.rnc_model.specs.tokens.Cut as cut;
+ghost use Rattle.rnc_model.specs.tokens.Cut.{AreInOrder, Cuts, HasTokens, BreaksTokensAt, tokens_of};
+ghost use Rattle.rnc_text.specs.views.Answers.{IfBroken, GivesOk, GivesFault};
 
 use crate::cursor::Cursor;
 use crate::fault::TextFault;
 use crate::scanning::{Part, piece};
 use crate::text::Text;
-use crate::token::Token;
+use rnc_model::Token;
 use std::alloc::Global;
 
 /// The tokens of a text, each the longest that begins at its offset.

@@ -1,21 +1,22 @@
 // From the bytes of a file to characters.
 ghost use Rattle.std.specs.Prelude.{◌≡◌, List, option_map, IfOk, IfErr, ℕ, Bool, true, false};
 ghost use Rattle.std.specs.Str.{chars};
-ghost use Rattle.rng_model.specs.Characters.{is_xml_char};
-ghost use Rattle.rnc_text.specs.Decoding.{IsDecoded, BreaksCharactersAt, BreaksTextAt};
-ghost use Rattle.rnc_text.specs.Answers.{IfBroken, GivesOk, GivesFault};
-ghost use Rattle.rnc_text.specs.DecodingSteps.{without_line_feed, opens_from, escape_front, front_of};
-ghost use Rattle.rnc_text.specs.declared.character.Character.{Character};
+ghost use Rattle.rng_model.specs.names.Characters.{is_xml_char};
+ghost use Rattle.rnc_model.specs.characters.Decoding.{IsDecoded, BreaksCharactersAt, BreaksTextAt};
+ghost use Rattle.rnc_text.specs.views.Answers.{IfBroken, GivesOk, GivesFault};
+ghost use Rattle.rnc_text.specs.plain.DecodingSteps.{without_line_feed, opens_from, escape_front, front_of};
+ghost use Rattle.rnc_model.specs.declared.character.Character.{Character};
 
-use crate::character::{Character, split_first};
+use crate::character::split_first;
 use crate::fault::TextFault;
 use crate::hexadecimal::hexadecimal;
 use crate::text::Text;
+use rnc_model::Character;
 use rng_model::is_xml_char;
 use std::alloc::Global;
 
 /// What follows a CR, without an LF that belongs to its line end.
-#[tactic(auto, unfolding(crate::specs::DecodingSteps::without_line_feed))]
+#[tactic(auto, unfolding(crate::specs::plain::DecodingSteps::without_line_feed))]
 fn skip_line_feed(text: &str) -> &str
     ensures { chars result.now ≡ without_line_feed (chars text.now) }
 {
@@ -43,7 +44,7 @@ fn opens_escape(text: &str) -> bool
 }
 
 /// The character of an escape whose backslash is gone, and what follows it.
-#[tactic(auto, unfolding(crate::specs::DecodingSteps::escape_front))]
+#[tactic(auto, unfolding(crate::specs::plain::DecodingSteps::escape_front))]
 fn escape(text: &str) -> Option<(Character, &str)>
     ensures { option_map (λ x. (x.0, chars x.1.now)) result ≡ escape_front (chars text.now) }
 {
@@ -63,7 +64,7 @@ fn escape(text: &str) -> Option<(Character, &str)>
 }
 
 /// The character that the text begins with, and what follows it.
-#[tactic(auto, unfolding(crate::specs::DecodingSteps::front_of))]
+#[tactic(auto, unfolding(crate::specs::plain::DecodingSteps::front_of))]
 fn front(text: &str) -> Option<(Character, &str)>
     ensures { option_map (λ x. (x.0, chars x.1.now)) result ≡ front_of (chars text.now) }
 {

@@ -1,7 +1,7 @@
 // The number in an escape.
 ghost use Rattle.std.specs.Prelude.{◌≡◌, option_map};
 ghost use Rattle.std.specs.Str.{chars};
-ghost use Rattle.rnc_text.specs.DecodingSteps.{hexadecimal_end};
+ghost use Rattle.rnc_text.specs.plain.DecodingSteps.{hexadecimal_end};
 
 use crate::character::split_first;
 

@@ -1,5 +1,5 @@
 // The laws of texts that are made of marks.
-ghost use Rattle.rnc_text.specs.Marks.{MarksAreCut, MarksAreDecoded};
+ghost use Rattle.rnc_text.specs.plain.Marks.{MarksAreCut, MarksAreDecoded};
 
 /// The laws of marks. It does nothing: its contract is what it is for.
 ///

@@ -19,12 +19,10 @@ mod laws;
 mod scanning;
 mod table;
 mod text;
-mod token;
 
-pub use character::Character;
 pub use cutting::tokens;
 pub use decoding::read_text;
 pub use fault::TextFault;
 pub use laws::marks_laws;
+pub use rnc_model::{Character, Keyword, Sign, Token, TokenKind};
 pub use text::Text;
-pub use token::{Keyword, Sign, Token, TokenKind};

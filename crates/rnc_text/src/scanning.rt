@@ -1,18 +1,17 @@
 // What begins at an offset of a text: a blank, a comment or a token, each the longest.
 ghost use Rattle.std.specs.Prelude.{◌≡◌, ◌∷◌, [], List, Some};
-ghost use Rattle.rng_model.specs.Characters.{is_name_start, is_name_char, is_colon};
-ghost use Rattle.rnc_text.specs.Characters.{number_of, bytes_of};
-ghost use Rattle.rnc_text.specs.Tokens.{three, word_kind};
-ghost use Rattle.rnc_text.specs.CutSteps.{starts_ncname, is_in, begins_ncname, front, after, behind, behind_three, until_three, star_at, first_of, long_sign, name_at, quoted_at, segment_at, triple_at, sign_at, piece_of};
-ghost use Rattle.rnc_text.specs.Cursors.{remaining, IsPast, IsBefore, told, FindsPart, Finds, FindsBehind, FindsContent};
+ghost use Rattle.rng_model.specs.names.Characters.{is_name_start, is_name_char, is_colon};
+ghost use Rattle.rnc_model.specs.characters.Characters.{number_of, bytes_of};
+ghost use Rattle.rnc_model.specs.tokens.Tokens.{three, word_kind};
+ghost use Rattle.rnc_text.specs.plain.CutSteps.{starts_ncname, is_in, begins_ncname, front, after, behind, behind_three, until_three, star_at, first_of, long_sign, name_at, quoted_at, segment_at, triple_at, sign_at, piece_of};
+ghost use Rattle.rnc_text.specs.plain.Cursors.{remaining, IsPast, IsBefore, told, FindsPart, Finds, FindsBehind, FindsContent};
 ghost use Rattle.rnc_text.specs.declared.cursor.Cursor.{Cursor};
-ghost use Rattle.rnc_text.specs.declared.character.Character.{Character};
-ghost use Rattle.rnc_text.specs.declared.character.Character.TheVariants.{Ordinary};
+ghost use Rattle.rnc_model.specs.declared.character.Character.{Character};
+ghost use Rattle.rnc_model.specs.declared.character.Character.TheVariants.{Ordinary};
 
-use crate::character::Character;
 use crate::cursor::Cursor;
 use crate::table::{double_sign, single_sign, word_kind};
-use crate::token::TokenKind;
+use rnc_model::{Character, TokenKind};
 use rng_model::{is_name_char, is_name_start};
 
 /// Characters that may follow one another in a piece.

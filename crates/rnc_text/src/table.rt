@@ -1,11 +1,11 @@
 // The keywords and the signs.
 ghost use Rattle.std.specs.Prelude.{◌≡◌, ◌∷◌, []};
-ghost use Rattle.rnc_text.specs.Tokens.{keyword_of, sign_of, keyword_or_identifier};
+ghost use Rattle.rnc_model.specs.tokens.Tokens.{keyword_of, sign_of, keyword_or_identifier};
 
-use crate::token::{Keyword, Sign, TokenKind};
+use rnc_model::{Keyword, Sign, TokenKind};
 
 /// The keyword that is written so.
-#[tactic(auto, unfolding(crate::specs::Tokens::keyword_of))]
+#[tactic(auto, unfolding(rnc_model::specs::tokens::Tokens::keyword_of))]
 pub fn find_keyword(word: &str) -> Option<Keyword>
     ensures { result ≡ keyword_of word.now }
 {
@@ -44,7 +44,7 @@ pub fn word_kind(word: &str) -> TokenKind
 }
 
 /// The sign that is this character.
-#[tactic(auto, unfolding(crate::specs::Tokens::sign_of))]
+#[tactic(auto, unfolding(rnc_model::specs::tokens::Tokens::sign_of))]
 pub fn single_sign(character: char) -> Option<Sign>
     ensures { result ≡ sign_of (character ∷ []) }
 {
@@ -69,7 +69,7 @@ pub fn single_sign(character: char) -> Option<Sign>
 }
 
 /// The sign that is these two characters.
-#[tactic(auto, unfolding(crate::specs::Tokens::sign_of))]
+#[tactic(auto, unfolding(rnc_model::specs::tokens::Tokens::sign_of))]
 pub fn double_sign(first: char, second: char) -> Option<Sign>
     ensures { result ≡ sign_of (first ∷ second ∷ []) }
 {

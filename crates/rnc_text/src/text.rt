@@ -1,11 +1,11 @@
 // A decoded text.
 ghost use Rattle.std.specs.Prelude.{◌≡◌, ◌++◌, ◌∷◌, [], List, IfOk};
 ghost use Rattle.std.specs.String.{string_bytes};
-ghost use Rattle.rnc_text.specs.Characters.{bytes_of};
-ghost use Rattle.rnc_text.specs.Held.{with_marks, AreMarks};
-ghost use Rattle.rnc_text.specs.declared.character.Character.{Character};
+ghost use Rattle.rnc_model.specs.characters.Characters.{bytes_of};
+ghost use Rattle.rnc_text.specs.views.Held.{with_marks, AreMarks};
+ghost use Rattle.rnc_model.specs.declared.character.Character.{Character};
 
-use crate::character::Character;
+use rnc_model::Character;
 use std::alloc::{AllocError, Global};
 use std::marker::Model;
 

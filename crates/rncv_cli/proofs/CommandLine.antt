@@ -8,10 +8,10 @@ use Rattle.std.proofs.lemmas.Slice.Eq.{bytes_eq-Decides}
 use Rattle.std.proofs.lemmas.Str.{IsUtf8-string_bytes}
 use Rattle.clap.specs.Lexer.{usize_max}
 use Rattle.clap.specs.Words.{fault_of, matches_of}
-use Rattle.rng_run.specs.declared.running.Command.{Command}
-use Rattle.rng_run.specs.declared.running.Command.TheVariants.{Valid, Check, Simple}
-use Rattle.rncv_cli.specs.CommandLine.{IsCommandLine, Text, WithoutDashes, name_of}
-use Rattle.rncv_cli.specs.CommandLineForm.{command_in, command_named, files_in, form}
+use Rattle.rncv_model.specs.declared.command.Command.{Command}
+use Rattle.rncv_model.specs.declared.command.Command.TheVariants.{Valid, Check, Simple}
+use Rattle.rncv_cli.specs.plain.CommandLine.{IsCommandLine, Text, WithoutDashes, name_of}
+use Rattle.rncv_cli.specs.plain.CommandLineForm.{command_in, command_named, files_in, form}
 use Rattle.rncv_cli.proofs.FormWalk.{are_found, is_read}
 
 pub all_utf8 : {Z : Type 0} (texts : List (String Z)) → AllByRecursion IsUtf8 (map string_bytes texts)

@@ -5,10 +5,10 @@ use Rattle.clap.specs.Lexer.{usize_max}
 use Rattle.clap.specs.Kinds.{Kinds}
 use Rattle.clap.specs.Words.{fault_of, matches_of}
 use Rattle.clap.proofs.OnLiterals.{clap_on_literals}
-use Rattle.rng_run.specs.declared.running.Command.{Command}
-use Rattle.rng_run.specs.declared.running.Command.TheVariants.{Valid, Check, Simple}
-use Rattle.rncv_cli.specs.CommandLine.{IsCommandLine, IsOption, Text, WithoutDashes, none, dashes, plain, name_of}
-use Rattle.rncv_cli.specs.CommandLineForm.{command_in, form}
+use Rattle.rncv_model.specs.declared.command.Command.{Command}
+use Rattle.rncv_model.specs.declared.command.Command.TheVariants.{Valid, Check, Simple}
+use Rattle.rncv_cli.specs.plain.CommandLine.{IsCommandLine, IsOption, Text, WithoutDashes, none, dashes, plain, name_of}
+use Rattle.rncv_cli.specs.plain.CommandLineForm.{command_in, form}
 use Rattle.rncv_cli.proofs.CommandLine.{is_accepted}
 
 -- ---- command lines

@@ -16,8 +16,8 @@ use Rattle.clap.specs.declared.error.kind.ErrorKind.{ErrorKind}
 use Rattle.clap.specs.declared.error.kind.ErrorKind.TheVariants.{MissingRequiredArgument, UnknownArgument}
 use Rattle.clap.specs.declared.parser.matches.ValueSource.TheVariants.{CommandLine}
 use Rattle.clap.proofs.FaultLemmas.{leaf_fault}
-use Rattle.rncv_cli.specs.CommandLine.{Text, WithoutDashes, none, dashes, plain}
-use Rattle.rncv_cli.specs.CommandLineForm.{form}
+use Rattle.rncv_cli.specs.plain.CommandLine.{Text, WithoutDashes, none, dashes, plain}
+use Rattle.rncv_cli.specs.plain.CommandLineForm.{form}
 use Rattle.rncv_cli.proofs.WordKinds.{HasFirst, IsLong, IsPlain, IsShort, Kind, is_dashes, is_long, is_plain, is_short, kind_of, plain_of, short_has_first}
 
 -- the form, as clap builds it

@@ -5,7 +5,7 @@ use Rattle.std.specs.Str.{IsUtf8, bytes_eq, chars, encode_utf8_all}
 use Rattle.std.proofs.lemmas.Bool.{eqb-false}
 use Rattle.std.proofs.lemmas.Str.{IsUtf8-nil, IsUtf8-past_char, chars-nil, encode_ascii, encodes-chars}
 use Rattle.clap.specs.Lexer.{long_of, name_and_value, short_of}
-use Rattle.rncv_cli.specs.CommandLine.{Text, IsOption}
+use Rattle.rncv_cli.specs.plain.CommandLine.{Text, IsOption}
 
 -- clap sees neither `--` nor an option
 pub record IsPlain (word : Text) : Type 0 where

@@ -1,5 +1,2 @@
-pub mod Answering
-pub mod CommandLine
-pub mod CommandLineForm
-pub mod ExitStatus
-pub mod Faults
+pub mod plain
+pub mod views

@@ -1,8 +1,8 @@
 // From the words of a command line to one line.
 ghost use Rattle.std.specs.Prelude.{◌<◌, vec_len, IfOk, IfErr};
-ghost use Rattle.rng_run.specs.Run.{WritesAnswer};
-ghost use Rattle.rncv_cli.specs.Answering.{IsAnswerOver, IsAnswerOverSome, LeavesWritten};
-ghost use Rattle.rncv_cli.specs.Faults.{IsFaultOver};
+ghost use Rattle.rncv_model.specs.answers.Run.{WritesAnswer};
+ghost use Rattle.rncv_cli.specs.plain.Answering.{IsAnswerOver, IsAnswerOverSome, LeavesWritten};
+ghost use Rattle.rncv_cli.specs.views.Faults.{IsFaultOver};
 
 use crate::command_line::words_of;
 use crate::fault::Fault;

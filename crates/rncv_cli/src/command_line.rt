@@ -2,9 +2,9 @@
 ghost use Rattle.std.specs.Prelude.{◌≡◌, ◌<◌, List, drop, map, string_bytes, option_map, vec_len, IfOk, IfErr, IsErrOf};
 ghost use Rattle.std.specs.Vec.Iter.{into_iter_items};
 ghost use Rattle.clap.specs.Words.{FailsBy, fault_of, found_of, matches_of, rows_of};
-ghost use Rattle.rncv_cli.specs.CommandLine.{IsCommandLine, Text};
-ghost use Rattle.rncv_cli.specs.CommandLineForm.{command_in, files_in, form};
-ghost use Rattle.rncv_cli.specs.Faults.{IsMemoryOrUsage};
+ghost use Rattle.rncv_cli.specs.plain.CommandLine.{IsCommandLine, Text};
+ghost use Rattle.rncv_cli.specs.plain.CommandLineForm.{command_in, files_in, form};
+ghost use Rattle.rncv_cli.specs.views.Faults.{IsMemoryOrUsage};
 
 use crate::fault::{Fault, is_want_of_memory};
 use crate::invocation::Words;

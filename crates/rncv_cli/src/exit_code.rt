@@ -1,7 +1,7 @@
 // The exit status of the program.
 ghost use Rattle.std.specs.Prelude.{◌≡◌};
 ghost use Rattle.std.specs.Process.{exit_status};
-ghost use Rattle.rncv_cli.specs.ExitStatus.{exit_status_of};
+ghost use Rattle.rncv_cli.specs.views.ExitStatus.{exit_status_of};
 
 use crate::fault::Fault;
 use rng_run::Status;

@@ -1,8 +1,8 @@
 // Why the program ends without an answer.
 ghost use Rattle.std.specs.Prelude.{◌≡◌, ◌↔◌, IsTrue};
 ghost use Rattle.std.specs.IoError.{error_kind};
-ghost use Rattle.rncv_cli.specs.ExitStatus.{fault_status};
-ghost use Rattle.rncv_cli.specs.Faults.{fault_of_run};
+ghost use Rattle.rncv_cli.specs.views.ExitStatus.{fault_status};
+ghost use Rattle.rncv_cli.specs.views.Faults.{fault_of_run};
 
 use rng_run::RunFault;
 use std::io;

@@ -1,8 +1,8 @@
 // Reads the files that the command line names.
 ghost use Rattle.std.specs.Prelude.{◌≡◌, ◌≢◌, ◌≤◌, take, length, IfOk, IfErr, IfSome};
 ghost use Rattle.std.specs.IoError.{error_kind};
-ghost use Rattle.rncv_cli.specs.Answering.{AreRead, read_limit};
-ghost use Rattle.rncv_cli.specs.Faults.{IsUnreadable};
+ghost use Rattle.rncv_cli.specs.plain.Answering.{AreRead, read_limit};
+ghost use Rattle.rncv_cli.specs.views.Faults.{IsUnreadable};
 
 use crate::fault::{Fault, is_want_of_memory};
 use std::alloc::Global;

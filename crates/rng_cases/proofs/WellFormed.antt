@@ -3,17 +3,17 @@ use Rattle.std.specs.Bool.{OnTrue}
 use Rattle.std.proofs.lemmas.List.{length-drop, take_all}
 use Rattle.std.proofs.Common.{◌≡◌, ◌≤◌, ◌-◌, ◌∙◌, drop, take, ℕ, suc, zero, ◌<◌, List, [], ◌∷◌, map, length, get_or, Bool, true, false, not, Vec, Global, refl}
 use Rattle.std.proofs.Common.{sym, ap, subst, arith}
-use Rattle.rng_model.specs.Document.{Attribute, Item, a_text, an_element}
-use Rattle.rng_model.specs.WellFormed.{Distinct, none, one_more, nothing_named, another_name, AreWellFormed, IsWellFormed, Separate}
-use Rattle.rng_model.specs.View.{attribute_of, item_of, items_of}
+use Rattle.rng_model.specs.matching.Document.{Attribute, Item, a_text, an_element}
+use Rattle.rng_model.specs.matching.WellFormed.{Distinct, none, one_more, nothing_named, another_name, AreWellFormed, IsWellFormed, Separate}
+use Rattle.rng_model.specs.documents.DocumentViews.{attribute_of, item_of, items_of}
 use Rattle.rng_model.specs.declared.document.Attr.{Attr}
 use Rattle.rng_model.specs.declared.document.Item.{Element}
 use Rattle.rng_model.specs.declared.document.Item as source
 use Rattle.rng_model.specs.declared.name.Name.{Name}
 use Rattle.rng_deriv.proofs.Children.{element_is}
 use Rattle.rng_deriv.proofs.Content.{list_of-items}
-use Rattle.rng_cases.specs.Separate.{StaysSeparate, is_text}
-use Rattle.rng_model.specs.WellFormed as w
+use Rattle.rng_cases.specs.plain.Separate.{StaysSeparate, is_text}
+use Rattle.rng_model.specs.matching.WellFormed as w
 
 pub nothing_stays : (after : Bool) → StaysSeparate after []
 nothing_stays true = λ s. w.string

@@ -1,1 +1,1 @@
-pub mod Separate
+pub mod plain

@@ -1,7 +1,7 @@
 // Grammars, built of what fits.
 ghost use Rattle.std.specs.Prelude.{All, IfSome};
 ghost use Rattle.std.specs.Bool.{OnTrue};
-ghost use Rattle.rng_model.specs.Table.{AreChildrenBelow, IsClassPaired, IsLeafListed, IsOfFirstKind, IsPaired};
+ghost use Rattle.rng_model.specs.simple.Table.{AreChildrenBelow, IsClassPaired, IsLeafListed, IsOfFirstKind, IsPaired};
 
 use rng_model::{NameClass, PatternId, Simple, SimpleGrammar};
 use std::alloc::Global;
@@ -18,7 +18,7 @@ pub struct GrammarBuilder {
 
 impl Model for GrammarBuilder {
     ghost use Rattle.std.specs.Prelude.{◌<◌, ℕ, List, length, All};
-    ghost use Rattle.rng_model.specs.Table.{Falls, IsClassPaired, IsLeafListed, IsOfFirstKind, IsPaired};
+    ghost use Rattle.rng_model.specs.simple.Table.{Falls, IsClassPaired, IsLeafListed, IsOfFirstKind, IsPaired};
     ghost use Rattle.rng_model.specs.declared.simple.Simple.{Simple};
     ghost use Rattle.rng_model.specs.declared.simple.PatternId.{PatternId};
     ghost use Rattle.rng_model.specs.declared.name.NameClass.{NameClass};

@@ -6,7 +6,7 @@
 #![tactic(auto)]
 
 ghost use Rattle.std.specs.Prelude.{All, IfSome};
-ghost use Rattle.rng_model.specs.Table.{IsOfFirstKind};
+ghost use Rattle.rng_model.specs.simple.Table.{IsOfFirstKind};
 
 mod devices;
 mod document;

@@ -1,9 +1,9 @@
 // What `is_valid` asks of a document.
 ghost use Rattle.std.specs.Prelude.{◌≡◌, IsTrue, map};
 ghost use Rattle.std.specs.Bool.{OnTrue};
-ghost use Rattle.rng_model.specs.WellFormed.{Distinct, IsWellFormed};
-ghost use Rattle.rng_model.specs.View.{attribute_of, item_of};
-ghost use Rattle.rng_cases.specs.Separate.{StaysSeparate, is_text};
+ghost use Rattle.rng_model.specs.matching.WellFormed.{Distinct, IsWellFormed};
+ghost use Rattle.rng_model.specs.documents.DocumentViews.{attribute_of, item_of};
+ghost use Rattle.rng_cases.specs.plain.Separate.{StaysSeparate, is_text};
 
 use rng_model::{Attr, Item};
 

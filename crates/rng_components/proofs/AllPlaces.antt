@@ -7,10 +7,10 @@ use Rattle.std.specs.Str.{bytes_eq}
 use Rattle.std.proofs.lemmas.Bool.{and_parts}
 use Rattle.std.proofs.lemmas.List.Folds.{list_any_at}
 use Rattle.std.proofs.lemmas.Slice.Eq.{bytes_eq-Decides}
-use Rattle.rng_model.specs.Patterns.{Place}
-use Rattle.rng_model.specs.Schema.{Schema}
-use Rattle.rng_load.specs.SchemaPlaces.{AreItsPlaces}
-use Rattle.rng_components.specs.GrammarTests.{defines}
+use Rattle.rng_model.specs.schema.Patterns.{Place}
+use Rattle.rng_model.specs.schema.Schema.{Schema}
+use Rattle.rng_load.specs.plain.SchemaPlaces.{AreItsPlaces}
+use Rattle.rng_components.specs.plain.GrammarTests.{defines}
 use Rattle.rng_components.proofs.WrittenInGrammars.{defined_found}
 
 pub any_mapped : {A B : Type 0} (test : B → Bool) (f : A → B) (xs : List A) → list_any test (map f xs) ≡ list_any (λ x. test (f x)) xs

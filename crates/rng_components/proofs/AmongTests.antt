@@ -3,9 +3,9 @@ use Rattle.std.proofs.Common.{◌≡◌, inl, inr, refl, sym, ap, ◌∙◌, Lis
 use Rattle.std.specs.List.{list_any}
 use Rattle.std.proofs.lemmas.Bool.{or_cases, or_left, or_right}
 use Rattle.std.proofs.lemmas.Slice.Eq.{bytes_eq-Decides}
-use Rattle.rng_model.specs.Lists.{Among, here, there}
-use Rattle.rng_model.specs.Schema.{same_name}
-use Rattle.rng_components.specs.GrammarTests.{Name}
+use Rattle.rng_model.specs.names.Lists.{Among, here, there}
+use Rattle.rng_model.specs.schema.Schema.{same_name}
+use Rattle.rng_components.specs.plain.GrammarTests.{Name}
 
 pub false_is_no_truth : {A : Type 0} → false ≡ true → A
 false_is_no_truth e = absurd (cc)

@@ -3,21 +3,21 @@ use Rattle.std.proofs.Common.{◌≡◌, ◌↔◌, inl, inr, refl, sym, ap, ◌
 use Rattle.std.specs.List.{list_any}
 use Rattle.std.proofs.lemmas.Bool.{not_from_false, or_cases, or_left, or_right}
 use Rattle.std.proofs.lemmas.List.Folds.{Any-from_list_any, list_any_at}
-use Rattle.rng_model.specs.Tree.{Datatype}
-use Rattle.rng_model.specs.Patterns.{Place, Pattern, element, attribute, data_of, data_except, value, ref, parent_ref, without_parameters}
-use Rattle.rng_model.specs.Schema.{Schema, Component, IsWrittenAt}
-use Rattle.rng_model.specs.Datatypes.{IsKnownDatatype, IsAllowed}
-use Rattle.rng_model.specs.DatatypeTests.{type_of}
-use Rattle.rng_model.specs.SchemaClauses.{BreaksNameClass, of_element, of_attribute, of_declaration, BreaksDatatype, of_data, of_data_except, of_value}
-use Rattle.rng_model.specs.SchemaClauses.{BreaksCombination, two_plain, both_methods, HasNoStart, BreaksRef, of_ref, of_parent_ref}
-use Rattle.rng_model.specs.SchemaClauses.{BreaksSchemaClause, in_name_class, in_datatype, in_combination, without_start, in_ref, in_expansion, in_depth}
+use Rattle.rng_model.specs.simple.Tree.{Datatype}
+use Rattle.rng_model.specs.schema.Patterns.{Place, Pattern, element, attribute, data_of, data_except, value, ref, parent_ref, without_parameters}
+use Rattle.rng_model.specs.schema.Schema.{Schema, Component, IsWrittenAt}
+use Rattle.rng_model.specs.datatypes.Datatypes.{IsKnownDatatype, IsAllowed}
+use Rattle.rng_model.specs.datatypes.DatatypeTests.{type_of}
+use Rattle.rng_model.specs.schema.SchemaClauses.{BreaksNameClass, of_element, of_attribute, of_declaration, BreaksDatatype, of_data, of_data_except, of_value}
+use Rattle.rng_model.specs.schema.SchemaClauses.{BreaksCombination, two_plain, both_methods, HasNoStart, BreaksRef, of_ref, of_parent_ref}
+use Rattle.rng_model.specs.schema.SchemaClauses.{BreaksSchemaClause, in_name_class, in_datatype, in_combination, without_start, in_ref, in_expansion, in_depth}
 use Rattle.rng_model.proofs.DatatypeTests.{allowed_decided, not_known, type_of-sound}
-use Rattle.rng_load.specs.SchemaPlaces.{AreItsPlaces}
-use Rattle.rng_components.specs.ClassTests.{breaks_except, declaration_test, has_part}
-use Rattle.rng_components.specs.ClauseTests.{is_broken_at, number_of}
-use Rattle.rng_components.specs.GrammarTests as tests
-use Rattle.rng_components.specs.GrammarTests.{components_at, components_or_none, defines, defines_if, is_named, lacks_start, some_has}
-use Rattle.rng_components.specs.PatternTests.{PatternTest, class_test, datatype_test, is_refused, is_unknown, passes, ref_test}
+use Rattle.rng_load.specs.plain.SchemaPlaces.{AreItsPlaces}
+use Rattle.rng_components.specs.plain.ClassTests.{breaks_except, declaration_test, has_part}
+use Rattle.rng_components.specs.plain.ClauseTests.{is_broken_at, number_of}
+use Rattle.rng_components.specs.plain.GrammarTests as tests
+use Rattle.rng_components.specs.plain.GrammarTests.{components_at, components_or_none, defines, defines_if, is_named, lacks_start, some_has}
+use Rattle.rng_components.specs.plain.PatternTests.{PatternTest, class_test, datatype_test, is_refused, is_unknown, passes, ref_test}
 use Rattle.rng_components.specs.declared.checking.ComponentClause.{ComponentClause}
 use Rattle.rng_components.specs.declared.checking.ComponentClause.TheVariants as clauses
 use Rattle.rng_components.proofs.AmongTests.{any_found, any_met, false_is_no_truth, same_name-found, same_name-met}

@@ -5,11 +5,11 @@ use Rattle.std.proofs.Math.Bool.{or-false}
 use Rattle.std.proofs.lemmas.Bool.{and_parts, or_cases, or_left, or_right}
 use Rattle.std.proofs.lemmas.List.Folds.{list_any-append}
 use Rattle.std.specs.Cmp.Derive.{both_true}
-use Rattle.rng_model.specs.Lists.{Among, here, there, HasTwo, first_and, both_later}
-use Rattle.rng_model.specs.Schema.{Component, same_name, is_interleaved}
+use Rattle.rng_model.specs.names.Lists.{Among, here, there, HasTwo, first_and, both_later}
+use Rattle.rng_model.specs.schema.Schema.{Component, same_name, is_interleaved}
 use Rattle.rng_model.specs.declared.method.Method.{Method}
 use Rattle.rng_model.specs.declared.method.Method.TheVariants as methods
-use Rattle.rng_components.specs.GrammarTests.{Name, has, is_plain, is_choice, is_interleaved_as, two_plain, both_methods}
+use Rattle.rng_components.specs.plain.GrammarTests.{Name, has, is_plain, is_choice, is_interleaved_as, two_plain, both_methods}
 use Rattle.rng_components.proofs.AmongTests.{any_found, any_met, false_is_no_truth, same_name-found, same_name-met}
 
 -- ---- methods

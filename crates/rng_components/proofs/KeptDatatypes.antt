@@ -1,11 +1,11 @@
 -- Each datatype of a schema is known, and each value one of its datatype, where it breaks the clause of datatypes in no place.
 use Rattle.std.proofs.Common.{◌≡◌, refl, ℕ, List, Bool, true, false, Option, Some, None}
-use Rattle.rng_model.specs.Tree.{Datatype}
-use Rattle.rng_model.specs.Patterns.{Place, Pattern, data_of, data_except, value, without_parameters}
-use Rattle.rng_model.specs.Schema.{Schema, IsWrittenAt}
-use Rattle.rng_model.specs.Datatypes.{BuiltInType, IsKnownDatatype, IsAllowed}
-use Rattle.rng_model.specs.DatatypeTests.{text_tests, type_of}
-use Rattle.rng_model.specs.SchemaClauses.{BreaksDatatype, of_data, of_data_except, of_value}
+use Rattle.rng_model.specs.simple.Tree.{Datatype}
+use Rattle.rng_model.specs.schema.Patterns.{Place, Pattern, data_of, data_except, value, without_parameters}
+use Rattle.rng_model.specs.schema.Schema.{Schema, IsWrittenAt}
+use Rattle.rng_model.specs.datatypes.Datatypes.{BuiltInType, IsKnownDatatype, IsAllowed}
+use Rattle.rng_model.specs.datatypes.DatatypeTests.{text_tests, type_of}
+use Rattle.rng_model.specs.schema.SchemaClauses.{BreaksDatatype, of_data, of_data_except, of_value}
 use Rattle.rng_model.proofs.DatatypeTests.{allowed_decided, not_known, type_of-sound}
 
 -- what a test decides holds where it is not refuted

@@ -8,8 +8,8 @@ use Rattle.std.proofs.lemmas.List.{map-append}
 use Rattle.std.proofs.lemmas.List.Folds.{list_any-append}
 use Rattle.std.proofs.lemmas.Slice.Eq.{bytes_eq-Decides}
 use Rattle.indexmap.specs.IndexSet.{insert_key}
-use Rattle.rng_model.specs.Schema.{same_name}
-use Rattle.rng_components.specs.GrammarTests.{Name, has, seen_name}
+use Rattle.rng_model.specs.schema.Schema.{same_name}
+use Rattle.rng_components.specs.plain.GrammarTests.{Name, has, seen_name}
 use Rattle.rng_components.proofs.AmongTests.{any_found, any_met, same_name-found}
 
 -- ---- a test that tells no equal keys apart

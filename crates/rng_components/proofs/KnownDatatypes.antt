@@ -1,15 +1,15 @@
 -- What the search for a datatype tells of it.
 use Rattle.std.proofs.Common.{◌≡◌, ◌↔◌, ℕ, List, true, not, Option, Some, None, is_some, Result, Ok, Err, refl, sym, ap}
 use Rattle.std.specs.Result.{is_err}
-use Rattle.rng_model.specs.Tree.{Datatype}
-use Rattle.rng_model.specs.Datatypes.{BuiltInType, HasType, is_allowed_by}
-use Rattle.rng_model.specs.DatatypeTests.{type_of, known_allows}
-use Rattle.rng_model.specs.Patterns.{without_parameters}
+use Rattle.rng_model.specs.simple.Tree.{Datatype}
+use Rattle.rng_model.specs.datatypes.Datatypes.{BuiltInType, HasType, is_allowed_by}
+use Rattle.rng_model.specs.datatypes.DatatypeTests.{type_of, known_allows}
+use Rattle.rng_model.specs.schema.Patterns.{without_parameters}
 use Rattle.rng_model.proofs.DatatypeTests.{type_of-sound, type_of-complete, allows_by}
-use Rattle.rng_types.specs.View.{built_in_type_of, seen}
+use Rattle.rng_types.specs.views.View.{built_in_type_of, seen}
 use Rattle.rng_types.specs.declared.builtin.Builtin.{Builtin}
 use Rattle.rng_types.specs.declared.builtin.TypeFault.{TypeFault}
-use Rattle.rng_components.specs.PatternTests.{is_unknown, is_refused}
+use Rattle.rng_components.specs.plain.PatternTests.{is_unknown, is_refused}
 
 module _ (d : Datatype) where
   -- a datatype that has no type is not known

@@ -1,8 +1,8 @@
 -- The least clause that is broken, found one after the other.
 use Rattle.std.proofs.Common.{◌≡◌, inl, inr, sym, subst, ◌∙◌, ◌↔◌, Bool, false, IsTrue, ℕ, ◌+◌, ◌≤◌, arith}
 use Rattle.std.proofs.Math.Nat.{eq-or-lt_of_le}
-use Rattle.rng_model.specs.Schema.{Schema}
-use Rattle.rng_model.specs.SchemaClauses.{BreaksSchemaClause, in_name_class, in_datatype, in_combination, without_start, in_ref, in_expansion, in_depth}
+use Rattle.rng_model.specs.schema.Schema.{Schema}
+use Rattle.rng_model.specs.schema.SchemaClauses.{BreaksSchemaClause, in_name_class, in_datatype, in_combination, without_start, in_ref, in_expansion, in_depth}
 use Rattle.rng_components.proofs.AmongTests.{false_is_no_truth}
 
 module _ (s : Schema) where

@@ -5,11 +5,11 @@ use Rattle.std.specs.Option.{option_copied}
 use Rattle.std.specs.Str.{bytes_eq}
 use Rattle.std.proofs.lemmas.Slice.Eq.{bytes_eq-Decides}
 use Rattle.indexmap.specs.IndexMap.{insert_entry}
-use Rattle.rng_model.specs.Patterns as patterns
-use Rattle.rng_model.specs.SchemaView.{place_eq, place_of}
+use Rattle.rng_model.specs.schema.Patterns as patterns
+use Rattle.rng_model.specs.views.SchemaView.{place_eq, place_of}
 use Rattle.rng_model.specs.declared.place.Place.{Place}
 use Rattle.rng_model.proofs.SamePlaces.{compares_numbers, same_place}
-use Rattle.rng_components.specs.Defined.{finds, has_if, has_name}
+use Rattle.rng_components.specs.views.Defined.{finds, has_if, has_name}
 use Rattle.rng_components.specs.declared.definitions.DefinedNames.{DefinedNames}
 
 abbrev pub key_eq : Bor Place → Bor Place → Bool

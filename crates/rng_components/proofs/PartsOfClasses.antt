@@ -3,13 +3,13 @@ use Rattle.std.proofs.Common.{◌≡◌, ◌⊎◌, inl, inr, codes, ℕ, List, 
 use Rattle.std.specs.Str.{bytes_eq}
 use Rattle.std.proofs.lemmas.Bool.{and_parts, or_cases, or_left, or_right}
 use Rattle.std.proofs.lemmas.Slice.Eq.{bytes_eq-Decides}
-use Rattle.rng_model.specs.Names.{NameClass, NameClasses, any_name, any_except, ns_name, ns_except, name_is, one_of, no_classes, class_and}
-use Rattle.rng_model.specs.SchemaClauses.{IsPartOf, IsPartOfOne, itself, in_any_except, in_ns_except, in_first, in_second, in_another, in_this, in_later}
-use Rattle.rng_model.specs.SchemaClauses.{IsAny, any_is, any_but_is, IsNamespace, namespace_is, namespace_but_is, barred_uri}
-use Rattle.rng_model.specs.SchemaClauses.{BreaksClassExcept, any_in_any, any_in_namespace, namespace_in_namespace}
-use Rattle.rng_model.specs.SchemaClauses.{IsOfDeclarations, xmlns_is, name_of_it, all_names_of_it, names_of_it_but}
-use Rattle.rng_components.specs.ClassTests.{ClassTest, passes, has_part, some_has_part, breaks_except, some_breaks_except}
-use Rattle.rng_components.specs.ClassTests.{any_test, wildcard_test, declaration_test, is_barred}
+use Rattle.rng_model.specs.names.Names.{NameClass, NameClasses, any_name, any_except, ns_name, ns_except, name_is, one_of, no_classes, class_and}
+use Rattle.rng_model.specs.schema.SchemaClauses.{IsPartOf, IsPartOfOne, itself, in_any_except, in_ns_except, in_first, in_second, in_another, in_this, in_later}
+use Rattle.rng_model.specs.schema.SchemaClauses.{IsAny, any_is, any_but_is, IsNamespace, namespace_is, namespace_but_is, barred_uri}
+use Rattle.rng_model.specs.schema.SchemaClauses.{BreaksClassExcept, any_in_any, any_in_namespace, namespace_in_namespace}
+use Rattle.rng_model.specs.schema.SchemaClauses.{IsOfDeclarations, xmlns_is, name_of_it, all_names_of_it, names_of_it_but}
+use Rattle.rng_components.specs.plain.ClassTests.{ClassTest, passes, has_part, some_has_part, breaks_except, some_breaks_except}
+use Rattle.rng_components.specs.plain.ClassTests.{any_test, wildcard_test, declaration_test, is_barred}
 use Rattle.rng_components.proofs.AmongTests.{false_is_no_truth}
 
 -- ---- what stands in a class

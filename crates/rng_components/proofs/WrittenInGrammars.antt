@@ -1,12 +1,12 @@
 -- What is written in the grammar at a place, and what it defines, as tests find it.
 use Rattle.std.proofs.Common.{◌≡◌, refl, sym, subst, ℕ, List, Bool, true, false, not, Option, Some, None}
 use Rattle.std.proofs.lemmas.Bool.{not_from_false}
-use Rattle.rng_model.specs.Lists.{Among}
-use Rattle.rng_model.specs.Patterns.{Place, Pattern}
-use Rattle.rng_model.specs.Schema.{Schema, Component, HasComponent, IsWrittenAt}
-use Rattle.rng_model.specs.SchemaClauses.{IsDefinedAt}
-use Rattle.rng_components.specs.GrammarTests.{components_at, components_or_none, defines, defines_if, is_named, some_has}
-use Rattle.rng_components.specs.PatternTests.{PatternTest, has_written, lacks, passes}
+use Rattle.rng_model.specs.names.Lists.{Among}
+use Rattle.rng_model.specs.schema.Patterns.{Place, Pattern}
+use Rattle.rng_model.specs.schema.Schema.{Schema, Component, HasComponent, IsWrittenAt}
+use Rattle.rng_model.specs.schema.SchemaClauses.{IsDefinedAt}
+use Rattle.rng_components.specs.plain.GrammarTests.{components_at, components_or_none, defines, defines_if, is_named, some_has}
+use Rattle.rng_components.specs.plain.PatternTests.{PatternTest, has_written, lacks, passes}
 use Rattle.rng_components.proofs.AmongTests.{any_found, any_met, same_name-found, same_name-met}
 use Rattle.rng_components.proofs.WrittenPatterns.{written_found, written_met}
 

@@ -1,11 +1,11 @@
 -- The test of patterns passes where it does for one that is written.
 use Rattle.std.proofs.Common.{◌≡◌, inl, inr, Bool, true, ◌||◌}
 use Rattle.std.proofs.lemmas.Bool.{or_cases, or_left, or_right}
-use Rattle.rng_model.specs.Patterns.{Pattern, Patterns, not_allowed, empty, text, element, attribute, list, data_of, data_except, value, mixed}
-use Rattle.rng_model.specs.Patterns.{optional, zero_or_more, one_or_more, joined, ref, parent_ref, grammar, external, no_patterns, pattern_and}
-use Rattle.rng_model.specs.Patterns.{IsWrittenIn, IsWrittenAmong, itself, in_element, in_attribute, in_list, in_except, in_mixed, in_optional}
-use Rattle.rng_model.specs.Patterns.{in_zero_or_more, in_one_or_more, in_first, in_second, in_another, in_external, in_this, in_later}
-use Rattle.rng_components.specs.PatternTests.{PatternTest, passes, has_written, some_has_written}
+use Rattle.rng_model.specs.schema.Patterns.{Pattern, Patterns, not_allowed, empty, text, element, attribute, list, data_of, data_except, value, mixed}
+use Rattle.rng_model.specs.schema.Patterns.{optional, zero_or_more, one_or_more, joined, ref, parent_ref, grammar, external, no_patterns, pattern_and}
+use Rattle.rng_model.specs.schema.Patterns.{IsWrittenIn, IsWrittenAmong, itself, in_element, in_attribute, in_list, in_except, in_mixed, in_optional}
+use Rattle.rng_model.specs.schema.Patterns.{in_zero_or_more, in_one_or_more, in_first, in_second, in_another, in_external, in_this, in_later}
+use Rattle.rng_components.specs.plain.PatternTests.{PatternTest, passes, has_written, some_has_written}
 use Rattle.rng_components.proofs.AmongTests.{false_is_no_truth}
 
 module _ (t : PatternTest) where

@@ -1,7 +1,2 @@
-pub mod ClassTests
-pub mod PatternTests
-pub mod RuleTests
-pub mod GrammarTests
-pub mod Defined
-pub mod ClauseTests
-pub mod Judged
+pub mod plain
+pub mod views

@@ -1,15 +1,15 @@
 // Which clause of components a schema breaks.
 ghost use Rattle.std.specs.Prelude.{◌≡◌, ◌↔◌, ℕ, IfOk, IsTrue, List, map};
-ghost use Rattle.rng_model.specs.Patterns as patterns;
-ghost use Rattle.rng_model.specs.SchemaClauses.{BreaksSchemaClause};
-ghost use Rattle.rng_model.specs.SchemaView.{place_of, schema_component_of};
-ghost use Rattle.rng_load.specs.PlacedGrammars.{schema_of};
-ghost use Rattle.rng_components.specs.ClauseTests.{is_broken_at, number_of};
-ghost use Rattle.rng_components.specs.Defined.{defines_in, finds};
-ghost use Rattle.rng_components.specs.GrammarTests.{defines, defines_if, some_has};
-ghost use Rattle.rng_components.specs.Judged.{AreComponentsJudged};
-ghost use Rattle.rng_components.specs.PatternTests.{ref_test};
-ghost use Rattle.rng_components.specs.RuleTests.{rule_test};
+ghost use Rattle.rng_model.specs.schema.Patterns as patterns;
+ghost use Rattle.rng_model.specs.schema.SchemaClauses.{BreaksSchemaClause};
+ghost use Rattle.rng_model.specs.views.SchemaView.{place_of, schema_component_of};
+ghost use Rattle.rng_load.specs.views.PlacedGrammars.{schema_of};
+ghost use Rattle.rng_components.specs.plain.ClauseTests.{is_broken_at, number_of};
+ghost use Rattle.rng_components.specs.views.Defined.{defines_in, finds};
+ghost use Rattle.rng_components.specs.plain.GrammarTests.{defines, defines_if, some_has};
+ghost use Rattle.rng_components.specs.plain.Judged.{AreComponentsJudged};
+ghost use Rattle.rng_components.specs.plain.PatternTests.{ref_test};
+ghost use Rattle.rng_components.specs.plain.RuleTests.{rule_test};
 
 use crate::combinations::{breaks_combination, lacks_start};
 use crate::definitions::{DefinedNames, Definitions, components_at};

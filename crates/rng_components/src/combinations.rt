@@ -1,9 +1,9 @@
 // How components of one name are combined, and starts.
 ghost use Rattle.std.specs.Prelude.{◌≡◌, ◌∷◌, ◌++◌, ◌||◌, [], List, ℕ, IfOk, IsTrue, OnOk, Option, map, not, option_map};
 ghost use Rattle.std.specs.List.{list_any};
-ghost use Rattle.rng_model.specs.Schema.{is_interleaved, same_name};
-ghost use Rattle.rng_model.specs.SchemaView.{schema_component_of};
-ghost use Rattle.rng_components.specs.GrammarTests.{both_methods, breaks_combination, has, is_choice, is_interleaved_as, is_plain, lacks_start, names_in, seen_name, two_plain};
+ghost use Rattle.rng_model.specs.schema.Schema.{is_interleaved, same_name};
+ghost use Rattle.rng_model.specs.views.SchemaView.{schema_component_of};
+ghost use Rattle.rng_components.specs.plain.GrammarTests.{both_methods, breaks_combination, has, is_choice, is_interleaved_as, is_plain, lacks_start, names_in, seen_name, two_plain};
 
 use indexmap::IndexSet;
 use rng_model::{Component, Method, OutOfMemory};

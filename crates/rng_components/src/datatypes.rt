@@ -1,7 +1,7 @@
 // Datatypes that are not known, and values that are not allowed.
 ghost use Rattle.std.specs.Prelude.{◌≡◌};
-ghost use Rattle.rng_model.specs.Types.{datatype_of};
-ghost use Rattle.rng_components.specs.PatternTests.{is_refused, is_unknown};
+ghost use Rattle.rng_model.specs.datatypes.DatatypeViews.{datatype_of};
+ghost use Rattle.rng_components.specs.plain.PatternTests.{is_refused, is_unknown};
 
 use rng_model::Datatype;
 use rng_types::{Builtin, Datatype as _};

@@ -2,11 +2,11 @@
 ghost use Rattle.std.specs.Prelude.{◌≡◌, ◌||◌, ℕ, IfOk, List, OnOk, Some, if◌then◌else◌, map};
 ghost use Rattle.std.specs.List.{list_any};
 ghost use Rattle.std.specs.Str.{bytes_eq};
-ghost use Rattle.rng_model.specs.Patterns as patterns;
-ghost use Rattle.rng_model.specs.SchemaView.{place_of, schema_component_of};
-ghost use Rattle.rng_load.specs.PlacedGrammars.{schema_of};
-ghost use Rattle.rng_components.specs.Defined.{defines_in, finds, has_name};
-ghost use Rattle.rng_components.specs.GrammarTests.{components_at, defines, is_named};
+ghost use Rattle.rng_model.specs.schema.Patterns as patterns;
+ghost use Rattle.rng_model.specs.views.SchemaView.{place_of, schema_component_of};
+ghost use Rattle.rng_load.specs.views.PlacedGrammars.{schema_of};
+ghost use Rattle.rng_components.specs.views.Defined.{defines_in, finds, has_name};
+ghost use Rattle.rng_components.specs.plain.GrammarTests.{components_at, defines, is_named};
 
 use indexmap::{IndexMap, IndexSet};
 use rng_load::Schema;

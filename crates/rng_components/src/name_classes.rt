@@ -1,8 +1,8 @@
 // Name classes that break a rule.
 ghost use Rattle.std.specs.Prelude.{◌≡◌};
-ghost use Rattle.rng_model.specs.View.{class_of, name_of};
-ghost use Rattle.rng_components.specs.ClassTests.{breaks_except, declaration_test, has_part, is_barred, is_barred_name};
-ghost use Rattle.rng_components.specs.RuleTests.{part_test};
+ghost use Rattle.rng_model.specs.names.NameViews.{class_of, name_of};
+ghost use Rattle.rng_components.specs.plain.ClassTests.{breaks_except, declaration_test, has_part, is_barred, is_barred_name};
+ghost use Rattle.rng_components.specs.plain.RuleTests.{part_test};
 
 use rng_model::{Name, NameClass};
 

@@ -1,12 +1,12 @@
 // Patterns that break a rule.
 ghost use Rattle.std.specs.Prelude.{◌≡◌, map, string_bytes};
-ghost use Rattle.rng_model.specs.Patterns.{patterns_of};
-ghost use Rattle.rng_model.specs.SchemaView.{schema_pattern_of};
-ghost use Rattle.rng_model.specs.Types.{datatype_of};
-ghost use Rattle.rng_model.specs.View.{class_of};
-ghost use Rattle.rng_components.specs.Defined.{finds};
-ghost use Rattle.rng_components.specs.PatternTests.{has_written, some_has_written};
-ghost use Rattle.rng_components.specs.RuleTests.{rule_test};
+ghost use Rattle.rng_model.specs.schema.Patterns.{patterns_of};
+ghost use Rattle.rng_model.specs.views.SchemaView.{schema_pattern_of};
+ghost use Rattle.rng_model.specs.datatypes.DatatypeViews.{datatype_of};
+ghost use Rattle.rng_model.specs.names.NameViews.{class_of};
+ghost use Rattle.rng_components.specs.views.Defined.{finds};
+ghost use Rattle.rng_components.specs.plain.PatternTests.{has_written, some_has_written};
+ghost use Rattle.rng_components.specs.plain.RuleTests.{rule_test};
 
 use crate::datatypes::{is_refused, is_unknown};
 use crate::definitions::DefinedNames;

@@ -3,15 +3,15 @@ use Rattle.std.proofs.Common.{◌≡◌, ◌⊎◌, inl, inr, ⊎_elim, ℕ, Lis
 use Rattle.std.proofs.lemmas.List.{append-nil}
 use Rattle.std.proofs.lemmas.Bool.{and_from, and_parts, or_cases, or_left, or_right}
 use Rattle.rng_model.proofs.Interleaving.{left_alone, right_alone, left_is_all, right_is_all, left_is_none, right_is_none}
-use Rattle.rng_model.specs.Tree as tree
-use Rattle.rng_model.specs.Tree.{choice, group, interleave}
-use Rattle.rng_model.specs.Names as names
-use Rattle.rng_model.specs.Document.{Attribute, Item, a_text, an_element, Interleaves, AllTexts, no_texts, text_and}
-use Rattle.rng_model.specs.Document as document
-use Rattle.rng_model.specs.Table.{Grammar}
-use Rattle.rng_model.specs.Texts.{TextTests}
-use Rattle.rng_deriv.specs.Acceptance.{IsDerivable, IsOf, Fits, Accepts, Same, IsAfterItem, IsAfterAttribute}
-use Rattle.rng_deriv.specs.PatternTable.{is_nullable}
+use Rattle.rng_model.specs.simple.Tree as tree
+use Rattle.rng_model.specs.simple.Tree.{choice, group, interleave}
+use Rattle.rng_model.specs.names.Names as names
+use Rattle.rng_model.specs.matching.Document.{Attribute, Item, a_text, an_element, Interleaves, AllTexts, no_texts, text_and}
+use Rattle.rng_model.specs.matching.Document as document
+use Rattle.rng_model.specs.simple.Table.{Grammar}
+use Rattle.rng_model.specs.datatypes.Texts.{TextTests}
+use Rattle.rng_deriv.specs.plain.Acceptance.{IsDerivable, IsOf, Fits, Accepts, Same, IsAfterItem, IsAfterAttribute}
+use Rattle.rng_deriv.specs.views.PatternTable.{is_nullable}
 
 nil_front : {A : Type 0} (xs ys : List A) → xs ++ ys ≡ [] → xs ≡ []
 nil_front [] ys e = refl

@@ -2,19 +2,19 @@
 -- are as they were.
 use Rattle.std.proofs.Common.{◌≡◌, inl, inr, ⊎_elim, ℕ, List, [], ◌∷◌, ◌++◌, Bool, true, false, cond, refl, sym, ap, ◌∙◌, subst, append_assoc}
 use Rattle.std.proofs.lemmas.List.{append-nil}
-use Rattle.rng_model.specs.Tree as tree
-use Rattle.rng_model.specs.Tree.{Tree, choice, group, interleave, as_tree}
-use Rattle.rng_model.specs.Names as names
-use Rattle.rng_model.specs.Names.{In}
-use Rattle.rng_model.specs.Document.{Attribute, Item, a_text, an_element, Items, Interleaves, AllTexts, no_texts, text_and, Padded, list_of}
-use Rattle.rng_model.specs.Document as document
-use Rattle.rng_model.specs.Matching.{Matches, MatchesAll, MatchesOne, Weakly}
-use Rattle.rng_model.specs.Matching as m
-use Rattle.rng_model.specs.Table.{Grammar, grammar_leaves}
-use Rattle.rng_model.specs.Texts.{TextTests, texts_of, is_blank}
-use Rattle.rng_deriv.specs.Acceptance.{IsDerivable, IsOf, Accepts, TakesText, Contains, has_element, without_blanks, content}
-use Rattle.rng_model.specs.WellFormed.{Separate}
-use Rattle.rng_model.specs.WellFormed as w
+use Rattle.rng_model.specs.simple.Tree as tree
+use Rattle.rng_model.specs.simple.Tree.{Tree, choice, group, interleave, as_tree}
+use Rattle.rng_model.specs.names.Names as names
+use Rattle.rng_model.specs.names.Names.{In}
+use Rattle.rng_model.specs.matching.Document.{Attribute, Item, a_text, an_element, Items, Interleaves, AllTexts, no_texts, text_and, Padded, list_of}
+use Rattle.rng_model.specs.matching.Document as document
+use Rattle.rng_model.specs.matching.Matching.{Matches, MatchesAll, MatchesOne, Weakly}
+use Rattle.rng_model.specs.matching.Matching as m
+use Rattle.rng_model.specs.simple.Table.{Grammar, grammar_leaves}
+use Rattle.rng_model.specs.datatypes.Texts.{TextTests, texts_of, is_blank}
+use Rattle.rng_deriv.specs.plain.Acceptance.{IsDerivable, IsOf, Accepts, TakesText, Contains, has_element, without_blanks, content}
+use Rattle.rng_model.specs.matching.WellFormed.{Separate}
+use Rattle.rng_model.specs.matching.WellFormed as w
 use Rattle.rng_model.proofs.Interleaving.{left_alone, left_is_all}
 
 -- the second list is the first with elements padded

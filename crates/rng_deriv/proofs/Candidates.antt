@@ -3,16 +3,16 @@ use Rattle.std.proofs.Common.{◌≡◌, ◌↔◌, ◌⊎◌, ⊎_elim, inl, in
 use Rattle.std.proofs.Common.{Bool, true, false, cond, ◌||◌, nat_eq, IsTrue, refl, ap, sym, ◌∙◌, subst}
 use Rattle.std.proofs.lemmas.Bool.{cases_eq, ne_eqb, eq-eqb, eqb-true}
 use Rattle.std.proofs.lemmas.List.Folds.{list_any-append}
-use Rattle.rng_model.specs.Names as names
-use Rattle.rng_model.specs.Document.{Attribute, Item}
-use Rattle.rng_model.specs.Table.{Table, grammar_of}
-use Rattle.rng_model.specs.Texts.{TextTests}
-use Rattle.rng_model.specs.Names.{In}
-use Rattle.rng_model.specs.View.{class_of}
+use Rattle.rng_model.specs.names.Names as names
+use Rattle.rng_model.specs.matching.Document.{Attribute, Item}
+use Rattle.rng_model.specs.simple.Table.{Table, grammar_of}
+use Rattle.rng_model.specs.datatypes.Texts.{TextTests}
+use Rattle.rng_model.specs.names.Names.{In}
+use Rattle.rng_model.specs.names.NameViews.{class_of}
 use Rattle.rng_deriv.specs.declared.names.ElementNames.{ElementNames}
-use Rattle.rng_deriv.specs.Named.{ListsElements, candidates, has_number}
+use Rattle.rng_deriv.specs.plain.Named.{ListsElements, candidates, has_number}
 use Rattle.rng_deriv.proofs.Named.{has_front, has_last, held_candidate}
-use Rattle.rng_deriv.specs.Content.{TakesNode}
+use Rattle.rng_deriv.specs.plain.Content.{TakesNode}
 use Rattle.rng_deriv.proofs.Content.{in_table}
 use Rattle.std.proofs.lemmas.Bool.{or_cases}
 

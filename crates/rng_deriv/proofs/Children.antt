@@ -6,20 +6,21 @@ use Rattle.std.proofs.Math.ListN.{get_or-map}
 use Rattle.std.specs.HashSet.{HashSet}
 use Rattle.std.specs.List.{list_any}
 use Rattle.std.proofs.lemmas.Option.{slice_get-map, slice_get-get_or}
-use Rattle.rng_model.specs.Document as document
-use Rattle.rng_model.specs.Document.{a_text, an_element, list_of}
-use Rattle.rng_model.specs.Tree as tree
-use Rattle.rng_model.specs.Table.{IsOfFirstKind, Table, Grammar, IsValidBy, grammar_of, tree_at}
-use Rattle.rng_model.specs.View.{attribute_of, item_of, items_of, name_of}
+use Rattle.rng_model.specs.matching.Document as document
+use Rattle.rng_model.specs.matching.Document.{a_text, an_element, list_of}
+use Rattle.rng_model.specs.simple.Tree as tree
+use Rattle.rng_model.specs.simple.Table.{IsOfFirstKind, Table, Grammar, IsValidBy, grammar_of, tree_at}
+use Rattle.rng_model.specs.documents.DocumentViews.{attribute_of, item_of, items_of}
+use Rattle.rng_model.specs.names.NameViews.{name_of}
 use Rattle.rng_model.specs.declared.document.Attr.{Attr}
 use Rattle.rng_model.specs.declared.document.Item.{Item, Element, the_lemmas}
 use Rattle.rng_model.specs.declared.name.Name.{Name}
-use Rattle.rng_model.specs.WellFormed.{AreWellFormed, IsWellFormed, Separate}
-use Rattle.rng_deriv.specs.Acceptance.{Accepts, content, has_element, is_blank_text, is_element, kept}
-use Rattle.rng_deriv.specs.Derivative.{HasItsElements, IsAfter, StandsForItem}
-use Rattle.rng_deriv.specs.Content.{AnswersNodes, StandForItems}
-use Rattle.rng_model.specs.Texts.{TextTests, texts_of}
-use Rattle.rng_deriv.specs.PatternTable.{AreCopied, is_nullable, tree_of}
+use Rattle.rng_model.specs.matching.WellFormed.{AreWellFormed, IsWellFormed, Separate}
+use Rattle.rng_deriv.specs.plain.Acceptance.{Accepts, content, has_element, is_blank_text, is_element, kept}
+use Rattle.rng_deriv.specs.plain.Derivative.{HasItsElements, IsAfter, StandsForItem}
+use Rattle.rng_deriv.specs.plain.Content.{AnswersNodes, StandForItems}
+use Rattle.rng_model.specs.datatypes.Texts.{TextTests, texts_of}
+use Rattle.rng_deriv.specs.views.PatternTable.{AreCopied, is_nullable, tree_of}
 use Rattle.rng_deriv.specs.declared.pattern_table.TableEntry.{TableEntry}
 use Rattle.rng_deriv.specs.declared.derivative.Symbol.{Symbol}
 use Rattle.rng_deriv.proofs.Blanks.{alone_in, alone_out}

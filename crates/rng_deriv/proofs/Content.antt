@@ -4,25 +4,26 @@ use Rattle.std.proofs.Common.{true, false, cond, ◌&&◌, nat_eq, IsTrue, refl,
 use Rattle.std.proofs.lemmas.List.{append-nil}
 use Rattle.std.proofs.lemmas.Option.{slice_get-map}
 use Rattle.std.specs.HashSet.{HashSet, contains}
-use Rattle.rng_model.specs.Names as names
-use Rattle.rng_model.specs.Names.{In}
-use Rattle.rng_model.specs.Tree as tree
-use Rattle.rng_model.specs.Tree.{as_tree}
-use Rattle.rng_model.specs.Document.{Attribute, Item, a_text, an_element, Items, no_items, item_and, list_of, Padded}
-use Rattle.rng_model.specs.Document as document
-use Rattle.rng_model.specs.Matching.{Matches, Weakly}
-use Rattle.rng_model.specs.Matching as m
-use Rattle.rng_model.specs.Table as table
-use Rattle.rng_model.specs.Table.{IsOfFirstKind, Table, Grammar, grammar_of, grammar_leaves, tree_at, IsListed}
-use Rattle.rng_model.specs.View.{class_of, items_of}
+use Rattle.rng_model.specs.names.Names as names
+use Rattle.rng_model.specs.names.Names.{In}
+use Rattle.rng_model.specs.simple.Tree as tree
+use Rattle.rng_model.specs.simple.Tree.{as_tree}
+use Rattle.rng_model.specs.matching.Document.{Attribute, Item, a_text, an_element, Items, no_items, item_and, list_of, Padded}
+use Rattle.rng_model.specs.matching.Document as document
+use Rattle.rng_model.specs.matching.Matching.{Matches, Weakly}
+use Rattle.rng_model.specs.matching.Matching as m
+use Rattle.rng_model.specs.simple.Table as table
+use Rattle.rng_model.specs.simple.Table.{IsOfFirstKind, Table, Grammar, grammar_of, grammar_leaves, tree_at, IsListed}
+use Rattle.rng_model.specs.names.NameViews.{class_of}
+use Rattle.rng_model.specs.documents.DocumentViews.{items_of}
 use Rattle.rng_model.specs.declared.name.NameClass.{NameClass}
 use Rattle.rng_model.specs.declared.simple.PatternId.{PatternId}
-use Rattle.rng_model.specs.Texts.{TextTests, texts_of, is_blank}
-use Rattle.rng_model.specs.WellFormed.{Separate, IsWellFormed, AreWellFormed}
-use Rattle.rng_deriv.specs.Acceptance.{Contains, IsDerivable, IsOf, Accepts, content, has_element, is_blank_text, kept, without_blanks}
-use Rattle.rng_deriv.specs.Derivative.{HasItsElements, StandsForItem}
-use Rattle.rng_deriv.specs.Content.{AnswersContent, AnswersNode, IsAfterAttributes, StandForItems, TakesNode}
-use Rattle.rng_deriv.specs.PatternTable.{AreCopied, tree_of}
+use Rattle.rng_model.specs.datatypes.Texts.{TextTests, texts_of, is_blank}
+use Rattle.rng_model.specs.matching.WellFormed.{Separate, IsWellFormed, AreWellFormed}
+use Rattle.rng_deriv.specs.plain.Acceptance.{Contains, IsDerivable, IsOf, Accepts, content, has_element, is_blank_text, kept, without_blanks}
+use Rattle.rng_deriv.specs.plain.Derivative.{HasItsElements, StandsForItem}
+use Rattle.rng_deriv.specs.plain.Content.{AnswersContent, AnswersNode, IsAfterAttributes, StandForItems, TakesNode}
+use Rattle.rng_deriv.specs.views.PatternTable.{AreCopied, tree_of}
 use Rattle.rng_deriv.specs.declared.pattern_table.TableEntry.{TableEntry}
 use Rattle.rng_deriv.proofs.Follows.{All-found}
 use Rattle.rng_deriv.specs.declared.derivative.Symbol.{Symbol}

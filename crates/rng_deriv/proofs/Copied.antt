@@ -2,14 +2,14 @@
 use Rattle.std.proofs.Common.{◌≡◌, ℕ, ◌+◌, ◌<◌, ◌≤◌, ⊎_elim, List, [], ◌∷◌, length, slice_get, Some, None, refl, ap, ap₂, sym, ◌∙◌, arith}
 use Rattle.std.proofs.lemmas.Option.{slice_get-get_or}
 use Rattle.std.proofs.lemmas.Bool.{cases_lt}
-use Rattle.rng_model.specs.Tree as tree
-use Rattle.rng_model.specs.Tree.{choice, group}
-use Rattle.rng_model.specs.Table as table
-use Rattle.rng_model.specs.Table.{Table, AreChildrenBelow, IsOfFirstKind, tree_at}
+use Rattle.rng_model.specs.simple.Tree as tree
+use Rattle.rng_model.specs.simple.Tree.{choice, group}
+use Rattle.rng_model.specs.simple.Table as table
+use Rattle.rng_model.specs.simple.Table.{Table, AreChildrenBelow, IsOfFirstKind, tree_at}
 use Rattle.rng_model.specs.declared.simple.PatternId.{PatternId}
 use Rattle.rng_model.specs.declared.simple.Simple.{Simple}
 use Rattle.rng_model.specs.declared.simple.Simple.TheVariants as simple
-use Rattle.rng_deriv.specs.PatternTable.{Longer, attribute_found, node_for, tree_over, tree_of}
+use Rattle.rng_deriv.specs.views.PatternTable.{Longer, attribute_found, node_for, tree_over, tree_of}
 use Rattle.rng_deriv.specs.declared.pattern_table.TableEntry.{TableEntry}
 use Rattle.rng_deriv.proofs.PatternTable.{tree_stays}
 

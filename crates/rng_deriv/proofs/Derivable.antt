@@ -1,15 +1,15 @@
 -- Each pattern that a table numbers is of a kind that is derived.
 use Rattle.std.proofs.Common.{ℕ, suc, zero, List, [], ◌∷◌, ◌++◌, get_or, fold, slice_get, Option, Some, None, All}
 use Rattle.std.proofs.lemmas.List.Elements.{All-head, All-tail}
-use Rattle.rng_model.specs.Tree as tree
-use Rattle.rng_model.specs.Tree.{choice, group}
-use Rattle.rng_model.specs.Table as table
-use Rattle.rng_model.specs.Table.{Table, IsOfFirstKind, tree_at}
+use Rattle.rng_model.specs.simple.Tree as tree
+use Rattle.rng_model.specs.simple.Tree.{choice, group}
+use Rattle.rng_model.specs.simple.Table as table
+use Rattle.rng_model.specs.simple.Table.{Table, IsOfFirstKind, tree_at}
 use Rattle.rng_model.specs.declared.simple.PatternId.{PatternId}
 use Rattle.rng_model.specs.declared.simple.Simple.{Simple}
 use Rattle.rng_model.specs.declared.simple.Simple.TheVariants as simple
-use Rattle.rng_deriv.specs.Acceptance.{IsDerivable}
-use Rattle.rng_deriv.specs.PatternTable.{attribute_found, tree_over, tree_in, tree_of, trees, with_tree}
+use Rattle.rng_deriv.specs.plain.Acceptance.{IsDerivable}
+use Rattle.rng_deriv.specs.views.PatternTable.{attribute_found, tree_over, tree_in, tree_of, trees, with_tree}
 use Rattle.rng_deriv.specs.declared.pattern_table.Node.{Node}
 use Rattle.rng_deriv.specs.declared.pattern_table.Node.TheVariants as node
 use Rattle.rng_deriv.specs.declared.pattern_table.TableEntry.{TableEntry}

@@ -4,14 +4,14 @@ use Rattle.std.proofs.Common.{slice_get, Some, Bool, ◌||◌, IsTrue, refl, ap,
 use Rattle.std.proofs.lemmas.List.{drop_all, take_more}
 use Rattle.std.proofs.Math.Numerals.{add-one}
 use Rattle.std.specs.List.{list_any}
-use Rattle.rng_model.specs.Tree as tree
-use Rattle.rng_model.specs.Document.{Attribute, Item}
-use Rattle.rng_model.specs.Table.{IsOfFirstKind, Table, grammar_of}
-use Rattle.rng_model.specs.Texts.{TextTests}
-use Rattle.rng_deriv.specs.Acceptance.{Contains, IsAfterAttribute, IsAfterItem, Accepts}
-use Rattle.rng_deriv.specs.PatternTable.{Longer, is_nullable, tree_of}
-use Rattle.rng_deriv.specs.Derivative.{IsAfter, IsDerivative, StandsForItem}
-use Rattle.rng_deriv.specs.Content.{AnswersContent, AnswersItems, IsAfterAttributes, StandForItems}
+use Rattle.rng_model.specs.simple.Tree as tree
+use Rattle.rng_model.specs.matching.Document.{Attribute, Item}
+use Rattle.rng_model.specs.simple.Table.{IsOfFirstKind, Table, grammar_of}
+use Rattle.rng_model.specs.datatypes.Texts.{TextTests}
+use Rattle.rng_deriv.specs.plain.Acceptance.{Contains, IsAfterAttribute, IsAfterItem, Accepts}
+use Rattle.rng_deriv.specs.views.PatternTable.{Longer, is_nullable, tree_of}
+use Rattle.rng_deriv.specs.plain.Derivative.{IsAfter, IsDerivative, StandsForItem}
+use Rattle.rng_deriv.specs.plain.Content.{AnswersContent, AnswersItems, IsAfterAttributes, StandForItems}
 use Rattle.rng_deriv.specs.declared.pattern_table.TableEntry.{TableEntry}
 use Rattle.rng_deriv.specs.declared.derivative.Symbol.{Symbol}
 use Rattle.rng_deriv.specs.declared.derivative.Symbol.TheVariants as symbol

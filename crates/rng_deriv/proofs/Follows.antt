@@ -5,11 +5,11 @@ use Rattle.std.proofs.lemmas.List.{get_or_append_left}
 use Rattle.std.proofs.lemmas.Option.{slice_get_within, get_or_from_slice_get, slice_get-get_or}
 use Rattle.std.proofs.lemmas.Bool.{cases_eq, ne_eqb}
 use Rattle.std.specs.HashMap.{HashMap, get, Updates}
-use Rattle.rng_model.specs.Table.{Table, grammar_of}
+use Rattle.rng_model.specs.simple.Table.{Table, grammar_of}
 use Rattle.rng_model.specs.declared.name.NameClass.{NameClass}
 use Rattle.rng_model.specs.declared.simple.PatternId.{PatternId}
-use Rattle.rng_deriv.specs.PatternTable.{AreCopied, Longer, tree_of}
-use Rattle.rng_deriv.specs.Derivative.{IsFirstSide, AreFirstSides, at_top, further, IsAfter, IsDerivative, Knows}
+use Rattle.rng_deriv.specs.views.PatternTable.{AreCopied, Longer, tree_of}
+use Rattle.rng_deriv.specs.plain.Derivative.{IsFirstSide, AreFirstSides, at_top, further, IsAfter, IsDerivative, Knows}
 use Rattle.rng_deriv.specs.declared.pattern_table.TableEntry.{TableEntry}
 use Rattle.rng_deriv.specs.declared.derivative.Symbol.{Symbol}
 use Rattle.rng_deriv.proofs.PatternTable.{tree_stays}

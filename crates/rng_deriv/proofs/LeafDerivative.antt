@@ -3,25 +3,26 @@ use Rattle.std.proofs.Common.{◌≡◌, ◌↔◌, ◌⊎◌, inl, inr, ⊎_eli
 use Rattle.std.proofs.Common.{◌&&◌, string_bytes, length, arith, Bor, Box, Global, nat_eq, IsTrue, refl, sym, ◌∙◌, subst}
 use Rattle.std.proofs.lemmas.Option.{slice_get_within}
 use Rattle.std.specs.HashSet.{HashSet, contains}
-use Rattle.rng_model.specs.Tree as tree
-use Rattle.rng_model.specs.Names as names
-use Rattle.rng_model.specs.Names.{In}
-use Rattle.rng_model.specs.Document.{Attribute, Item, a_text, an_element}
-use Rattle.rng_model.specs.Document as document
-use Rattle.rng_model.specs.Matching.{Matches}
-use Rattle.rng_model.specs.Matching as m
-use Rattle.rng_model.specs.Table.{IsOfFirstKind, Table, Grammar, grammar_of, grammar_leaves, tree_at}
-use Rattle.rng_model.specs.View.{attribute_of, class_of, name_of}
+use Rattle.rng_model.specs.simple.Tree as tree
+use Rattle.rng_model.specs.names.Names as names
+use Rattle.rng_model.specs.names.Names.{In}
+use Rattle.rng_model.specs.matching.Document.{Attribute, Item, a_text, an_element}
+use Rattle.rng_model.specs.matching.Document as document
+use Rattle.rng_model.specs.matching.Matching.{Matches}
+use Rattle.rng_model.specs.matching.Matching as m
+use Rattle.rng_model.specs.simple.Table.{IsOfFirstKind, Table, Grammar, grammar_of, grammar_leaves, tree_at}
+use Rattle.rng_model.specs.documents.DocumentViews.{attribute_of}
+use Rattle.rng_model.specs.names.NameViews.{class_of, name_of}
 use Rattle.rng_model.specs.declared.name.NameClass.{NameClass}
 use Rattle.rng_model.specs.declared.document.Attr.{Attr}
 use Rattle.rng_model.specs.declared.simple.ElementId.{ElementId}
 use Rattle.rng_model.specs.declared.simple.PatternId.{PatternId}
 use Rattle.rng_model.specs.declared.simple.Simple.{Simple}
 use Rattle.rng_model.specs.declared.simple.Simple.TheVariants as simple
-use Rattle.rng_model.specs.Texts.{TextTests, is_blank, texts_of}
-use Rattle.rng_deriv.specs.Acceptance.{Fits, IsAfterAttribute, IsAfterItem, IsDerivable, IsOf, TakesText, has_element}
-use Rattle.rng_deriv.specs.PatternTable.{AreCopied, Longer, attribute_found, is_nullable, tree_over, tree_of}
-use Rattle.rng_deriv.specs.Derivative.{HasItsElements, IsAfter, IsDerivative, IsLeftOfLeaf, StandsForItem, first_side}
+use Rattle.rng_model.specs.datatypes.Texts.{TextTests, is_blank, texts_of}
+use Rattle.rng_deriv.specs.plain.Acceptance.{Fits, IsAfterAttribute, IsAfterItem, IsDerivable, IsOf, TakesText, has_element}
+use Rattle.rng_deriv.specs.views.PatternTable.{AreCopied, Longer, attribute_found, is_nullable, tree_over, tree_of}
+use Rattle.rng_deriv.specs.plain.Derivative.{HasItsElements, IsAfter, IsDerivative, IsLeftOfLeaf, StandsForItem, first_side}
 use Rattle.rng_deriv.proofs.Steps.{IsAttribute}
 use Rattle.rng_deriv.specs.declared.pattern_table.Node.{Node}
 use Rattle.rng_deriv.specs.declared.pattern_table.Node.TheVariants as node

@@ -6,16 +6,16 @@ use Rattle.std.proofs.lemmas.List.Folds.{list_any-append}
 use Rattle.std.proofs.lemmas.Option.{slice_get_within}
 use Rattle.std.specs.HashMap.{HashMap}
 use Rattle.std.specs.Str.{bytes_eq}
-use Rattle.rng_model.specs.Table.{Table}
+use Rattle.rng_model.specs.simple.Table.{Table}
 use Rattle.rng_model.specs.declared.name.NameClass.{NameClass}
 use Rattle.rng_model.specs.declared.simple.PatternId.{PatternId}
-use Rattle.rng_model.specs.Names as names
-use Rattle.rng_model.specs.Names.{In}
-use Rattle.rng_model.specs.View.{class_of, name_of}
+use Rattle.rng_model.specs.names.Names as names
+use Rattle.rng_model.specs.names.Names.{In}
+use Rattle.rng_model.specs.names.NameViews.{class_of, name_of}
 use Rattle.rng_model.specs.declared.name.NameClass.{Name, the_lemmas}
 use Rattle.rng_model.specs.declared.name.Name as declared
 use Rattle.rng_model.specs.declared.name.NameClass.TheVariants as classes
-use Rattle.rng_deriv.specs.Named.{ListsFirst, candidates, has_number, is_same_place, listed_under, local_of, place_of}
+use Rattle.rng_deriv.specs.plain.Named.{ListsFirst, candidates, has_number, is_same_place, listed_under, local_of, place_of}
 use Rattle.rng_deriv.specs.declared.names.ElementNames.{ElementNames}
 use Rattle.rng_deriv.proofs.Copied.{past_from_none}
 

@@ -6,10 +6,10 @@ use Rattle.std.proofs.lemmas.Option.{slice_get_within, get_or_from_slice_get, sl
 use Rattle.std.proofs.lemmas.Bool.{cases_lt}
 use Rattle.std.proofs.Math.Seq.{get_or-append_seam}
 use Rattle.rng_model.proofs.NumberedTrees as numbered
-use Rattle.rng_model.specs.Tree as tree
-use Rattle.rng_model.specs.Tree.{group, choice, s_not_allowed}
-use Rattle.rng_model.specs.Table.{Table}
-use Rattle.rng_deriv.specs.PatternTable.{attribute_found, AreSidesBelow, IsPatternTable, Longer, tree_over, tree_of, trees, is_nullable}
+use Rattle.rng_model.specs.simple.Tree as tree
+use Rattle.rng_model.specs.simple.Tree.{group, choice, s_not_allowed}
+use Rattle.rng_model.specs.simple.Table.{Table}
+use Rattle.rng_deriv.specs.views.PatternTable.{attribute_found, AreSidesBelow, IsPatternTable, Longer, tree_over, tree_of, trees, is_nullable}
 use Rattle.rng_model.specs.declared.simple.Simple.{Simple}
 use Rattle.rng_model.specs.declared.simple.Simple.TheVariants as simple
 use Rattle.rng_deriv.specs.declared.pattern_table.Node.{Node}

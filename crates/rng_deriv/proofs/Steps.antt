@@ -2,16 +2,16 @@
 use Rattle.std.proofs.Common.{◌≡◌, ℕ, ◌<◌, List, [], length, slice_get, Some, true, false, Bor, refl, ap, ap₂, sym, ◌∙◌, arith, subst}
 use Rattle.std.proofs.lemmas.List.{append-nil}
 use Rattle.std.proofs.lemmas.Option.{slice_get_within}
-use Rattle.rng_model.specs.Tree as tree
-use Rattle.rng_model.specs.Tree.{choice, group}
-use Rattle.rng_model.specs.Document.{a_text}
-use Rattle.rng_model.specs.View.{attribute_of}
-use Rattle.rng_model.specs.Table.{Table, Grammar, grammar_of}
+use Rattle.rng_model.specs.simple.Tree as tree
+use Rattle.rng_model.specs.simple.Tree.{choice, group}
+use Rattle.rng_model.specs.matching.Document.{a_text}
+use Rattle.rng_model.specs.documents.DocumentViews.{attribute_of}
+use Rattle.rng_model.specs.simple.Table.{Table, Grammar, grammar_of}
 use Rattle.rng_model.specs.declared.document.Attr.{Attr}
-use Rattle.rng_model.specs.Texts.{TextTests}
-use Rattle.rng_deriv.specs.Acceptance.{Same, IsDerivable}
-use Rattle.rng_deriv.specs.PatternTable.{AreSidesBelow, AddsPattern, Longer, tree_over, tree_of, is_nullable}
-use Rattle.rng_deriv.specs.Derivative.{IsAfter, IsDerivative, IsFirstAfter, IsLeftOfLeaf, first_side}
+use Rattle.rng_model.specs.datatypes.Texts.{TextTests}
+use Rattle.rng_deriv.specs.plain.Acceptance.{Same, IsDerivable}
+use Rattle.rng_deriv.specs.views.PatternTable.{AreSidesBelow, AddsPattern, Longer, tree_over, tree_of, is_nullable}
+use Rattle.rng_deriv.specs.plain.Derivative.{IsAfter, IsDerivative, IsFirstAfter, IsLeftOfLeaf, first_side}
 use Rattle.rng_deriv.specs.declared.pattern_table.Node.{Node}
 use Rattle.rng_deriv.specs.declared.pattern_table.Node.TheVariants as node
 use Rattle.rng_deriv.specs.declared.pattern_table.TableEntry.{TableEntry}

@@ -1,5 +1,2 @@
-pub mod Acceptance
-pub mod PatternTable
-pub mod Derivative
-pub mod Named
-pub mod Content
+pub mod plain
+pub mod views

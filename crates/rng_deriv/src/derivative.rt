@@ -1,12 +1,13 @@
 // What is left of a pattern after an attribute, a string or an element.
 ghost use Rattle.std.specs.Prelude.{◌≡◌, ◌↔◌, ◌<◌, [], length, slice_get, IsTrue, IfOk, OnOk, MatchOption, ◌||◌, ◌&&◌, if◌then◌else◌};
-ghost use Rattle.rng_model.specs.Table.{grammar_of};
-ghost use Rattle.rng_model.specs.Tree.{s_empty, s_not_allowed};
-ghost use Rattle.rng_model.specs.View.{attribute_of, class_of, name_of};
-ghost use Rattle.rng_model.specs.Texts.{TextTests, is_blank};
-ghost use Rattle.rng_deriv.specs.Acceptance.{IsAfterAttribute, TakesText};
-ghost use Rattle.rng_deriv.specs.PatternTable.{AreCopied, Longer, attribute_found, tree_of};
-ghost use Rattle.rng_deriv.specs.Derivative.{IsAfter, IsBottom, IsFirstAfter, IsFirstSide, IsLeaf, IsLeftOfLeaf, AreFirstSides, Knows};
+ghost use Rattle.rng_model.specs.simple.Table.{grammar_of};
+ghost use Rattle.rng_model.specs.simple.Tree.{s_empty, s_not_allowed};
+ghost use Rattle.rng_model.specs.documents.DocumentViews.{attribute_of};
+ghost use Rattle.rng_model.specs.names.NameViews.{class_of, name_of};
+ghost use Rattle.rng_model.specs.datatypes.Texts.{TextTests, is_blank};
+ghost use Rattle.rng_deriv.specs.plain.Acceptance.{IsAfterAttribute, TakesText};
+ghost use Rattle.rng_deriv.specs.views.PatternTable.{AreCopied, Longer, attribute_found, tree_of};
+ghost use Rattle.rng_deriv.specs.plain.Derivative.{IsAfter, IsBottom, IsFirstAfter, IsFirstSide, IsLeaf, IsLeftOfLeaf, AreFirstSides, Knows};
 
 use crate::names::is_blank;
 use crate::pattern_table::{Node, PatternTable};

@@ -1,8 +1,8 @@
 // Which texts are blank, and which elements may have a name.
 ghost use Rattle.std.specs.Prelude.{◌≡◌, ◌↔◌, ◌++◌, ◌∷◌, [], ℕ, List, Option, IsTrue, IfOk, OnOk, string_bytes, if◌then◌else◌};
 ghost use Rattle.std.specs.Str.{bytes_eq};
-ghost use Rattle.rng_model.specs.Texts.{is_blank};
-ghost use Rattle.rng_deriv.specs.Named.{ListsElements, is_same_place, listed_under, local_of, place_of};
+ghost use Rattle.rng_model.specs.datatypes.Texts.{is_blank};
+ghost use Rattle.rng_deriv.specs.plain.Named.{ListsElements, is_same_place, listed_under, local_of, place_of};
 
 use rng_model::{ElementId, Name, NameClass, OutOfMemory, SimpleGrammar};
 use std::alloc::Global;

@@ -1,8 +1,8 @@
 // Patterns by number: those of a grammar, and what is left of them while a document is matched.
 ghost use Rattle.std.specs.Prelude.{All, ◌≡◌, ◌+◌, ◌<◌, ℕ, List, length, slice_get, Some, IfSome, IfOk, OnOk};
-ghost use Rattle.rng_model.specs.Tree.{choice, group, s_joined};
-ghost use Rattle.rng_model.specs.Table.{Table, IsOfFirstKind, IsTable};
-ghost use Rattle.rng_deriv.specs.PatternTable.{AreSidesBelow, AreCopied, AddsPattern, Longer, node_for, tree_of, tree_over, is_nullable};
+ghost use Rattle.rng_model.specs.simple.Tree.{choice, group, s_joined};
+ghost use Rattle.rng_model.specs.simple.Table.{Table, IsOfFirstKind, IsTable};
+ghost use Rattle.rng_deriv.specs.views.PatternTable.{AreSidesBelow, AreCopied, AddsPattern, Longer, node_for, tree_of, tree_over, is_nullable};
 
 use rng_model::{ElementId, OutOfMemory, PatternId, Simple, SimpleGrammar};
 use std::alloc::Global;
@@ -42,7 +42,7 @@ impl Model for PatternTable {
 
     ghost Value = { List TableEntry };
 
-    ghost use Rattle.rng_deriv.specs.PatternTable.{IsPatternTable};
+    ghost use Rattle.rng_deriv.specs.views.PatternTable.{IsPatternTable};
 
     ghost view = { λ r. r.patterns.items };
 

@@ -1,15 +1,16 @@
 // Which elements of a grammar a node of a document matches, from the leaves up.
 ghost use Rattle.std.specs.Prelude.{All, ◌≡◌, ◌↔◌, ◌<◌, ◌&&◌, length, map, IsTrue, IfOk, OnOk};
 ghost use Rattle.std.specs.List.{list_any};
-ghost use Rattle.rng_model.specs.Table.{IsOfFirstKind, IsValidBy, grammar_of};
-ghost use Rattle.rng_model.specs.View.{attribute_of, item_of, name_of};
-ghost use Rattle.rng_model.specs.Texts.{TextTests, texts_of};
-ghost use Rattle.rng_model.specs.WellFormed.{IsWellFormed};
-ghost use Rattle.rng_deriv.specs.Acceptance.{is_blank_text, is_element};
-ghost use Rattle.rng_deriv.specs.PatternTable.{AreCopied, Longer, tree_of};
-ghost use Rattle.rng_deriv.specs.Derivative.{IsAfter, StandsForItem};
-ghost use Rattle.rng_deriv.specs.Named.{ListsElements};
-ghost use Rattle.rng_deriv.specs.Content.{AddsNodes, AnswersContent, AnswersNode, AnswersNodes, AnswersItems, IsAfterAttributes};
+ghost use Rattle.rng_model.specs.simple.Table.{IsOfFirstKind, IsValidBy, grammar_of};
+ghost use Rattle.rng_model.specs.documents.DocumentViews.{attribute_of, item_of};
+ghost use Rattle.rng_model.specs.names.NameViews.{name_of};
+ghost use Rattle.rng_model.specs.datatypes.Texts.{TextTests, texts_of};
+ghost use Rattle.rng_model.specs.matching.WellFormed.{IsWellFormed};
+ghost use Rattle.rng_deriv.specs.plain.Acceptance.{is_blank_text, is_element};
+ghost use Rattle.rng_deriv.specs.views.PatternTable.{AreCopied, Longer, tree_of};
+ghost use Rattle.rng_deriv.specs.plain.Derivative.{IsAfter, StandsForItem};
+ghost use Rattle.rng_deriv.specs.plain.Named.{ListsElements};
+ghost use Rattle.rng_deriv.specs.plain.Content.{AddsNodes, AnswersContent, AnswersNode, AnswersNodes, AnswersItems, IsAfterAttributes};
 
 use crate::derivative::{Symbol, after, takes_text};
 use crate::names::{ElementNames, is_blank};

@@ -3,36 +3,36 @@ use Rattle.std.proofs.Common.{◌≡◌, ◌∙◌, ℕ, ◌<◌, ◌+◌, ◌�
 use Rattle.std.proofs.Common.{subst, arith, Bool, true, false, ◌||◌}
 use Rattle.std.proofs.lemmas.List.{map-append, take_more}
 use Rattle.std.proofs.lemmas.List.Elements.{All-append, All-cons, All-head, All-nil, All-push, All-tail, All-weaker}
-use Rattle.rng_model.specs.Names.{Name}
-use Rattle.rng_model.specs.Document.{Attribute, Item, list_of}
-use Rattle.rng_model.specs.Table.{Table}
-use Rattle.rng_model.specs.Tree.{Simple, choice, s_joined, s_not_allowed}
-use Rattle.rng_matching.specs.Blanks.{cons, no_blanks}
-use Rattle.rng_matching.specs.Derivatives.{is_not_allowed}
-use Rattle.rng_matching.specs.Derivatives as tree
-use Rattle.rng_matching.specs.LevelStates as level
-use Rattle.rng_matching.specs.LevelStates.{IsBodyNamed}
-use Rattle.rng_matching.specs.Reading.{Reading}
-use Rattle.rng_matching.specs.Restricted.{IsRestricted, IsTyped}
-use Rattle.rng_matching.specs.Taking.{Same, Takes, WeaklyTakes}
-use Rattle.rng_matching.specs.Taking as t
-use Rattle.rng_matching.specs.Ways.{EachWay, Opens}
+use Rattle.rng_model.specs.names.Names.{Name}
+use Rattle.rng_model.specs.matching.Document.{Attribute, Item, list_of}
+use Rattle.rng_model.specs.simple.Table.{Table}
+use Rattle.rng_model.specs.simple.Tree.{Simple, choice, s_joined, s_not_allowed}
+use Rattle.rng_matching.specs.plain.Blanks.{cons, no_blanks}
+use Rattle.rng_matching.specs.plain.Derivatives.{is_not_allowed}
+use Rattle.rng_matching.specs.plain.Derivatives as tree
+use Rattle.rng_matching.specs.plain.LevelStates as level
+use Rattle.rng_matching.specs.plain.LevelStates.{IsBodyNamed}
+use Rattle.rng_model.specs.matching.Reading.{Reading}
+use Rattle.rng_matching.specs.plain.Restricted.{IsRestricted, IsTyped}
+use Rattle.rng_matching.specs.plain.Taking.{Same, Takes, WeaklyTakes}
+use Rattle.rng_matching.specs.plain.Taking as t
+use Rattle.rng_matching.specs.plain.Ways.{EachWay, Opens}
 use Rattle.rng_matching.proofs.FreeForms.{bodies_joined, bodies_parted, way}
-use Rattle.rng_patterns.specs.Node.{Node}
-use Rattle.rng_patterns.specs.PatternTable.{Longer}
-use Rattle.rng_patterns.specs.Trees.{trees, tree_of}
+use Rattle.rng_patterns.specs.views.Node.{Node}
+use Rattle.rng_patterns.specs.views.PatternTable.{Longer}
+use Rattle.rng_patterns.specs.views.Trees.{trees, tree_of}
 use Rattle.rng_patterns.specs.declared.pattern.PatternNumber.{PatternNumber}
 use Rattle.rng_patterns.proofs.Trees.{Longer-length, tree_stays}
-use Rattle.rng_ways.specs.Kinds.{reading_of}
-use Rattle.rng_ways.specs.Starting.{AreStarts, IsRestrictedBodyNamed}
-use Rattle.rng_ways.specs.Ways.{AreInside, IsInside, way_by, ways_by}
+use Rattle.rng_model.specs.matching.GrammarReading.{reading_of}
+use Rattle.rng_ways.specs.plain.Starting.{AreStarts, IsRestrictedBodyNamed}
+use Rattle.rng_ways.specs.plain.Ways.{AreInside, IsInside, way_by, ways_by}
 use Rattle.rng_ways.specs.declared.way.Way as numbered
 use Rattle.rng_ways.proofs.Kept.{each_both, each_first, each_second}
 use Rattle.rng_ways.proofs.Starts.{append_opens, opens_both, opens_first, opens_second}
-use Rattle.rng_matcher.specs.Numbers as numbers
-use Rattle.rng_matcher.specs.Numbers.{way_of}
+use Rattle.rng_matcher.specs.views.Numbers as numbers
+use Rattle.rng_matcher.specs.views.Numbers.{way_of}
 use Rattle.rng_matcher.specs.declared.derivatives.Way.{Way}
-use Rattle.rng_derivatives.specs.Starts.{IsWayInside, OpensLike, with_way}
+use Rattle.rng_derivatives.specs.views.Starts.{IsWayInside, OpensLike, with_way}
 
 -- ---- what nothing matches
 

@@ -1,26 +1,27 @@
 -- Elements of names that no element of the grammar tells apart are taken alike.
 use Rattle.std.proofs.Common.{◌≡◌, ◌∙◌, ℕ, List, [], ◌∷◌, ◌++◌, true, true≢false, Option, Some, None, refl, sym, ap, subst, slice_get}
-use Rattle.rng_model.specs.Document.{Attribute, Item, a_text, an_element, Items, list_of, Interleaves, AllTexts, Padded}
-use Rattle.rng_model.specs.Document as document
-use Rattle.rng_model.specs.Names.{Name, NameClass, In}
-use Rattle.rng_model.specs.Table.{Table}
-use Rattle.rng_model.specs.Texts.{is_blank}
-use Rattle.rng_model.specs.Tree.{Simple, s_leaf}
-use Rattle.rng_model.specs.View.{class_of}
+use Rattle.rng_model.specs.matching.Document.{Attribute, Item, a_text, an_element, Items, list_of, Interleaves, AllTexts, Padded}
+use Rattle.rng_model.specs.matching.Document as document
+use Rattle.rng_model.specs.names.Names.{Name, NameClass, In}
+use Rattle.rng_model.specs.simple.Table.{Table}
+use Rattle.rng_model.specs.datatypes.Texts.{is_blank}
+use Rattle.rng_model.specs.simple.Tree.{Simple, s_leaf}
+use Rattle.rng_model.specs.names.NameViews.{class_of}
 use Rattle.rng_model.specs.declared.name.NameClass as declared
 use Rattle.rng_model.specs.declared.simple.PatternId.{PatternId}
-use Rattle.rng_names.specs.Holding.{holds}
+use Rattle.rng_names.specs.plain.Holding.{holds}
 use Rattle.rng_names.proofs.Holding.{holds-Decides}
-use Rattle.rng_keys.specs.Keys.{Keys, KeysServe, key_of, name_at}
-use Rattle.rng_keys.specs.Keys as keyed
-use Rattle.rng_matching.specs.Derivatives as tree
-use Rattle.rng_matching.specs.LevelStates as level
-use Rattle.rng_matching.specs.LevelStates.{IsBodyNamed}
-use Rattle.rng_matching.specs.Reading.{Reading, body_of, has_name}
-use Rattle.rng_matching.specs.Taking.{Takes, WeaklyMatches}
-use Rattle.rng_matching.specs.Taking as t
-use Rattle.rng_matching.specs.Ways.{EachWay}
-use Rattle.rng_ways.specs.Kinds.{reading_of}
+use Rattle.rng_keys.specs.plain.Keys.{Keys, KeysServe, key_of, name_at}
+use Rattle.rng_keys.specs.plain.Keys as keyed
+use Rattle.rng_matching.specs.plain.Derivatives as tree
+use Rattle.rng_matching.specs.plain.LevelStates as level
+use Rattle.rng_matching.specs.plain.LevelStates.{IsBodyNamed}
+use Rattle.rng_model.specs.matching.Reading.{Reading}
+use Rattle.rng_matching.specs.plain.Reading.{body_of, has_name}
+use Rattle.rng_matching.specs.plain.Taking.{Takes, WeaklyMatches}
+use Rattle.rng_matching.specs.plain.Taking as t
+use Rattle.rng_matching.specs.plain.Ways.{EachWay}
+use Rattle.rng_model.specs.matching.GrammarReading.{reading_of}
 use Rattle.rng_ways.proofs.Rows.{class_there, no_class_there}
 
 module _ (g : Reading) where

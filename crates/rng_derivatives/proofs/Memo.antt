@@ -7,27 +7,27 @@ use Rattle.std.proofs.lemmas.Bool.Decides.{Decides-eqb}
 use Rattle.std.proofs.lemmas.List.Elements.{All-head, All-tail, All-weaker}
 use Rattle.std.specs.HashMap.{HashMap, get, IsEmpty, Updates}
 use Rattle.std.specs.Map.{lookup}
-use Rattle.rng_model.specs.Names.{Name}
-use Rattle.rng_model.specs.Table.{Table}
-use Rattle.rng_model.specs.Tree.{Simple}
-use Rattle.rng_keys.specs.Keys.{Keys, KeysServe, key_of, name_at}
-use Rattle.rng_matching.specs.LevelStates as level
-use Rattle.rng_matching.specs.Reading.{Reading}
-use Rattle.rng_patterns.specs.Node.{Node}
-use Rattle.rng_patterns.specs.PatternTable as nodes
-use Rattle.rng_patterns.specs.Trees.{trees}
+use Rattle.rng_model.specs.names.Names.{Name}
+use Rattle.rng_model.specs.simple.Table.{Table}
+use Rattle.rng_model.specs.simple.Tree.{Simple}
+use Rattle.rng_keys.specs.plain.Keys.{Keys, KeysServe, key_of, name_at}
+use Rattle.rng_matching.specs.plain.LevelStates as level
+use Rattle.rng_model.specs.matching.Reading.{Reading}
+use Rattle.rng_patterns.specs.views.Node.{Node}
+use Rattle.rng_patterns.specs.views.PatternTable as nodes
+use Rattle.rng_patterns.specs.views.Trees.{trees}
 use Rattle.rng_patterns.specs.declared.pattern.PatternNumber.{PatternNumber}
-use Rattle.rng_ways.specs.Kinds.{reading_of}
-use Rattle.rng_ways.specs.KnownWays.{AreAllKnown}
+use Rattle.rng_model.specs.matching.GrammarReading.{reading_of}
+use Rattle.rng_ways.specs.views.KnownWays.{AreAllKnown}
 use Rattle.rng_ways.specs.declared.known.Known.{Known}
-use Rattle.rng_matcher.specs.Numbers.{AddsStarts, IsInside, Longer, tree_of, way_of}
+use Rattle.rng_matcher.specs.views.Numbers.{AddsStarts, IsInside, Longer, tree_of, way_of}
 use Rattle.rng_matcher.specs.declared.derivatives.Way.{Way}
 use Rattle.rng_matcher.proofs.Numbers.{inside_stays, longer_same, tree_stays}
-use Rattle.rng_derivatives.specs.StartMemo.{AreAnswer, HasKept}
+use Rattle.rng_derivatives.specs.views.StartMemo.{AreAnswer, HasKept}
 use Rattle.rng_derivatives.specs.declared.start_memo.StartKey.{StartKey}
 use Rattle.rng_derivatives.specs.contracts.start_memo.StartKeyPartialEq.TheImpl as same
 use Rattle.rng_derivatives.proofs.LikeNames.{no_less, no_more, starts_alike}
-use Rattle.rng_derivatives.specs.Serving.{IsServedBy}
+use Rattle.rng_derivatives.specs.views.Serving.{IsServedBy}
 use Rattle.rng_derivatives.proofs.Served.{served_longer, trees_longer}
 
 -- ---- the map

@@ -3,22 +3,22 @@ use Rattle.std.proofs.Common.{◌≡◌, ◌∙◌, ℕ, zero, suc, ◌<◌, Lis
 use Rattle.std.proofs.Common.{refl, sym, ap, ap₂, subst, arith}
 use Rattle.std.specs.List.{AllZip}
 use Rattle.std.proofs.lemmas.List.Elements.{All-cons, All-head, All-nil, All-tail}
-use Rattle.rng_model.specs.Table.{Table, tree_at}
+use Rattle.rng_model.specs.simple.Table.{Table, tree_at}
 use Rattle.rng_model.specs.declared.simple.PatternId.{PatternId}
-use Rattle.rng_matching.specs.Restricted.{IsRestricted, IsRestrictedBody}
-use Rattle.rng_matching.specs.Taking.{Same}
-use Rattle.rng_patterns.specs.Node.{Node}
-use Rattle.rng_patterns.specs.Taking.{tree_by}
-use Rattle.rng_patterns.specs.Trees.{trees, tree_of}
+use Rattle.rng_matching.specs.plain.Restricted.{IsRestricted, IsRestrictedBody}
+use Rattle.rng_matching.specs.plain.Taking.{Same}
+use Rattle.rng_patterns.specs.views.Node.{Node}
+use Rattle.rng_patterns.specs.views.Taking.{tree_by}
+use Rattle.rng_patterns.specs.views.Trees.{trees, tree_of}
 use Rattle.rng_patterns.specs.declared.pattern.PatternNumber.{PatternNumber}
 use Rattle.rng_patterns.proofs.Trees.{length-trees}
-use Rattle.rng_ways.specs.Kinds.{Obeys}
+use Rattle.rng_ways.specs.plain.Kinds.{Obeys}
 use Rattle.rng_ways.proofs.Starts.{body_inside}
-use Rattle.rng_matcher.specs.Numbers as numbers
-use Rattle.rng_matcher.specs.Numbers.{AreRenewed, IsInside}
+use Rattle.rng_matcher.specs.views.Numbers as numbers
+use Rattle.rng_matcher.specs.views.Numbers.{AreRenewed, IsInside}
 use Rattle.rng_matcher.proofs.Renewal.{zip_split}
-use Rattle.rng_derivatives.specs.Renewal.{AreSameTrees, IsSameTree}
-use Rattle.rng_derivatives.specs.Serving.{IsServed}
+use Rattle.rng_derivatives.specs.views.Renewal.{AreSameTrees, IsSameTree}
+use Rattle.rng_derivatives.specs.views.Serving.{IsServed}
 
 -- both hold of what stands side by side
 pub zip_both : {A B : Type 0} (P : B → Type 0) (R : A → B → Type 0) (xs : List A) (ys : List B) → All P ys → AllZip R xs ys → AllZip (λ x y. P y × R x y) xs ys

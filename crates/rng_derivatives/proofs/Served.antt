@@ -3,44 +3,45 @@ use Rattle.std.proofs.Common.{◌≡◌, ◌∙◌, ◌↔◌, ℕ, ◌<◌, Lis
 use Rattle.std.proofs.Common.{slice_index_or}
 use Rattle.smallvec.specs.SmallVec.{SmallVec}
 use Rattle.std.specs.HashMap.{HashMap}
-use Rattle.rng_keys.specs.Keys.{Keys}
+use Rattle.rng_keys.specs.plain.Keys.{Keys}
 use Rattle.std.proofs.lemmas.List.{append-nil, append_assoc, get_or_default}
 use Rattle.std.proofs.lemmas.List.Elements.{All-weaker}
 use Rattle.std.proofs.lemmas.List.Sums.{fold-append}
-use Rattle.rng_model.specs.Document.{Attribute, Item}
-use Rattle.rng_model.specs.Names.{Name}
-use Rattle.rng_model.specs.Table.{IsTable, Table, grammar_of, tree_at}
-use Rattle.rng_model.specs.Tree.{Simple}
+use Rattle.rng_model.specs.matching.Document.{Attribute, Item}
+use Rattle.rng_model.specs.names.Names.{Name}
+use Rattle.rng_model.specs.simple.Table.{IsTable, Table, grammar_of, tree_at}
+use Rattle.rng_model.specs.simple.Tree.{Simple}
 use Rattle.rng_model.specs.declared.simple.PatternId.{PatternId}
-use Rattle.rng_matching.specs.Laws.{BreaksNone}
-use Rattle.rng_matching.specs.LevelStates.{IsAfterTag, IsAfterText}
-use Rattle.rng_matching.specs.Restricted.{IsRestricted, IsRestrictedBody}
-use Rattle.rng_matching.specs.Taking.{Same, Takes}
+use Rattle.rng_model.specs.restrictions.BreaksNone.{BreaksNone}
+use Rattle.rng_matching.specs.plain.LevelStates.{IsAfterTag, IsAfterText}
+use Rattle.rng_matching.specs.plain.Restricted.{IsRestricted, IsRestrictedBody}
+use Rattle.rng_matching.specs.plain.Taking.{Same, Takes}
 use Rattle.rng_matching.proofs.Restricted.{bodies_restricted, start_restricted}
-use Rattle.rng_patterns.specs.Choices.{SomeTakes}
-use Rattle.rng_patterns.specs.Kept.{AreRestrictedAlike}
-use Rattle.rng_patterns.specs.Node.{Node}
-use Rattle.rng_patterns.specs.PatternTable.{Longer}
-use Rattle.rng_patterns.specs.Taking.{AreTaken}
-use Rattle.rng_patterns.specs.Trees.{trees, tree_of, tree_over, tree_in, with_tree}
+use Rattle.rng_patterns.specs.views.Choices.{SomeTakes}
+use Rattle.rng_patterns.specs.plain.Kept.{AreRestrictedAlike}
+use Rattle.rng_patterns.specs.views.Node.{Node}
+use Rattle.rng_patterns.specs.views.PatternTable.{Longer}
+use Rattle.rng_patterns.specs.views.Taking.{AreTaken}
+use Rattle.rng_patterns.specs.views.Trees.{trees, tree_of, tree_over, tree_in, with_tree}
 use Rattle.rng_patterns.specs.declared.pattern.PatternNumber.{PatternNumber}
 use Rattle.rng_patterns.proofs.Trees.{length-trees, Longer-trans}
-use Rattle.rng_ways.specs.After.{IsLeftOfTag}
-use Rattle.rng_ways.specs.Kinds.{Obeys, reading_of}
-use Rattle.rng_ways.specs.Starting as starting
-use Rattle.rng_ways.specs.Ways.{ways_by}
+use Rattle.rng_ways.specs.plain.After.{IsLeftOfTag}
+use Rattle.rng_ways.specs.plain.Kinds.{Obeys}
+use Rattle.rng_model.specs.matching.GrammarReading.{reading_of}
+use Rattle.rng_ways.specs.plain.Starting as starting
+use Rattle.rng_ways.specs.plain.Ways.{ways_by}
 use Rattle.rng_ways.specs.declared.known.Known.{Known}
 use Rattle.rng_ways.specs.declared.way.Place.{Place}
 use Rattle.rng_ways.specs.declared.way.Place.TheVariants as places
 use Rattle.rng_ways.specs.declared.way.Way as numbered
 use Rattle.rng_ways.proofs.Rows.{body_there}
 use Rattle.rng_ways.proofs.Starts.{bodies_longer, body_inside, ready_longer}
-use Rattle.rng_matcher.specs.Numbers as numbers
-use Rattle.rng_matcher.specs.Numbers.{Adds, AddsStarts, IsChoiceOf, IsInside}
+use Rattle.rng_matcher.specs.views.Numbers as numbers
+use Rattle.rng_matcher.specs.views.Numbers.{Adds, AddsStarts, IsChoiceOf, IsInside}
 use Rattle.rng_matcher.specs.declared.derivatives.Way.{Way}
 use Rattle.rng_derivatives.specs.declared.start_memo.StartKey.{StartKey}
-use Rattle.rng_derivatives.specs.Serving.{IsServed, IsServedBy, nodes_unless}
-use Rattle.rng_derivatives.specs.Starts.{OpensLike}
+use Rattle.rng_derivatives.specs.views.Serving.{IsServed, IsServedBy, nodes_unless}
+use Rattle.rng_derivatives.specs.views.Starts.{OpensLike}
 use Rattle.rng_derivatives.proofs.Joining.{starts_are, starts_inside}
 
 -- ---- a table that grows

@@ -1,4 +1,1 @@
-pub mod Serving
-pub mod Starts
-pub mod StartMemo
-pub mod Renewal
+pub mod views

@@ -1,11 +1,11 @@
 // What is left of the patterns of a grammar.
 ghost use Rattle.std.specs.Prelude.{◌≡◌, IfOk};
-ghost use Rattle.rng_model.specs.Table.{grammar_of, tree_at};
-ghost use Rattle.rng_matching.specs.Laws.{BreaksNone};
-ghost use Rattle.rng_matching.specs.Taking.{Same};
-ghost use Rattle.rng_matcher.specs.Numbers.{IsInside, tree_of};
-ghost use Rattle.rng_patterns.specs.Trees.{trees};
-ghost use Rattle.rng_ways.specs.Kinds.{reading_of};
+ghost use Rattle.rng_model.specs.simple.Table.{grammar_of, tree_at};
+ghost use Rattle.rng_model.specs.restrictions.BreaksNone.{BreaksNone};
+ghost use Rattle.rng_matching.specs.plain.Taking.{Same};
+ghost use Rattle.rng_matcher.specs.views.Numbers.{IsInside, tree_of};
+ghost use Rattle.rng_patterns.specs.views.Trees.{trees};
+ghost use Rattle.rng_model.specs.matching.GrammarReading.{reading_of};
 
 use crate::renewing::{Selection, count_start, limit_beside, renewed};
 use crate::start_memo::{StartKey, StartMemo, copied, keep, kept};
@@ -45,9 +45,9 @@ pub struct GrammarDerivatives<'a> {
 
 impl<'a> Model for GrammarDerivatives<'a> {
     ghost use Rattle.std.specs.Prelude.{List};
-    ghost use Rattle.rng_model.specs.Table.{Table};
-    ghost use Rattle.rng_patterns.specs.Node.{Node};
-    ghost use Rattle.rng_derivatives.specs.Serving.{IsServedBy, nodes_unless};
+    ghost use Rattle.rng_model.specs.simple.Table.{Table};
+    ghost use Rattle.rng_patterns.specs.views.Node.{Node};
+    ghost use Rattle.rng_derivatives.specs.views.Serving.{IsServedBy, nodes_unless};
 
     ghost Value = { Table × List Node };
 

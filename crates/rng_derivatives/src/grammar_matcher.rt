@@ -1,10 +1,10 @@
 // The matcher of a grammar.
 ghost use Rattle.std.specs.Prelude.{◌≡◌, [], IfOk};
-ghost use Rattle.rng_model.specs.Table.{grammar_of};
-ghost use Rattle.rng_matching.specs.Laws.{BreaksNone};
-ghost use Rattle.rng_matcher.specs.Positions.{IsKnown};
-ghost use Rattle.rng_patterns.specs.Trees.{trees};
-ghost use Rattle.rng_ways.specs.Kinds.{reading_of};
+ghost use Rattle.rng_model.specs.simple.Table.{grammar_of};
+ghost use Rattle.rng_model.specs.restrictions.BreaksNone.{BreaksNone};
+ghost use Rattle.rng_matcher.specs.views.Positions.{IsKnown};
+ghost use Rattle.rng_patterns.specs.views.Trees.{trees};
+ghost use Rattle.rng_model.specs.matching.GrammarReading.{reading_of};
 
 use crate::grammar_derivatives::GrammarDerivatives;
 use rng_matcher::Matcher;

@@ -1,10 +1,10 @@
 // Patterns that nobody holds are let go.
 ghost use Rattle.std.specs.Prelude.{◌≡◌, ◌<◌, ◌++◌, All, IfOk, List, OnOk, length};
-ghost use Rattle.rng_keys.specs.Keys.{Keys};
-ghost use Rattle.rng_model.specs.Table.{Table};
-ghost use Rattle.rng_patterns.specs.Node.{Node};
-ghost use Rattle.rng_ways.specs.KnownWays.{AreAllKnown};
-ghost use Rattle.rng_derivatives.specs.Renewal.{AreSameTrees};
+ghost use Rattle.rng_keys.specs.plain.Keys.{Keys};
+ghost use Rattle.rng_model.specs.simple.Table.{Table};
+ghost use Rattle.rng_patterns.specs.views.Node.{Node};
+ghost use Rattle.rng_ways.specs.views.KnownWays.{AreAllKnown};
+ghost use Rattle.rng_derivatives.specs.views.Renewal.{AreSameTrees};
 
 use rng_model::OutOfMemory;
 use rng_patterns::{PatternNumber, PatternTable};

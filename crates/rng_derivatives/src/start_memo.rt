@@ -1,7 +1,7 @@
 // The ways of starts that are kept from one event to the next.
 ghost use Rattle.std.specs.Prelude.{◌≡◌, ◌⊎◌, IfOk, IfSome, List, OnOk};
 ghost use Rattle.rng_matcher.specs.declared.derivatives.Way.{Way};
-ghost use Rattle.rng_derivatives.specs.StartMemo.{HasKept};
+ghost use Rattle.rng_derivatives.specs.views.StartMemo.{HasKept};
 ghost use Rattle.rng_derivatives.specs.declared.start_memo.StartKey.{StartKey};
 
 use rng_keys::NameKey;

@@ -1,12 +1,12 @@
 // The ways of a start that something may match.
 ghost use Rattle.std.specs.Prelude.{◌≡◌, ◌||◌, ◌<◌, All, IfOk, IfNone, IfSome, OnOk, Some, length, slice_get};
-ghost use Rattle.rng_model.specs.Table.{Table};
+ghost use Rattle.rng_model.specs.simple.Table.{Table};
 ghost use Rattle.rng_matcher.specs.declared.derivatives.Way.{Way};
-ghost use Rattle.rng_matching.specs.Derivatives.{is_not_allowed};
-ghost use Rattle.rng_patterns.specs.PatternTable.{Longer};
-ghost use Rattle.rng_patterns.specs.Trees.{tree_of};
-ghost use Rattle.rng_ways.specs.Ways.{AreInside, IsInside, IsTakenOut, ways_by};
-ghost use Rattle.rng_derivatives.specs.Starts.{IsWayInside, OpensLike, with_way};
+ghost use Rattle.rng_matching.specs.plain.Derivatives.{is_not_allowed};
+ghost use Rattle.rng_patterns.specs.views.PatternTable.{Longer};
+ghost use Rattle.rng_patterns.specs.views.Trees.{tree_of};
+ghost use Rattle.rng_ways.specs.plain.Ways.{AreInside, IsInside, IsTakenOut, ways_by};
+ghost use Rattle.rng_derivatives.specs.views.Starts.{IsWayInside, OpensLike, with_way};
 
 use rng_matcher::{Way, Ways};
 use rng_model::OutOfMemory;

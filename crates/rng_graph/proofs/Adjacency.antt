@@ -1,11 +1,11 @@
 -- A graph whose mentions are listed: an order and a loop by the lists are an order and a loop of the graph.
 use Rattle.std.proofs.Common.{◌↔◌, ℕ, ◌<◌, List, length, All, Contains}
-use Rattle.rng_model.specs.Schema.{Schema, Definition}
-use Rattle.rng_model.specs.Unfolding.{Leaf}
-use Rattle.rng_graph.specs.Expansion.{KeepsExpansion}
-use Rattle.rng_model.specs.SchemaClauses.{BreaksExpansion}
-use Rattle.rng_graph.specs.Graph.{Graph, IsGraphOf, Mentions, IsOrderBy, no_numbers, and_number, LeadsBy, by_one, by_more}
-use Rattle.rng_graph.specs.Search.{Lists}
+use Rattle.rng_model.specs.schema.Schema.{Schema, Definition}
+use Rattle.rng_model.specs.schema.Unfolding.{Leaf}
+use Rattle.rng_graph.specs.plain.Expansion.{KeepsExpansion}
+use Rattle.rng_model.specs.schema.SchemaClauses.{BreaksExpansion}
+use Rattle.rng_graph.specs.plain.Graph.{Graph, IsGraphOf, Mentions, IsOrderBy, no_numbers, and_number, LeadsBy, by_one, by_more}
+use Rattle.rng_graph.specs.plain.Search.{Lists}
 use Rattle.rng_graph.proofs.Judged.{loop_breaks_expansion, order_keeps_expansion}
 
 module _ {A : Type 0} (M N : A → A → Type 0) (f : (x y : A) → N x y → M x y) where

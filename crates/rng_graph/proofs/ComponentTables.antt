@@ -11,16 +11,16 @@ use Rattle.std.proofs.lemmas.List.{get_or-map, get_or-set_same, get_or-set_other
 use Rattle.std.proofs.lemmas.List.Elements.{filter-append, Contains-append_right}
 use Rattle.std.proofs.lemmas.Option.{slice_get_within}
 use Rattle.std.proofs.lemmas.Slice.Eq.{bytes_eq-Decides}
-use Rattle.rng_model.specs.Lists.{Among, here, there, HasTwice, at_first, later}
-use Rattle.rng_model.specs.Patterns.{Place}
-use Rattle.rng_model.specs.Schema.{Schema, Component, Definition, same_name}
-use Rattle.rng_model.specs.SchemaView.{schema_component_of}
+use Rattle.rng_model.specs.names.Lists.{Among, here, there, HasTwice, at_first, later}
+use Rattle.rng_model.specs.schema.Patterns.{Place}
+use Rattle.rng_model.specs.schema.Schema.{Schema, Component, Definition, same_name}
+use Rattle.rng_model.specs.views.SchemaView.{schema_component_of}
 use Rattle.rng_model.specs.declared.component.Component as code
 use Rattle.rng_model.proofs.Unfolding.{some_is}
-use Rattle.rng_load.specs.SchemaPlaces.{AreItsPlaces}
-use Rattle.rng_graph.specs.ComponentTable.{Table, components_of, IsTable, is_of, those_at, given, components_at, those_among, schema_components}
-use Rattle.rng_graph.specs.Graph.{same_definition, number_of}
-use Rattle.rng_graph.specs.Resolving.{with_definition}
+use Rattle.rng_load.specs.plain.SchemaPlaces.{AreItsPlaces}
+use Rattle.rng_graph.specs.views.ComponentTable.{Table, components_of, IsTable, is_of, those_at, given, components_at, those_among, schema_components}
+use Rattle.rng_graph.specs.plain.Graph.{same_definition, number_of}
+use Rattle.rng_graph.specs.plain.Resolving.{with_definition}
 use Rattle.rng_graph.proofs.GraphTables.{definition_same}
 use Rattle.rng_graph.proofs.Graphs.{found_contained}
 use Rattle.rng_graph.proofs.Resolves.{IsAsked, is_there, is_new, asked, definition_is, asked_for}

@@ -6,11 +6,11 @@ use Rattle.std.specs.List.{list_any, position_or_len}
 use Rattle.std.specs.Option.{option_eq}
 use Rattle.std.specs.Str.{bytes_eq}
 use Rattle.indexmap.specs.IndexSet.{insert_key}
-use Rattle.rng_model.specs.Schema.{same_name}
+use Rattle.rng_model.specs.schema.Schema.{same_name}
 use Rattle.rng_model.proofs.SamePlaces.{compares_numbers}
-use Rattle.rng_graph.specs.Definitions.{definition_of}
-use Rattle.rng_graph.specs.Graph.{same_definition, number_of}
-use Rattle.rng_graph.specs.Resolving.{with_definition}
+use Rattle.rng_graph.specs.views.Definitions.{definition_of}
+use Rattle.rng_graph.specs.plain.Graph.{same_definition, number_of}
+use Rattle.rng_graph.specs.plain.Resolving.{with_definition}
 use Rattle.rng_graph.specs.declared.definitions.Definition.{Definition}
 use Rattle.rng_graph.specs.contracts.definitions.DefinitionPartialEq.TheImpl as same
 

@@ -1,15 +1,15 @@
 -- The depth of a pattern, given those of its points, is that of its tree.
 use Rattle.std.proofs.Common.{◌≡◌, refl, ℕ, arith}
-use Rattle.rng_model.specs.Tree.{Connector, Tree, leaf, Trees, Simple, s_joined}
-use Rattle.rng_graph.specs.InTwos.{in_twos, more_in_twos}
-use Rattle.rng_model.specs.Depth.{depth}
-use Rattle.rng_model.specs.Patterns.{Place, Point}
-use Rattle.rng_model.specs.Schema.{Schema}
-use Rattle.rng_model.specs.Leaves.{LeafIn, LeafAmong}
-use Rattle.rng_model.specs.Leaves as at
-use Rattle.rng_model.specs.Unfolding.{Leaf, Unfolds, UnfoldAll}
-use Rattle.rng_model.specs.Unfolding as u
-use Rattle.rng_graph.specs.DepthWith.{cut_off, depth_with, deeper_with, tree_depth}
+use Rattle.rng_model.specs.simple.Tree.{Connector, Tree, leaf, Trees, Simple, s_joined}
+use Rattle.rng_graph.specs.plain.InTwos.{in_twos, more_in_twos}
+use Rattle.rng_model.specs.schema.Depth.{depth}
+use Rattle.rng_model.specs.schema.Patterns.{Place, Point}
+use Rattle.rng_model.specs.schema.Schema.{Schema}
+use Rattle.rng_model.specs.simple.Leaves.{LeafIn, LeafAmong}
+use Rattle.rng_model.specs.simple.Leaves as at
+use Rattle.rng_model.specs.schema.Unfolding.{Leaf, Unfolds, UnfoldAll}
+use Rattle.rng_model.specs.schema.Unfolding as u
+use Rattle.rng_graph.specs.plain.DepthWith.{cut_off, depth_with, deeper_with, tree_depth}
 
 module _ (s : Schema) (g : Point → ℕ) where
   abbrev AreRight : Place → ((l : Point) → Type 0) → Type 0

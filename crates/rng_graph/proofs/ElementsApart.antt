@@ -7,15 +7,15 @@ use Rattle.std.proofs.lemmas.List.{append-nil}
 use Rattle.std.proofs.lemmas.List.Elements.{Contains-append_cases, Contains-append_right, Contains-push_cases}
 use Rattle.std.proofs.lemmas.Option.{slice_get_within}
 use Rattle.std.proofs.lemmas.Slice.Eq.{bytes_eq-Decides}
-use Rattle.rng_model.specs.Names.{NameClass}
-use Rattle.rng_model.specs.Patterns.{Place, Position, Pattern, Patterns, no_patterns, pattern_and}
-use Rattle.rng_model.specs.Patterns as pattern
-use Rattle.rng_model.specs.Schema.{Schema, Component, Definition, same_name}
-use Rattle.rng_model.specs.Unfolding.{Leaf}
+use Rattle.rng_model.specs.names.Names.{NameClass}
+use Rattle.rng_model.specs.schema.Patterns.{Place, Position, Pattern, Patterns, no_patterns, pattern_and}
+use Rattle.rng_model.specs.schema.Patterns as pattern
+use Rattle.rng_model.specs.schema.Schema.{Schema, Component, Definition, same_name}
+use Rattle.rng_model.specs.schema.Unfolding.{Leaf}
 use Rattle.rng_model.proofs.Unfolding.{some_is}
-use Rattle.rng_graph.specs.ComponentTable.{components_at}
-use Rattle.rng_graph.specs.Graph.{AreApart, same_definition, same_leaf}
-use Rattle.rng_graph.specs.ResolvedElements.{with_elements, with_all_elements, with_named_elements, with_elements_of, elements_of}
+use Rattle.rng_graph.specs.views.ComponentTable.{components_at}
+use Rattle.rng_graph.specs.plain.Graph.{AreApart, same_definition, same_leaf}
+use Rattle.rng_graph.specs.plain.ResolvedElements.{with_elements, with_all_elements, with_named_elements, with_elements_of, elements_of}
 use Rattle.rng_graph.proofs.Graphs.{contains_found, found_contained}
 use Rattle.rng_graph.proofs.Resolves.{none_there}
 

@@ -1,16 +1,16 @@
 -- What a sort of the definitions and a list of their depths say of the schemas of a graph.
 use Rattle.std.proofs.Common.{◌≡◌, ◌↔◌, ap, sym, ◌∙◌, subst, ℕ, ◌<◌, List, length, map, All, Contains, Vec, Global, arith}
 use Rattle.std.proofs.lemmas.List.{length-map}
-use Rattle.rng_model.specs.Schema.{Schema}
-use Rattle.rng_model.specs.SchemaClauses.{BreaksExpansion, BreaksDepth}
-use Rattle.rng_model.specs.SchemaClauses as clauses
+use Rattle.rng_model.specs.schema.Schema.{Schema}
+use Rattle.rng_model.specs.schema.SchemaClauses.{BreaksExpansion, BreaksDepth}
+use Rattle.rng_model.specs.schema.SchemaClauses as clauses
 use Rattle.rng_graph.specs.declared.graph.Graph as declared
-use Rattle.rng_graph.specs.Expansion.{KeepsExpansion}
-use Rattle.rng_graph.specs.ExpansionOrder.{IsGraphOfSchema, IsGraphOfSome, IsWholeOrder}
-use Rattle.rng_graph.specs.Graph.{Mentions, IsOrderBy, LeadsBy, spot_depth, IsFilledBy, IsDeepBy}
-use Rattle.rng_graph.specs.GraphView.{graph_of, classes_of}
-use Rattle.rng_graph.specs.Mentioned.{mentioned}
-use Rattle.rng_graph.specs.Search.{Lists, AreMentionsBelow, IsAnswer}
+use Rattle.rng_graph.specs.plain.Expansion.{KeepsExpansion}
+use Rattle.rng_graph.specs.views.ExpansionOrder.{IsGraphOfSchema, IsGraphOfSome, IsWholeOrder}
+use Rattle.rng_graph.specs.plain.Graph.{Mentions, IsOrderBy, LeadsBy, spot_depth, IsFilledBy, IsDeepBy}
+use Rattle.rng_graph.specs.views.GraphView.{graph_of, classes_of}
+use Rattle.rng_graph.specs.plain.Mentioned.{mentioned}
+use Rattle.rng_graph.specs.plain.Search.{Lists, AreMentionsBelow, IsAnswer}
 use Rattle.rng_graph.specs.declared.order.Sorted.{Sorted}
 use Rattle.rng_graph.specs.declared.order.Sorted.TheVariants as sorted
 use Rattle.rng_graph.proofs.Adjacency.{order_by, leads_by}

@@ -1,14 +1,14 @@
 -- A table that is filled in an order in which each definition comes after those that it mentions is right throughout.
 use Rattle.std.proofs.Common.{◌≡◌, ap, ◌∙◌, sym, subst, ◌⊎◌, inl, inr, List, Contains}
 use Rattle.std.proofs.lemmas.List.Elements.{Contains-push, Contains-push_cases, Contains-append_left}
-use Rattle.rng_model.specs.Tree.{Tree, leaf}
-use Rattle.rng_model.specs.Patterns.{Place, Point}
-use Rattle.rng_model.specs.Schema.{Schema, Definition}
-use Rattle.rng_model.specs.Leaves.{LeafIn}
-use Rattle.rng_model.specs.Unfolding.{Leaf, Aim, to_element, to_definition, to_nothing, aim, Unfolds, IsTreeOf}
-use Rattle.rng_model.specs.Unfolding as u
-use Rattle.rng_graph.specs.Met.{IsSettled, IsOrder, none_yet, and_then}
-use Rattle.rng_graph.specs.DepthWith.{of_aim, IsFilled, IsRight}
+use Rattle.rng_model.specs.simple.Tree.{Tree, leaf}
+use Rattle.rng_model.specs.schema.Patterns.{Place, Point}
+use Rattle.rng_model.specs.schema.Schema.{Schema, Definition}
+use Rattle.rng_model.specs.simple.Leaves.{LeafIn}
+use Rattle.rng_model.specs.schema.Unfolding.{Leaf, Aim, to_element, to_definition, to_nothing, aim, Unfolds, IsTreeOf}
+use Rattle.rng_model.specs.schema.Unfolding as u
+use Rattle.rng_graph.specs.plain.Met.{IsSettled, IsOrder, none_yet, and_then}
+use Rattle.rng_graph.specs.plain.DepthWith.{of_aim, IsFilled, IsRight}
 use Rattle.rng_model.proofs.Unfolding.{some_is}
 use Rattle.rng_graph.proofs.Loops.{no_more}
 

@@ -4,14 +4,14 @@ use Rattle.std.proofs.Common.{Some, arith}
 use Rattle.std.proofs.lemmas.Bool.{cases_lt}
 use Rattle.std.proofs.lemmas.List.{length-map, take_more, get_or-set_same, get_or-set_other}
 use Rattle.std.proofs.lemmas.Option.{slice_get-get_or, slice_get_within, get_or_from_slice_get}
-use Rattle.rng_model.specs.Tree.{Tree}
-use Rattle.rng_model.specs.Depth.{class_depth, depth_limit}
-use Rattle.rng_graph.specs.InTwos.{nested}
-use Rattle.rng_model.specs.View.{class_of}
+use Rattle.rng_model.specs.simple.Tree.{Tree}
+use Rattle.rng_model.specs.schema.Depth.{class_depth, depth_limit}
+use Rattle.rng_graph.specs.plain.InTwos.{nested}
+use Rattle.rng_model.specs.names.NameViews.{class_of}
 use Rattle.rng_model.proofs.Unfolding.{some_is}
-use Rattle.rng_graph.specs.Graph.{Spot, Graph, Mentions, IsOrderBy, IsFilledBy, spot_depth, IsDeepBy, start_is_deep, body_is_deep, class_is_deep}
-use Rattle.rng_graph.specs.GraphView.{graph_pattern_of, graph_of, classes_of}
-use Rattle.rng_graph.specs.MemberDepths.{depth_in, IsDeepElement}
+use Rattle.rng_graph.specs.plain.Graph.{Spot, Graph, Mentions, IsOrderBy, IsFilledBy, spot_depth, IsDeepBy, start_is_deep, body_is_deep, class_is_deep}
+use Rattle.rng_graph.specs.views.GraphView.{graph_pattern_of, graph_of, classes_of}
+use Rattle.rng_graph.specs.plain.MemberDepths.{depth_in, IsDeepElement}
 use Rattle.rng_graph.specs.declared.graph.Graph as declared
 use Rattle.rng_graph.specs.declared.graph.GraphElement.{GraphElement}
 use Rattle.rng_graph.proofs.Filling.{depth_reads, filled_more}

@@ -2,10 +2,10 @@
 use Rattle.std.proofs.Common.{◌≡◌, inl, inr, refl, ap, sym, ◌∙◌, subst, ℕ, List, [], ◌∷◌, ◌++◌, slice_get, Some, Contains}
 use Rattle.std.proofs.lemmas.Bool.{cases_eq}
 use Rattle.std.proofs.lemmas.List.Elements.{Contains-append_left, Contains-push_cases}
-use Rattle.rng_model.specs.Tree.{Tree}
-use Rattle.rng_model.specs.Leaves.{LeafIn}
-use Rattle.rng_graph.specs.Graph.{Spot, at_element, at_definition, Graph, Mentions, IsOrderBy, no_numbers, and_number, of_spot, spot_depth}
-use Rattle.rng_graph.specs.Graph.{IsFilledBy}
+use Rattle.rng_model.specs.simple.Tree.{Tree}
+use Rattle.rng_model.specs.simple.Leaves.{LeafIn}
+use Rattle.rng_graph.specs.plain.Graph.{Spot, at_element, at_definition, Graph, Mentions, IsOrderBy, no_numbers, and_number, of_spot, spot_depth}
+use Rattle.rng_graph.specs.plain.Graph.{IsFilledBy}
 use Rattle.rng_model.proofs.Unfolding.{some_is}
 use Rattle.rng_graph.proofs.Loops.{no_more}
 use Rattle.rng_graph.proofs.RenamedLeaves.{depth_same}

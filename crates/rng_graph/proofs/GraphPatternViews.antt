@@ -1,7 +1,7 @@
 -- Patterns of a graph as they are seen: lists of members.
 use Rattle.std.proofs.Common.{◌≡◌, map, rules, Vec, Global}
-use Rattle.rng_model.specs.Tree.{group, choice, interleave}
-use Rattle.rng_graph.specs.GraphView.{graph_pattern_of, members}
+use Rattle.rng_model.specs.simple.Tree.{group, choice, interleave}
+use Rattle.rng_graph.specs.views.GraphView.{graph_pattern_of, members}
 use Rattle.rng_graph.specs.declared.graph.GraphPattern.{GraphPattern, the_lemmas}
 use Rattle.rng_graph.specs.declared.graph.GraphPattern.TheVariants as patterns
 

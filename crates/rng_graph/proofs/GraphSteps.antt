@@ -6,19 +6,19 @@ use Rattle.std.proofs.lemmas.List.{take_all, take_more, take-append-le, length-m
 use Rattle.std.proofs.lemmas.List.Elements.{Contains-push_cases}
 use Rattle.std.proofs.lemmas.List.Sums.{fold_push}
 use Rattle.std.proofs.lemmas.Option.{slice_get_within, get_or_from_slice_get}
-use Rattle.rng_model.specs.Lists.{Among, here, there, HasTwice, at_first, later}
-use Rattle.rng_model.specs.Tree.{Tree}
-use Rattle.rng_model.specs.Patterns.{Point, pattern_tree}
-use Rattle.rng_model.specs.Schema.{Schema, Component, Definition, main_start, body, body_among, connector_of, nested, same_name, trees_named}
-use Rattle.rng_model.specs.Unfolding.{Leaf, content_of, to_definition}
+use Rattle.rng_model.specs.names.Lists.{Among, here, there, HasTwice, at_first, later}
+use Rattle.rng_model.specs.simple.Tree.{Tree}
+use Rattle.rng_model.specs.schema.Patterns.{Point, pattern_tree}
+use Rattle.rng_model.specs.schema.Schema.{Schema, Component, Definition, main_start, body, body_among, connector_of, nested, same_name, trees_named}
+use Rattle.rng_model.specs.schema.Unfolding.{Leaf, content_of, to_definition}
 use Rattle.rng_model.proofs.Unfolding.{some_is}
-use Rattle.rng_graph.specs.ComponentTable.{given, IsTable, Table, components_of, schema_components}
-use Rattle.rng_graph.specs.Graph.{Spot, IsResolved, IsGraphOf, AreApart, same_definition, same_leaf, number_of}
-use Rattle.rng_graph.specs.Met.{met_start}
-use Rattle.rng_graph.specs.ReadySchema.{IsReady}
-use Rattle.rng_graph.specs.ResolvedElements.{elements_of, with_elements_of}
-use Rattle.rng_graph.specs.ResolvedBody.{resolved_body}
-use Rattle.rng_graph.specs.Resolving.{Numbering}
+use Rattle.rng_graph.specs.views.ComponentTable.{given, IsTable, Table, components_of, schema_components}
+use Rattle.rng_graph.specs.plain.Graph.{Spot, IsResolved, IsGraphOf, AreApart, same_definition, same_leaf, number_of}
+use Rattle.rng_graph.specs.plain.Met.{met_start}
+use Rattle.rng_graph.specs.plain.ReadySchema.{IsReady}
+use Rattle.rng_graph.specs.plain.ResolvedElements.{elements_of, with_elements_of}
+use Rattle.rng_graph.specs.plain.ResolvedBody.{resolved_body}
+use Rattle.rng_graph.specs.plain.Resolving.{Numbering}
 use Rattle.rng_load.proofs.NameLists.{in_at, no_more}
 use Rattle.rng_graph.proofs.GraphTables.{definition_same}
 use Rattle.rng_graph.proofs.Graphs.{contains_found, found}

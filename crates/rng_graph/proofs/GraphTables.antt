@@ -6,16 +6,16 @@ use Rattle.std.proofs.lemmas.List.Elements.{All-contains, Contains-append_left, 
 use Rattle.std.proofs.lemmas.List.Elements.{Contains-push_cases, Contains-get_or}
 use Rattle.std.proofs.lemmas.Option.{slice_get_within, get_or_from_slice_get}
 use Rattle.std.proofs.lemmas.Slice.Eq.{bytes_eq-Decides}
-use Rattle.rng_model.specs.Tree.{Tree}
-use Rattle.rng_model.specs.Patterns.{Place, Point}
-use Rattle.rng_model.specs.Schema.{Schema, Definition, body, same_name}
-use Rattle.rng_model.specs.Leaves.{LeafIn}
-use Rattle.rng_model.specs.Unfolding.{Leaf, Aim, to_definition, aim}
-use Rattle.rng_graph.specs.Met.{IsSettled, IsOrder, none_yet, and_then, Leads, directly, further}
-use Rattle.rng_graph.specs.DepthWith.{depth_with, of_aim, depth_at, IsFilled}
-use Rattle.rng_graph.specs.Graph.{Spot, at_element, at_definition, Graph, element_aim, definition_aim, aim_at, IsSpotBelow, IsResolved, same_definition}
-use Rattle.rng_graph.specs.Graph.{same_leaf, AreApart, IsGraphOf, Mentions, IsOrderBy, no_numbers, and_number, LeadsBy, by_one, by_more, of_spot, spot_depth}
-use Rattle.rng_graph.specs.Graph.{IsFilledBy, first_with, no_definition, definition_at, number_of, leaf_number}
+use Rattle.rng_model.specs.simple.Tree.{Tree}
+use Rattle.rng_model.specs.schema.Patterns.{Place, Point}
+use Rattle.rng_model.specs.schema.Schema.{Schema, Definition, body, same_name}
+use Rattle.rng_model.specs.simple.Leaves.{LeafIn}
+use Rattle.rng_model.specs.schema.Unfolding.{Leaf, Aim, to_definition, aim}
+use Rattle.rng_graph.specs.plain.Met.{IsSettled, IsOrder, none_yet, and_then, Leads, directly, further}
+use Rattle.rng_graph.specs.plain.DepthWith.{depth_with, of_aim, depth_at, IsFilled}
+use Rattle.rng_graph.specs.plain.Graph.{Spot, at_element, at_definition, Graph, element_aim, definition_aim, aim_at, IsSpotBelow, IsResolved, same_definition}
+use Rattle.rng_graph.specs.plain.Graph.{same_leaf, AreApart, IsGraphOf, Mentions, IsOrderBy, no_numbers, and_number, LeadsBy, by_one, by_more, of_spot, spot_depth}
+use Rattle.rng_graph.specs.plain.Graph.{IsFilledBy, first_with, no_definition, definition_at, number_of, leaf_number}
 use Rattle.rng_model.proofs.Unfolding.{some_is}
 use Rattle.rng_graph.proofs.Loops.{no_more}
 use Rattle.rng_graph.proofs.RenamedLeaves.{depth_same}

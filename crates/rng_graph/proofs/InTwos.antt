@@ -1,16 +1,16 @@
 -- The rules of 4.12 to 4.15 lead each tree to itself in twos, and to no other.
 use Rattle.std.proofs.Common.{◌≡◌, ◌↔◌, subst, refl, ap, ◌∙◌, sym}
-use Rattle.rng_model.specs.Names.{NameClass}
-use Rattle.rng_model.specs.Tree.{Datatype, Connector, choice, interleave}
-use Rattle.rng_model.specs.Tree.{Tree, not_allowed, empty, text, leaf, attribute, list, data_of, data_except, value, mixed, optional, zero_or_more, one_or_more}
-use Rattle.rng_model.specs.Tree.{joined, Trees, no_trees, tree_and}
-use Rattle.rng_model.specs.Tree.{Simple, s_not_allowed, s_empty, s_text, s_leaf, s_attribute, s_list, s_data, s_data_except, s_value, s_one_or_more, s_joined}
-use Rattle.rng_model.specs.Tree.{as_tree}
-use Rattle.rng_model.specs.ClassSteps.{ClassStep, ClassSteps}
-use Rattle.rng_model.specs.ClassSteps as classes
-use Rattle.rng_model.specs.Simplification.{rewriting, Step, StepAmong, Steps, IsRewritten}
-use Rattle.rng_model.specs.Simplification as step
-use Rattle.rng_graph.specs.InTwos.{nested, in_twos, more_in_twos}
+use Rattle.rng_model.specs.names.Names.{NameClass}
+use Rattle.rng_model.specs.simple.Tree.{Datatype, Connector, choice, interleave}
+use Rattle.rng_model.specs.simple.Tree.{Tree, not_allowed, empty, text, leaf, attribute, list, data_of, data_except, value, mixed, optional, zero_or_more, one_or_more}
+use Rattle.rng_model.specs.simple.Tree.{joined, Trees, no_trees, tree_and}
+use Rattle.rng_model.specs.simple.Tree.{Simple, s_not_allowed, s_empty, s_text, s_leaf, s_attribute, s_list, s_data, s_data_except, s_value, s_one_or_more, s_joined}
+use Rattle.rng_model.specs.simple.Tree.{as_tree}
+use Rattle.rng_model.specs.simple.ClassSteps.{ClassStep, ClassSteps}
+use Rattle.rng_model.specs.simple.ClassSteps as classes
+use Rattle.rng_model.specs.simple.Simplification.{rewriting, Step, StepAmong, Steps, IsRewritten}
+use Rattle.rng_model.specs.simple.Simplification as step
+use Rattle.rng_graph.specs.plain.InTwos.{nested, in_twos, more_in_twos}
 use Rattle.rng_graph.proofs.SimpleClass.{class_keeps, class_unchanged, class_normal, class_reached}
 
 module _ {L : Type 0} where

@@ -2,22 +2,22 @@
 use Rattle.std.proofs.Common.{◌≡◌, ◌↔◌, sym, subst, ℕ, ◌<◌, List, length, map, slice_get, Some, Contains, All, arith}
 use Rattle.std.proofs.lemmas.Option.{slice_get_within, get_or_from_slice_get}
 use Rattle.std.proofs.lemmas.List.{length-map}
-use Rattle.rng_model.specs.Names.{NameClass}
-use Rattle.rng_model.specs.Schema.{Schema, Definition, main_start}
-use Rattle.rng_model.specs.Unfolding.{Leaf, Aim, to_element, to_definition, to_nothing}
-use Rattle.rng_graph.specs.Expansion.{KeepsExpansion}
-use Rattle.rng_model.specs.SchemaClauses.{BreaksExpansion, BreaksDepth}
-use Rattle.rng_graph.specs.Met.{IsSettled, IsOrder}
-use Rattle.rng_graph.specs.DepthWith.{depth_at, IsFilled, IsFoundDeep, deep_start, deep_body, deep_name}
-use Rattle.rng_graph.specs.Graph.{Graph, IsGraphOf, Mentions, IsOrderBy, LeadsBy, spot_depth, IsFilledBy, no_definition, definition_at, IsDeepBy}
-use Rattle.rng_graph.specs.Graph.{start_is_deep, body_is_deep, class_is_deep}
+use Rattle.rng_model.specs.names.Names.{NameClass}
+use Rattle.rng_model.specs.schema.Schema.{Schema, Definition, main_start}
+use Rattle.rng_model.specs.schema.Unfolding.{Leaf, Aim, to_element, to_definition, to_nothing}
+use Rattle.rng_graph.specs.plain.Expansion.{KeepsExpansion}
+use Rattle.rng_model.specs.schema.SchemaClauses.{BreaksExpansion, BreaksDepth}
+use Rattle.rng_graph.specs.plain.Met.{IsSettled, IsOrder}
+use Rattle.rng_graph.specs.plain.DepthWith.{depth_at, IsFilled, IsFoundDeep, deep_start, deep_body, deep_name}
+use Rattle.rng_graph.specs.plain.Graph.{Graph, IsGraphOf, Mentions, IsOrderBy, LeadsBy, spot_depth, IsFilledBy, no_definition, definition_at, IsDeepBy}
+use Rattle.rng_graph.specs.plain.Graph.{start_is_deep, body_is_deep, class_is_deep}
 use Rattle.rng_graph.proofs.Loops.{Covers, keeps}
 use Rattle.rng_graph.proofs.Sorting.{loop_breaks}
 use Rattle.rng_graph.proofs.TooDeep.{breaks_depth}
 use Rattle.rng_graph.proofs.Graphs.{found, contains_found, found_contained, resolved_content, known, covers, has_body, closed}
 use Rattle.rng_graph.proofs.GraphTables.{Contains-map, number_is, order_of, leads_of, table_of, depth_resolved, filled_of}
-use Rattle.rng_model.specs.Depth.{class_depth, depth_limit}
-use Rattle.rng_graph.specs.InTwos.{nested}
+use Rattle.rng_model.specs.schema.Depth.{class_depth, depth_limit}
+use Rattle.rng_graph.specs.plain.InTwos.{nested}
 use Rattle.rng_model.proofs.Unfolding.{some_is}
 use Rattle.rng_graph.proofs.Parts.{map_at}
 

@@ -2,21 +2,21 @@
 -- what is met from the start is what the clause speaks of.
 use Rattle.std.proofs.Common.{◌≡◌, refl, sym, subst, Some, ◌⊎◌, inl, inr, List, [], Contains, arith}
 use Rattle.std.proofs.lemmas.List.Elements.{Contains-push_cases}
-use Rattle.rng_model.specs.Tree.{Tree, leaf}
-use Rattle.rng_model.specs.Patterns.{Place, Point}
-use Rattle.rng_model.specs.Schema.{Schema, Definition, main_start, body}
-use Rattle.rng_model.specs.Leaves.{LeafIn}
-use Rattle.rng_model.specs.Leaves as at
-use Rattle.rng_model.specs.Unfolding.{Leaf, content_of, Aim, to_element, to_definition, to_nothing, aim, Unfolds, IsTreeOf, IsBodyOf}
-use Rattle.rng_graph.specs.Expansion.{HasTree, KeepsExpansion}
-use Rattle.rng_model.specs.Unfolding as u
-use Rattle.rng_model.specs.Reached.{IsReachedByTrees, from_start, from_element}
-use Rattle.rng_model.specs.SchemaClauses.{BreaksExpansion}
-use Rattle.rng_graph.specs.Met.{Met, met_start, met_in_definition, met_in_element, IsSettled, IsOrder, none_yet, and_then, Leads, directly, further}
+use Rattle.rng_model.specs.simple.Tree.{Tree, leaf}
+use Rattle.rng_model.specs.schema.Patterns.{Place, Point}
+use Rattle.rng_model.specs.schema.Schema.{Schema, Definition, main_start, body}
+use Rattle.rng_model.specs.simple.Leaves.{LeafIn}
+use Rattle.rng_model.specs.simple.Leaves as at
+use Rattle.rng_model.specs.schema.Unfolding.{Leaf, content_of, Aim, to_element, to_definition, to_nothing, aim, Unfolds, IsTreeOf, IsBodyOf}
+use Rattle.rng_graph.specs.plain.Expansion.{HasTree, KeepsExpansion}
+use Rattle.rng_model.specs.schema.Unfolding as u
+use Rattle.rng_model.specs.schema.Reached.{IsReachedByTrees, from_start, from_element}
+use Rattle.rng_model.specs.schema.SchemaClauses.{BreaksExpansion}
+use Rattle.rng_graph.specs.plain.Met.{Met, met_start, met_in_definition, met_in_element, IsSettled, IsOrder, none_yet, and_then, Leads, directly, further}
 use Rattle.rng_model.proofs.Unfolding.{IsStuck, some_is, none_of_stuck, no_tree}
 use Rattle.rng_graph.proofs.Splits.{IsSplit}
 use Rattle.rng_graph.proofs.Points.{mapped, bound, tree_or, IsWithin, point_tree, inside}
-use Rattle.rng_model.specs.SchemaClauses as clauses
+use Rattle.rng_model.specs.schema.SchemaClauses as clauses
 
 sure : {A : Type 0} → A ⊎ ⊥ → A
 sure (inl a) = a

@@ -1,16 +1,16 @@
 -- Depths member by member are the depths of the nested forms.
 use Rattle.std.proofs.Common.{◌≡◌, refl, ap, ap₂, sym, ◌∙◌, ℕ, suc, ◌+◌, ◌<◌, max, List, [], ◌∷◌, length, map, drop, get_or, arith}
 use Rattle.std.proofs.Math.Seq.{drop-cons}
-use Rattle.rng_model.specs.Names.{NameClass, NameClasses, no_classes, class_and, one_of, classes_of, some_of}
-use Rattle.rng_model.specs.Tree.{Connector, choice, group, interleave, Tree, joined, no_trees}
-use Rattle.rng_model.specs.Schema.{nested_from}
-use Rattle.rng_model.specs.Depth.{class_depth}
-use Rattle.rng_graph.specs.InTwos.{nested, nested_after}
-use Rattle.rng_graph.specs.DepthWith.{cut_off, one_more, nested_depth, depth_with, deeper_with}
-use Rattle.rng_graph.specs.Graph.{Spot}
-use Rattle.rng_graph.specs.GraphView.{trees_of, members, combined, graph_pattern_of}
+use Rattle.rng_model.specs.names.Names.{NameClass, NameClasses, no_classes, class_and, one_of, classes_of, some_of}
+use Rattle.rng_model.specs.simple.Tree.{Connector, choice, group, interleave, Tree, joined, no_trees}
+use Rattle.rng_model.specs.schema.Schema.{nested_from}
+use Rattle.rng_model.specs.schema.Depth.{class_depth}
+use Rattle.rng_graph.specs.plain.InTwos.{nested, nested_after}
+use Rattle.rng_graph.specs.plain.DepthWith.{cut_off, one_more, nested_depth, depth_with, deeper_with}
+use Rattle.rng_graph.specs.plain.Graph.{Spot}
+use Rattle.rng_graph.specs.views.GraphView.{trees_of, members, combined, graph_pattern_of}
 use Rattle.rng_graph.specs.declared.graph.GraphPattern.{GraphPattern}
-use Rattle.rng_graph.specs.MemberDepths.{nested_class_depth, members_depth}
+use Rattle.rng_graph.specs.plain.MemberDepths.{nested_class_depth, members_depth}
 
 -- ---- name classes
 

@@ -5,16 +5,16 @@ use Rattle.std.proofs.Math.Seq.{drop-cons}
 use Rattle.std.proofs.lemmas.List.{length-map, get_or-map}
 use Rattle.std.proofs.lemmas.List.Elements.{Contains-append_left, Contains-append_right, Contains-append_cases, Contains-push_cases}
 use Rattle.std.proofs.lemmas.Option.{slice_get-get_or, slice_get_within, get_or_from_slice_get}
-use Rattle.rng_model.specs.Schema.{nested_from}
-use Rattle.rng_model.specs.Tree.{Tree, not_allowed, empty, text, leaf, attribute, list, data_of, data_except, value, mixed, optional, zero_or_more, one_or_more}
-use Rattle.rng_model.specs.Tree.{joined, Trees, no_trees, tree_and, Connector, choice, group, interleave}
-use Rattle.rng_model.specs.Leaves.{LeafIn, LeafAmong}
-use Rattle.rng_model.specs.Leaves as at
-use Rattle.rng_graph.specs.Graph.{Spot, at_element, at_definition, Graph, Mentions}
-use Rattle.rng_graph.specs.GraphView.{trees_of, members, combined, graph_pattern_of}
+use Rattle.rng_model.specs.schema.Schema.{nested_from}
+use Rattle.rng_model.specs.simple.Tree.{Tree, not_allowed, empty, text, leaf, attribute, list, data_of, data_except, value, mixed, optional, zero_or_more, one_or_more}
+use Rattle.rng_model.specs.simple.Tree.{joined, Trees, no_trees, tree_and, Connector, choice, group, interleave}
+use Rattle.rng_model.specs.simple.Leaves.{LeafIn, LeafAmong}
+use Rattle.rng_model.specs.simple.Leaves as at
+use Rattle.rng_graph.specs.plain.Graph.{Spot, at_element, at_definition, Graph, Mentions}
+use Rattle.rng_graph.specs.views.GraphView.{trees_of, members, combined, graph_pattern_of}
 use Rattle.rng_graph.specs.declared.graph.GraphPattern.{GraphPattern}
-use Rattle.rng_graph.specs.Mentioned.{definition_there, mentioned, mentioned_among, all_mentioned}
-use Rattle.rng_graph.specs.Search.{Lists}
+use Rattle.rng_graph.specs.plain.Mentioned.{definition_there, mentioned, mentioned_among, all_mentioned}
+use Rattle.rng_graph.specs.plain.Search.{Lists}
 use Rattle.rng_graph.proofs.Loops.{no_more}
 
 -- ---- what is mentioned is listed

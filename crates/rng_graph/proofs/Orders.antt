@@ -3,7 +3,7 @@ use Rattle.std.proofs.Common.{◌≡◌, inl, inr, ap, sym, ◌∙◌, subst, �
 use Rattle.std.proofs.Common.{arith}
 use Rattle.std.proofs.lemmas.Bool.{cases_lt}
 use Rattle.std.proofs.lemmas.List.{take_all, take-append-le, get_or_append_left, get_or_push}
-use Rattle.rng_graph.specs.Graph.{IsOrderBy, no_numbers, and_number}
+use Rattle.rng_graph.specs.plain.Graph.{IsOrderBy, no_numbers, and_number}
 
 module _ {A : Type 0} (M : A → A → Type 0) where
   pub first_in_order : {xs : List A} → IsOrderBy M xs → (i : ℕ) → IsOrderBy M (take i xs)

@@ -1,14 +1,14 @@
 -- A tree and the trees of the points of its pattern.
 use Rattle.std.proofs.Common.{◌≡◌, subst, Some, ◌⊎◌, inl, inr}
-use Rattle.rng_model.specs.Tree.{Tree, not_allowed, empty, text, leaf, attribute, list, data_of, data_except, value, mixed, optional, zero_or_more}
-use Rattle.rng_model.specs.Tree.{one_or_more, joined, Trees, no_trees, tree_and}
-use Rattle.rng_model.specs.Patterns.{Place, Point}
-use Rattle.rng_model.specs.Schema.{Schema, Definition, body}
-use Rattle.rng_model.specs.Leaves.{LeafIn, LeafAmong}
-use Rattle.rng_model.specs.Leaves as at
-use Rattle.rng_model.specs.Unfolding.{Leaf, Aim, to_element, to_definition, aim, Unfolds, UnfoldAll}
-use Rattle.rng_graph.specs.Expansion.{HasTree}
-use Rattle.rng_model.specs.Unfolding as u
+use Rattle.rng_model.specs.simple.Tree.{Tree, not_allowed, empty, text, leaf, attribute, list, data_of, data_except, value, mixed, optional, zero_or_more}
+use Rattle.rng_model.specs.simple.Tree.{one_or_more, joined, Trees, no_trees, tree_and}
+use Rattle.rng_model.specs.schema.Patterns.{Place, Point}
+use Rattle.rng_model.specs.schema.Schema.{Schema, Definition, body}
+use Rattle.rng_model.specs.simple.Leaves.{LeafIn, LeafAmong}
+use Rattle.rng_model.specs.simple.Leaves as at
+use Rattle.rng_model.specs.schema.Unfolding.{Leaf, Aim, to_element, to_definition, aim, Unfolds, UnfoldAll}
+use Rattle.rng_graph.specs.plain.Expansion.{HasTree}
+use Rattle.rng_model.specs.schema.Unfolding as u
 
 pub mapped : {A B C : Type 0} → (A → C) → A ⊎ B → C ⊎ B
 mapped f (inl a) = inl (f a)

@@ -2,23 +2,23 @@
 use Rattle.std.proofs.Common.{◌≡◌, ◌⊎◌, inl, inr, refl, sym, ap, ◌∙◌, subst, arith, ℕ, ◌+◌, Bool, true, false, true≢false}
 use Rattle.std.proofs.Common.{if◌then◌else◌, List, [], ◌∷◌, Option, Some, None, Contains}
 use Rattle.std.proofs.lemmas.List.Elements.{Contains-append_cases, Contains-append_right, Contains-push_cases}
-use Rattle.rng_model.specs.Lists.{Among, here, there}
-use Rattle.rng_model.specs.Tree.{Tree, Connector}
-use Rattle.rng_model.specs.Patterns.{Place, Position, Pattern, not_allowed, empty, text, element, attribute, list, data_of, data_except, value}
-use Rattle.rng_model.specs.Patterns.{mixed, optional, zero_or_more, one_or_more, joined, ref, parent_ref, grammar, external, Patterns, no_patterns}
-use Rattle.rng_model.specs.Patterns.{pattern_and, Point, an_element, a_ref, a_parent_ref, a_grammar, pattern_tree, pattern_trees}
-use Rattle.rng_model.specs.Patterns.{IsWrittenIn, itself, in_element, in_attribute, in_list, in_except, in_mixed, in_optional, in_zero_or_more}
-use Rattle.rng_model.specs.Patterns.{in_one_or_more, in_first, in_second, in_another, in_external, IsWrittenAmong, in_this, in_later}
-use Rattle.rng_model.specs.Schema.{Schema, Component, Definition, body, body_among, connector_of, nested, nested_from, same_name, trees_named}
-use Rattle.rng_model.specs.Schema.{HasComponent, IsWrittenAt, IsWellPlaced}
-use Rattle.rng_model.specs.SchemaClauses.{HasNoStart, BreaksRef, of_ref, of_parent_ref}
-use Rattle.rng_model.specs.Leaves.{LeafIn, LeafAmong}
-use Rattle.rng_model.specs.Leaves as at
-use Rattle.rng_model.specs.Unfolding.{Leaf, content_of, Aim, to_element, to_definition, to_nothing, outside, aim}
+use Rattle.rng_model.specs.names.Lists.{Among, here, there}
+use Rattle.rng_model.specs.simple.Tree.{Tree, Connector}
+use Rattle.rng_model.specs.schema.Patterns.{Place, Position, Pattern, not_allowed, empty, text, element, attribute, list, data_of, data_except, value}
+use Rattle.rng_model.specs.schema.Patterns.{mixed, optional, zero_or_more, one_or_more, joined, ref, parent_ref, grammar, external, Patterns, no_patterns}
+use Rattle.rng_model.specs.schema.Patterns.{pattern_and, Point, an_element, a_ref, a_parent_ref, a_grammar, pattern_tree, pattern_trees}
+use Rattle.rng_model.specs.schema.Patterns.{IsWrittenIn, itself, in_element, in_attribute, in_list, in_except, in_mixed, in_optional, in_zero_or_more}
+use Rattle.rng_model.specs.schema.Patterns.{in_one_or_more, in_first, in_second, in_another, in_external, IsWrittenAmong, in_this, in_later}
+use Rattle.rng_model.specs.schema.Schema.{Schema, Component, Definition, body, body_among, connector_of, nested, nested_from, same_name, trees_named}
+use Rattle.rng_model.specs.schema.Schema.{HasComponent, IsWrittenAt, IsWellPlaced}
+use Rattle.rng_model.specs.schema.SchemaClauses.{HasNoStart, BreaksRef, of_ref, of_parent_ref}
+use Rattle.rng_model.specs.simple.Leaves.{LeafIn, LeafAmong}
+use Rattle.rng_model.specs.simple.Leaves as at
+use Rattle.rng_model.specs.schema.Unfolding.{Leaf, content_of, Aim, to_element, to_definition, to_nothing, outside, aim}
 use Rattle.rng_model.proofs.Unfolding.{some_is}
 use Rattle.rng_load.proofs.NameLists.{in_none, in_cons}
-use Rattle.rng_graph.specs.Met.{Met, met_start, met_in_definition, met_in_element}
-use Rattle.rng_graph.specs.ReadySchema.{IsReady}
+use Rattle.rng_graph.specs.plain.Met.{Met, met_start, met_in_definition, met_in_element}
+use Rattle.rng_graph.specs.plain.ReadySchema.{IsReady}
 use Rattle.rng_graph.proofs.GraphTables.{name_same}
 use Rattle.rng_graph.proofs.Resolves.{name_is, none_there}
 use Rattle.rng_graph.proofs.ResolvedBodies.{from_nested, none_is_not_some}

@@ -1,12 +1,12 @@
 -- Depths of trees with renamed leaves: only what is said of the leaves matters.
 use Rattle.std.proofs.Common.{◌≡◌, refl, ap, ap₂, ℕ, max}
-use Rattle.rng_model.specs.Tree.{Tree, not_allowed, empty, text, leaf, attribute, list, data_of, data_except, value, mixed}
-use Rattle.rng_model.specs.Tree.{optional, zero_or_more, one_or_more, joined, Trees, no_trees, tree_and}
-use Rattle.rng_graph.specs.InTwos.{nested}
-use Rattle.rng_model.specs.Depth.{class_depth}
-use Rattle.rng_model.specs.Leaves.{LeafIn, LeafAmong, renamed, all_renamed}
-use Rattle.rng_model.specs.Leaves as at
-use Rattle.rng_graph.specs.DepthWith.{cut_off, one_more, depth_with, deeper_with}
+use Rattle.rng_model.specs.simple.Tree.{Tree, not_allowed, empty, text, leaf, attribute, list, data_of, data_except, value, mixed}
+use Rattle.rng_model.specs.simple.Tree.{optional, zero_or_more, one_or_more, joined, Trees, no_trees, tree_and}
+use Rattle.rng_graph.specs.plain.InTwos.{nested}
+use Rattle.rng_model.specs.schema.Depth.{class_depth}
+use Rattle.rng_model.specs.simple.Leaves.{LeafIn, LeafAmong, renamed, all_renamed}
+use Rattle.rng_model.specs.simple.Leaves as at
+use Rattle.rng_graph.specs.plain.DepthWith.{cut_off, one_more, depth_with, deeper_with}
 
 module _ {K L : Type 0} (f : K → L) (h : L → ℕ) (g : K → ℕ) where
   mutual

@@ -3,19 +3,19 @@ use Rattle.std.proofs.Common.{◌≡◌, ◌⊎◌, inl, inr, refl, sym, ap, ap�
 use Rattle.std.proofs.Common.{List, [], ◌∷◌, map, filter, length, Option, Some, None, Contains}
 use Rattle.std.specs.List.{list_any}
 use Rattle.std.proofs.lemmas.List.Elements.{Contains-append_cases, Contains-push_cases}
-use Rattle.rng_model.specs.Tree.{Tree, Connector, choice, interleave, joined, no_trees}
-use Rattle.rng_model.specs.Patterns.{Place, Point, pattern_tree}
-use Rattle.rng_model.specs.Schema.{Schema, Component, Definition, body, body_among, same_name, is_interleaved, trees_named, connector_of, nested, nested_from}
-use Rattle.rng_model.specs.Leaves.{LeafIn, renamed}
-use Rattle.rng_model.specs.Leaves as at
-use Rattle.rng_model.specs.Unfolding.{Leaf, to_definition, to_nothing, aim}
+use Rattle.rng_model.specs.simple.Tree.{Tree, Connector, choice, interleave, joined, no_trees}
+use Rattle.rng_model.specs.schema.Patterns.{Place, Point, pattern_tree}
+use Rattle.rng_model.specs.schema.Schema.{Schema, Component, Definition, body, body_among, same_name, is_interleaved, trees_named, connector_of, nested, nested_from}
+use Rattle.rng_model.specs.simple.Leaves.{LeafIn, renamed}
+use Rattle.rng_model.specs.simple.Leaves as at
+use Rattle.rng_model.specs.schema.Unfolding.{Leaf, to_definition, to_nothing, aim}
 use Rattle.rng_model.proofs.Unfolding.{some_is}
-use Rattle.rng_graph.specs.ComponentTable.{given, joining, schema_components}
-use Rattle.rng_graph.specs.Graph.{Spot, IsSpotBelow, aim_at}
-use Rattle.rng_graph.specs.GraphView.{combined}
-use Rattle.rng_graph.specs.Met.{Met, met_in_definition}
-use Rattle.rng_graph.specs.ResolvedElements.{with_elements, with_named_elements, with_elements_of}
-use Rattle.rng_graph.specs.Resolving.{Numbering, resolve_each}
+use Rattle.rng_graph.specs.views.ComponentTable.{given, joining, schema_components}
+use Rattle.rng_graph.specs.plain.Graph.{Spot, IsSpotBelow, aim_at}
+use Rattle.rng_graph.specs.views.GraphView.{combined}
+use Rattle.rng_graph.specs.plain.Met.{Met, met_in_definition}
+use Rattle.rng_graph.specs.plain.ResolvedElements.{with_elements, with_named_elements, with_elements_of}
+use Rattle.rng_graph.specs.plain.Resolving.{Numbering, resolve_each}
 use Rattle.rng_graph.proofs.Resolves.{IsNumbering, IsMore, IsAfter, more_and, no_more, none_there, stays, resolves}
 
 later_in : {A : Type 0} {x y : A} (xs : List A) → Contains xs y → Contains (x ∷ xs) y

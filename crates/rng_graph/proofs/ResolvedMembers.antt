@@ -2,12 +2,12 @@
 use Rattle.std.proofs.Common.{◌≡◌, ◌∙◌, refl, sym, ap, ℕ, ◌+◌, ◌<◌, ◌≤◌, List, [], ◌∷◌, ◌++◌, map, length, drop, get_or, Option, append_assoc, Bool, ◌||◌}
 use Rattle.std.specs.List.{list_any}
 use Rattle.std.proofs.lemmas.List.{append-nil, drop_all, drop_more}
-use Rattle.rng_model.specs.Tree.{Tree, Connector, choice, group, interleave, joined, tree_and}
-use Rattle.rng_model.specs.Patterns.{Place, Pattern, Patterns, patterns_of}
-use Rattle.rng_model.specs.Patterns as pattern
-use Rattle.rng_graph.specs.Graph.{Spot}
-use Rattle.rng_graph.specs.GraphView.{members, trees_of}
-use Rattle.rng_graph.specs.Resolving.{Numbering, resolve, resolve_all, resolve_each}
+use Rattle.rng_model.specs.simple.Tree.{Tree, Connector, choice, group, interleave, joined, tree_and}
+use Rattle.rng_model.specs.schema.Patterns.{Place, Pattern, Patterns, patterns_of}
+use Rattle.rng_model.specs.schema.Patterns as pattern
+use Rattle.rng_graph.specs.plain.Graph.{Spot}
+use Rattle.rng_graph.specs.views.GraphView.{members, trees_of}
+use Rattle.rng_graph.specs.plain.Resolving.{Numbering, resolve, resolve_all, resolve_each}
 
 module _ (x : Place) (outer : Option Place) where
   all_as_each : (ps : List Pattern) (v : Numbering)

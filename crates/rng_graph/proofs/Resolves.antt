@@ -7,20 +7,20 @@ use Rattle.std.proofs.lemmas.List.{append-nil}
 use Rattle.std.proofs.lemmas.List.Elements.{Contains-append_cases, Contains-push_cases}
 use Rattle.std.proofs.lemmas.Option.{slice_get_within}
 use Rattle.std.proofs.lemmas.Slice.Eq.{bytes_eq-Decides}
-use Rattle.rng_model.specs.Names.{NameClass}
-use Rattle.rng_model.specs.Tree.{Tree, Trees, no_trees, tree_and, leaf, Connector}
-use Rattle.rng_model.specs.Tree as tree
-use Rattle.rng_model.specs.Patterns.{Place, Position, Pattern, Patterns, no_patterns, pattern_and, pattern_tree, pattern_trees, Point, a_ref, a_parent_ref}
-use Rattle.rng_model.specs.Patterns.{a_grammar}
-use Rattle.rng_model.specs.Patterns as pattern
-use Rattle.rng_model.specs.Schema.{Schema, Definition, same_name}
-use Rattle.rng_model.specs.Leaves.{LeafIn, LeafAmong, all_renamed}
-use Rattle.rng_model.specs.Leaves as at
-use Rattle.rng_model.specs.Unfolding.{Leaf, content_of, to_element, to_definition, to_nothing, aim, outside}
-use Rattle.rng_graph.specs.Graph.{Spot, IsSpotBelow, IsResolved, AreApart, aim_at, element_aim, definition_aim, same_definition, number_of}
-use Rattle.rng_graph.specs.Met.{Met, met_in_element}
-use Rattle.rng_graph.specs.ResolvedElements.{with_elements, with_all_elements}
-use Rattle.rng_graph.specs.Resolving.{Numbering, Resolved, resolve, resolve_all, looked_up, looked_up_outside, with_definition, with_element}
+use Rattle.rng_model.specs.names.Names.{NameClass}
+use Rattle.rng_model.specs.simple.Tree.{Tree, Trees, no_trees, tree_and, leaf, Connector}
+use Rattle.rng_model.specs.simple.Tree as tree
+use Rattle.rng_model.specs.schema.Patterns.{Place, Position, Pattern, Patterns, no_patterns, pattern_and, pattern_tree, pattern_trees, Point, a_ref, a_parent_ref}
+use Rattle.rng_model.specs.schema.Patterns.{a_grammar}
+use Rattle.rng_model.specs.schema.Patterns as pattern
+use Rattle.rng_model.specs.schema.Schema.{Schema, Definition, same_name}
+use Rattle.rng_model.specs.simple.Leaves.{LeafIn, LeafAmong, all_renamed}
+use Rattle.rng_model.specs.simple.Leaves as at
+use Rattle.rng_model.specs.schema.Unfolding.{Leaf, content_of, to_element, to_definition, to_nothing, aim, outside}
+use Rattle.rng_graph.specs.plain.Graph.{Spot, IsSpotBelow, IsResolved, AreApart, aim_at, element_aim, definition_aim, same_definition, number_of}
+use Rattle.rng_graph.specs.plain.Met.{Met, met_in_element}
+use Rattle.rng_graph.specs.plain.ResolvedElements.{with_elements, with_all_elements}
+use Rattle.rng_graph.specs.plain.Resolving.{Numbering, Resolved, resolve, resolve_all, looked_up, looked_up_outside, with_definition, with_element}
 use Rattle.rng_graph.proofs.Graphs.{contains_found}
 use Rattle.rng_graph.proofs.GraphTables.{definition_same}
 use Rattle.rng_graph.proofs.Growing.{resolved_more}

@@ -3,27 +3,27 @@ use Rattle.std.proofs.Common.{◌≡◌, refl, sym, ap, ap₂, ◌∙◌, subst,
 use Rattle.std.proofs.Common.{slice_get, arith, Bor}
 use Rattle.std.proofs.lemmas.Bool.{cases_lt}
 use Rattle.std.proofs.lemmas.Option.{slice_get_within}
-use Rattle.rng_model.specs.Patterns.{Place}
-use Rattle.rng_model.specs.Schema.{Schema, Definition}
-use Rattle.rng_model.specs.SchemaView.{schema_component_of}
+use Rattle.rng_model.specs.schema.Patterns.{Place}
+use Rattle.rng_model.specs.schema.Schema.{Schema, Definition}
+use Rattle.rng_model.specs.views.SchemaView.{schema_component_of}
 use Rattle.rng_model.specs.declared.component.Component as declared
-use Rattle.rng_graph.specs.ComponentTable.{IsTable, Table, components_of, joining, schema_components}
-use Rattle.rng_graph.specs.Definitions.{definition_of, numbering_of}
-use Rattle.rng_graph.specs.ExpansionOrder.{IsGraphOfSchema}
-use Rattle.rng_graph.specs.Graph.{IsGraphOf, Spot}
-use Rattle.rng_graph.specs.GraphView.{combined, graph_body_of, graph_of, graph_pattern_of}
-use Rattle.rng_graph.specs.ReadySchema.{IsReady}
-use Rattle.rng_graph.specs.ResolvedBody.{resolved_body}
-use Rattle.rng_graph.specs.ResolvedElements.{elements_of}
-use Rattle.rng_graph.specs.Resolving.{Numbering, resolve_each}
+use Rattle.rng_graph.specs.views.ComponentTable.{IsTable, Table, components_of, joining, schema_components}
+use Rattle.rng_graph.specs.views.Definitions.{definition_of, numbering_of}
+use Rattle.rng_graph.specs.views.ExpansionOrder.{IsGraphOfSchema}
+use Rattle.rng_graph.specs.plain.Graph.{IsGraphOf, Spot}
+use Rattle.rng_graph.specs.views.GraphView.{combined, graph_body_of, graph_of, graph_pattern_of}
+use Rattle.rng_graph.specs.plain.ReadySchema.{IsReady}
+use Rattle.rng_graph.specs.plain.ResolvedBody.{resolved_body}
+use Rattle.rng_graph.specs.plain.ResolvedElements.{elements_of}
+use Rattle.rng_graph.specs.plain.Resolving.{Numbering, resolve_each}
 use Rattle.rng_graph.specs.declared.definitions.Definition as definitions
 use Rattle.rng_graph.specs.declared.definitions.Numbering as numberings
 use Rattle.rng_graph.specs.declared.graph.GraphBody.{GraphBody}
 use Rattle.rng_graph.specs.declared.graph.Graph as graphs
 use Rattle.rng_graph.specs.declared.graph.GraphElement.{GraphElement}
-use Rattle.rng_model.specs.Names.{NameClass}
-use Rattle.rng_model.specs.Tree.{Tree}
-use Rattle.rng_model.specs.View.{class_of}
+use Rattle.rng_model.specs.names.Names.{NameClass}
+use Rattle.rng_model.specs.simple.Tree.{Tree}
+use Rattle.rng_model.specs.names.NameViews.{class_of}
 use Rattle.std.proofs.lemmas.List.{length-map, map_push, take_all}
 use Rattle.rng_graph.proofs.ElementsApart.{elements_apart}
 use Rattle.rng_graph.proofs.GraphSteps.{IsGraphSoFar, fewer, goes_on, same_classes, whole}

@@ -6,7 +6,7 @@ use Rattle.rng_graph.specs.declared.order.Mark.{Mark}
 use Rattle.rng_graph.specs.declared.order.Mark.TheVariants as mark
 use Rattle.rng_graph.specs.declared.order.Task.{Task}
 use Rattle.rng_graph.specs.declared.order.Task.TheVariants as task
-use Rattle.rng_graph.specs.Search.{AreMentionsBelow, number_of, IsSearch, IsStep, goes_on, found_loop, weight}
+use Rattle.rng_graph.specs.plain.Search.{AreMentionsBelow, number_of, IsSearch, IsStep, goes_on, found_loop, weight}
 use Rattle.rng_graph.proofs.Searching.{enter_done, enter_open, enter_new, leave, weight_open, weight_done}
 use Rattle.rng_graph.proofs.Parts.{last_of}
 

@@ -10,8 +10,8 @@ use Rattle.rng_graph.specs.declared.order.Mark.{Mark}
 use Rattle.rng_graph.specs.declared.order.Mark.TheVariants as mark
 use Rattle.rng_graph.specs.declared.order.Task.{Task}
 use Rattle.rng_graph.specs.declared.order.Task.TheVariants as task
-use Rattle.rng_graph.specs.Graph.{no_numbers, and_number, LeadsBy, by_one, by_more}
-use Rattle.rng_graph.specs.Search.{Lists, AreMentionsBelow, number_of, IsDue, IsSearch, IsStart, weight}
+use Rattle.rng_graph.specs.plain.Graph.{no_numbers, and_number, LeadsBy, by_one, by_more}
+use Rattle.rng_graph.specs.plain.Search.{Lists, AreMentionsBelow, number_of, IsDue, IsSearch, IsStart, weight}
 use Rattle.rng_model.proofs.Unfolding.{some_is}
 use Rattle.rng_graph.proofs.Parts.{at_end, in_front, last_of}
 

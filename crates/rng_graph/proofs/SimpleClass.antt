@@ -1,9 +1,9 @@
 -- Each name class has one simple form: its members nested in twos.
 use Rattle.std.proofs.Common.{◌≡◌, ◌↔◌, subst, refl, ap, ◌∙◌, sym}
-use Rattle.rng_model.specs.Names.{NameClass, any_name, any_except, ns_name, ns_except, name_is, one_of, NameClasses, no_classes, class_and}
-use Rattle.rng_model.specs.ClassSteps.{ClassStep, ClassesStep, ClassSteps, IsSimpleClassOf}
-use Rattle.rng_model.specs.ClassSteps as step
-use Rattle.rng_graph.specs.InTwos.{nested, nested_after}
+use Rattle.rng_model.specs.names.Names.{NameClass, any_name, any_except, ns_name, ns_except, name_is, one_of, NameClasses, no_classes, class_and}
+use Rattle.rng_model.specs.simple.ClassSteps.{ClassStep, ClassesStep, ClassSteps, IsSimpleClassOf}
+use Rattle.rng_model.specs.simple.ClassSteps as step
+use Rattle.rng_graph.specs.plain.InTwos.{nested, nested_after}
 
 -- a step keeps the nested class
 mutual

@@ -3,15 +3,15 @@
 use Rattle.std.proofs.Common.{zero, suc, ◌≡◌, ◌⊎◌, inl, inr, refl, ap, sym, subst, ℕ, ◌+◌, ◌≤◌, List, [], ◌∷◌, ◌++◌, length, Some, Contains, length-append}
 use Rattle.std.proofs.Common.{arith}
 use Rattle.std.proofs.lemmas.List.Elements.{Contains-append_left, Contains-append_right, Contains-append_cases, Contains-push, Contains-push_cases}
-use Rattle.rng_model.specs.Tree.{Tree, not_allowed, empty, text, leaf, attribute, list, data_of, data_except, value, mixed, optional, zero_or_more}
-use Rattle.rng_model.specs.Tree.{one_or_more, joined, Trees, no_trees, tree_and}
-use Rattle.rng_model.specs.Patterns.{Place, Point}
-use Rattle.rng_model.specs.Schema.{Schema, Definition, body}
-use Rattle.rng_model.specs.Leaves.{LeafIn, LeafAmong}
-use Rattle.rng_model.specs.Leaves as at
-use Rattle.rng_model.specs.Unfolding.{Aim, to_element, to_definition, to_nothing, aim}
-use Rattle.rng_model.specs.SchemaClauses.{BreaksExpansion}
-use Rattle.rng_graph.specs.Met.{Met, IsSettled, IsOrder, none_yet, and_then, Leads}
+use Rattle.rng_model.specs.simple.Tree.{Tree, not_allowed, empty, text, leaf, attribute, list, data_of, data_except, value, mixed, optional, zero_or_more}
+use Rattle.rng_model.specs.simple.Tree.{one_or_more, joined, Trees, no_trees, tree_and}
+use Rattle.rng_model.specs.schema.Patterns.{Place, Point}
+use Rattle.rng_model.specs.schema.Schema.{Schema, Definition, body}
+use Rattle.rng_model.specs.simple.Leaves.{LeafIn, LeafAmong}
+use Rattle.rng_model.specs.simple.Leaves as at
+use Rattle.rng_model.specs.schema.Unfolding.{Aim, to_element, to_definition, to_nothing, aim}
+use Rattle.rng_model.specs.schema.SchemaClauses.{BreaksExpansion}
+use Rattle.rng_graph.specs.plain.Met.{Met, IsSettled, IsOrder, none_yet, and_then, Leads}
 use Rattle.rng_model.proofs.Unfolding.{MentionsSome, some_is, none_of_stuck}
 use Rattle.rng_graph.proofs.Splits.{IsSplit}
 use Rattle.rng_graph.proofs.Points.{mapped, bound}

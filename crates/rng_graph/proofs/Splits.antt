@@ -1,9 +1,9 @@
 -- Definitions in an order, and a rest that has none.
 use Rattle.std.proofs.Common.{◌⊎◌, List, Contains}
-use Rattle.rng_model.specs.Schema.{Schema, Definition}
-use Rattle.rng_model.specs.Unfolding.{Aim}
+use Rattle.rng_model.specs.schema.Schema.{Schema, Definition}
+use Rattle.rng_model.specs.schema.Unfolding.{Aim}
 use Rattle.rng_model.proofs.Unfolding.{IsStuck}
-use Rattle.rng_graph.specs.Met.{Met, IsSettled, IsOrder}
+use Rattle.rng_graph.specs.plain.Met.{Met, IsSettled, IsOrder}
 
 -- what a sort of the definitions ends with: an order, and a rest that is stuck; all that is met is among them
 pub record IsSplit (s : Schema) (ds : List Definition) (Rest : Definition → Type 0) : Type 0 where

@@ -1,20 +1,20 @@
 -- The table of depths is right; and S17 by the table of depths, where S16 is kept, both directions.
 use Rattle.std.proofs.Common.{◌≡◌, ◌↔◌, refl, ap, subst, ℕ, ◌<◌, List, Contains, arith}
-use Rattle.rng_model.specs.Tree.{Tree}
-use Rattle.rng_model.specs.Patterns.{Place, Point}
-use Rattle.rng_model.specs.Schema.{Schema, Definition, main_start}
-use Rattle.rng_model.specs.Leaves.{LeafIn}
-use Rattle.rng_model.specs.Unfolding.{Leaf, to_element, to_definition, content_of, aim, Unfolds, IsTreeOf}
-use Rattle.rng_model.specs.Reached.{of_start, of_body}
-use Rattle.rng_model.specs.SchemaClauses.{BreaksDepth}
-use Rattle.rng_graph.specs.Met.{Met, met_start, met_in_element, IsSettled, IsOrder}
-use Rattle.rng_graph.specs.DepthWith.{of_aim, depth_at, IsFilled, IsRight, tree_depth, IsFoundDeep, deep_start, deep_body, deep_name}
+use Rattle.rng_model.specs.simple.Tree.{Tree}
+use Rattle.rng_model.specs.schema.Patterns.{Place, Point}
+use Rattle.rng_model.specs.schema.Schema.{Schema, Definition, main_start}
+use Rattle.rng_model.specs.simple.Leaves.{LeafIn}
+use Rattle.rng_model.specs.schema.Unfolding.{Leaf, to_element, to_definition, content_of, aim, Unfolds, IsTreeOf}
+use Rattle.rng_model.specs.schema.Reached.{of_start, of_body}
+use Rattle.rng_model.specs.schema.SchemaClauses.{BreaksDepth}
+use Rattle.rng_graph.specs.plain.Met.{Met, met_start, met_in_element, IsSettled, IsOrder}
+use Rattle.rng_graph.specs.plain.DepthWith.{of_aim, depth_at, IsFilled, IsRight, tree_depth, IsFoundDeep, deep_start, deep_body, deep_name}
 use Rattle.rng_graph.proofs.Depths.{depth_is}
 use Rattle.rng_graph.proofs.Filled.{body_right, filled_right}
 use Rattle.rng_graph.proofs.Loops.{Covers, keeps, reached_is_met, met_is_reached}
-use Rattle.rng_model.specs.Depth.{depth, class_depth, depth_limit}
-use Rattle.rng_model.specs.SchemaClauses as clauses
-use Rattle.rng_graph.specs.InTwos.{in_twos}
+use Rattle.rng_model.specs.schema.Depth.{depth, class_depth, depth_limit}
+use Rattle.rng_model.specs.schema.SchemaClauses as clauses
+use Rattle.rng_graph.specs.plain.InTwos.{in_twos}
 use Rattle.rng_graph.proofs.SimpleClass.{has_simple_class, is_only_simple_class}
 use Rattle.rng_graph.proofs.InTwos.{is_rewritten, rewritten_is}
 

@@ -1,11 +1,11 @@
 -- Patterns of a graph, each kind as it is seen.
 use Rattle.std.proofs.Common.{◌≡◌, map, rules, Box, Vec, Global, Bor, Option, Some}
-use Rattle.rng_model.specs.Tree.{group, interleave, choice, attribute, list, data_except, mixed, optional, zero_or_more, one_or_more}
-use Rattle.rng_model.specs.Types.{datatype_of}
-use Rattle.rng_model.specs.View.{class_of}
+use Rattle.rng_model.specs.simple.Tree.{group, interleave, choice, attribute, list, data_except, mixed, optional, zero_or_more, one_or_more}
+use Rattle.rng_model.specs.datatypes.DatatypeViews.{datatype_of}
+use Rattle.rng_model.specs.names.NameViews.{class_of}
 use Rattle.rng_model.specs.declared.name.NameClass.{NameClass}
 use Rattle.rng_model.specs.declared.datatype.Datatype.{Datatype}
-use Rattle.rng_graph.specs.GraphView.{members, graph_pattern_of}
+use Rattle.rng_graph.specs.views.GraphView.{members, graph_pattern_of}
 use Rattle.rng_graph.specs.declared.graph.GraphPattern.{GraphPattern, the_lemmas}
 use Rattle.rng_graph.specs.declared.graph.GraphPattern.TheViews as patterns
 

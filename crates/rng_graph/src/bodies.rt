@@ -1,12 +1,12 @@
 // From the components of a definition to its body in the graph.
 ghost use Rattle.std.specs.Prelude.{◌≡◌, IfOk, OnOk, map, option_map};
 ghost use Rattle.std.specs.List.{list_any};
-ghost use Rattle.rng_model.specs.Schema.{is_interleaved};
-ghost use Rattle.rng_model.specs.SchemaView.{place_of, schema_component_of};
-ghost use Rattle.rng_graph.specs.ComponentTable.{joining};
-ghost use Rattle.rng_graph.specs.Definitions.{numbering_of};
-ghost use Rattle.rng_graph.specs.GraphView.{combined, graph_body_of, graph_pattern_of};
-ghost use Rattle.rng_graph.specs.Resolving.{resolve_each};
+ghost use Rattle.rng_model.specs.schema.Schema.{is_interleaved};
+ghost use Rattle.rng_model.specs.views.SchemaView.{place_of, schema_component_of};
+ghost use Rattle.rng_graph.specs.views.ComponentTable.{joining};
+ghost use Rattle.rng_graph.specs.views.Definitions.{numbering_of};
+ghost use Rattle.rng_graph.specs.views.GraphView.{combined, graph_body_of, graph_pattern_of};
+ghost use Rattle.rng_graph.specs.plain.Resolving.{resolve_each};
 
 use crate::definitions::Numbering;
 use crate::graph::{GraphBody, GraphPattern};

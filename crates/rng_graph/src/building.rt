@@ -1,14 +1,14 @@
 // From a schema to its graph.
 ghost use Rattle.std.specs.Prelude.{◌≡◌, ◌∷◌, [], IfOk, None, OnOk, option_map};
-ghost use Rattle.rng_model.specs.Schema as schemas;
-ghost use Rattle.rng_model.specs.SchemaView.{place_of};
-ghost use Rattle.rng_load.specs.PlacedGrammars.{schema_of};
-ghost use Rattle.rng_graph.specs.ComponentTable.{IsTable, components_of, schema_components, table_of};
-ghost use Rattle.rng_graph.specs.Definitions.{definition_of, numbering_of};
-ghost use Rattle.rng_graph.specs.ExpansionOrder.{IsGraphOfSchema};
-ghost use Rattle.rng_graph.specs.GraphView.{graph_body_of};
-ghost use Rattle.rng_graph.specs.ReadySchema.{IsReady};
-ghost use Rattle.rng_graph.specs.ResolvedBody.{resolved_body};
+ghost use Rattle.rng_model.specs.schema.Schema as schemas;
+ghost use Rattle.rng_model.specs.views.SchemaView.{place_of};
+ghost use Rattle.rng_load.specs.views.PlacedGrammars.{schema_of};
+ghost use Rattle.rng_graph.specs.views.ComponentTable.{IsTable, components_of, schema_components, table_of};
+ghost use Rattle.rng_graph.specs.views.Definitions.{definition_of, numbering_of};
+ghost use Rattle.rng_graph.specs.views.ExpansionOrder.{IsGraphOfSchema};
+ghost use Rattle.rng_graph.specs.views.GraphView.{graph_body_of};
+ghost use Rattle.rng_graph.specs.plain.ReadySchema.{IsReady};
+ghost use Rattle.rng_graph.specs.plain.ResolvedBody.{resolved_body};
 
 use crate::components::ComponentTable;
 use crate::definitions::{Definition, Numbering, number};

@@ -1,12 +1,12 @@
 // The components of the grammars of a schema, by definition.
 ghost use Rattle.std.specs.Prelude.{◌≡◌, ◌∷◌, ◌++◌, [], IfOk, OnOk, ℕ, map, option_map, slice_index_or};
-ghost use Rattle.rng_model.specs.Schema as schemas;
-ghost use Rattle.rng_model.specs.SchemaView.{place_of, schema_component_of};
-ghost use Rattle.rng_load.specs.PlacedGrammars.{schema_of};
-ghost use Rattle.rng_graph.specs.ComponentTable.{IsTable, components_of, schema_components, table_of, those_at};
-ghost use Rattle.rng_graph.specs.Definitions.{definition_of};
-ghost use Rattle.rng_graph.specs.Graph.{number_of};
-ghost use Rattle.rng_graph.specs.Resolving.{with_definition};
+ghost use Rattle.rng_model.specs.schema.Schema as schemas;
+ghost use Rattle.rng_model.specs.views.SchemaView.{place_of, schema_component_of};
+ghost use Rattle.rng_load.specs.views.PlacedGrammars.{schema_of};
+ghost use Rattle.rng_graph.specs.views.ComponentTable.{IsTable, components_of, schema_components, table_of, those_at};
+ghost use Rattle.rng_graph.specs.views.Definitions.{definition_of};
+ghost use Rattle.rng_graph.specs.plain.Graph.{number_of};
+ghost use Rattle.rng_graph.specs.plain.Resolving.{with_definition};
 
 use crate::definitions::{Definition, number};
 use indexmap::IndexSet;

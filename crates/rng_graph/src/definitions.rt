@@ -1,8 +1,8 @@
 // Definitions by number.
 ghost use Rattle.std.specs.Prelude.{◌≡◌, IfOk, OnOk, map};
-ghost use Rattle.rng_graph.specs.Definitions.{definition_of};
-ghost use Rattle.rng_graph.specs.Graph.{number_of};
-ghost use Rattle.rng_graph.specs.Resolving.{with_definition};
+ghost use Rattle.rng_graph.specs.views.Definitions.{definition_of};
+ghost use Rattle.rng_graph.specs.plain.Graph.{number_of};
+ghost use Rattle.rng_graph.specs.plain.Resolving.{with_definition};
 
 use crate::graph::GraphElement;
 use indexmap::IndexSet;

@@ -1,12 +1,12 @@
 // How deep patterns and name classes are with their members nested in twos, cut off one past the limit.
 ghost use Rattle.std.specs.Prelude.{◌≡◌, map};
-ghost use Rattle.rng_model.specs.Names.{some_of};
-ghost use Rattle.rng_model.specs.Depth.{class_depth as depth_of_class};
-ghost use Rattle.rng_model.specs.View.{class_of};
-ghost use Rattle.rng_graph.specs.InTwos.{nested};
-ghost use Rattle.rng_graph.specs.DepthWith.{cut_off, one_more, depth_with};
-ghost use Rattle.rng_graph.specs.GraphView.{graph_pattern_of, graph_body_of};
-ghost use Rattle.rng_graph.specs.MemberDepths.{members_depth, depth_in, depth_at_spot};
+ghost use Rattle.rng_model.specs.names.Names.{some_of};
+ghost use Rattle.rng_model.specs.schema.Depth.{class_depth as depth_of_class};
+ghost use Rattle.rng_model.specs.names.NameViews.{class_of};
+ghost use Rattle.rng_graph.specs.plain.InTwos.{nested};
+ghost use Rattle.rng_graph.specs.plain.DepthWith.{cut_off, one_more, depth_with};
+ghost use Rattle.rng_graph.specs.views.GraphView.{graph_pattern_of, graph_body_of};
+ghost use Rattle.rng_graph.specs.plain.MemberDepths.{members_depth, depth_in, depth_at_spot};
 
 use crate::graph::{GraphBody, GraphPattern};
 use rng_model::NameClass;

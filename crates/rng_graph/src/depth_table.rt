@@ -1,9 +1,9 @@
 // How deep the trees of a schema are, each definition once.
 ghost use Rattle.std.specs.Prelude.{◌≡◌, ◌<◌, ◌⊎◌, length, All, IfOk, IsTrue, IsFalse};
-ghost use Rattle.rng_graph.specs.DepthWith.{depth_with};
-ghost use Rattle.rng_graph.specs.Graph.{IsDeepBy, IsFilledBy, IsOrderBy, Mentions, spot_depth};
-ghost use Rattle.rng_graph.specs.GraphView.{classes_of, graph_of};
-ghost use Rattle.rng_graph.specs.MemberDepths.{IsDeepElement, depth_in};
+ghost use Rattle.rng_graph.specs.plain.DepthWith.{depth_with};
+ghost use Rattle.rng_graph.specs.plain.Graph.{IsDeepBy, IsFilledBy, IsOrderBy, Mentions, spot_depth};
+ghost use Rattle.rng_graph.specs.views.GraphView.{classes_of, graph_of};
+ghost use Rattle.rng_graph.specs.plain.MemberDepths.{IsDeepElement, depth_in};
 
 use crate::depth::{DEPTH_LIMIT, body_depth, class_depth, definition_depth, pattern_depth};
 use crate::graph::{Graph, GraphElement};

@@ -1,14 +1,9 @@
 // Whether the definitions of a schema can be expanded, and whether what they expand to is too deep.
 ghost use Rattle.std.specs.Prelude.{IfErr, IfOk, OnOk};
-ghost use Rattle.rng_model.specs.Schema.{Schema};
-ghost use Rattle.rng_model.specs.SchemaClauses.{BreaksDepth, BreaksExpansion};
-ghost use Rattle.rng_graph.specs.ExpansionOrder.{
-  IsExpansionFault,
-  IsGraphOfSchema,
-  IsGraphOfSome,
-  IsWholeOrder,
-};
-ghost use Rattle.rng_graph.specs.GraphView.{graph_of};
+ghost use Rattle.rng_model.specs.schema.Schema.{Schema};
+ghost use Rattle.rng_model.specs.schema.SchemaClauses.{BreaksDepth, BreaksExpansion};
+ghost use Rattle.rng_graph.specs.views.ExpansionOrder.{IsExpansionFault, IsGraphOfSchema, IsGraphOfSome, IsWholeOrder};
+ghost use Rattle.rng_graph.specs.views.GraphView.{graph_of};
 
 use crate::depth_table::{depths, is_too_deep};
 use crate::graph::Graph;

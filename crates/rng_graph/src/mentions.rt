@@ -1,8 +1,8 @@
 // Which definitions the body of each mentions.
 ghost use Rattle.std.specs.Prelude.{◌≡◌, ◌++◌, map, IfOk, OnOk};
-ghost use Rattle.rng_graph.specs.GraphView.{graph_pattern_of, graph_body_of, graph_of};
-ghost use Rattle.rng_graph.specs.Mentioned.{mentioned, all_mentioned};
-ghost use Rattle.rng_graph.specs.Search.{lists};
+ghost use Rattle.rng_graph.specs.views.GraphView.{graph_pattern_of, graph_body_of, graph_of};
+ghost use Rattle.rng_graph.specs.plain.Mentioned.{mentioned, all_mentioned};
+ghost use Rattle.rng_graph.specs.plain.Search.{lists};
 
 use crate::graph::{Graph, GraphBody, GraphPattern};
 use std::alloc::{AllocError, Global};

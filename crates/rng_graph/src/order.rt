@@ -1,14 +1,6 @@
 // An order of numbers in which each comes after those that it mentions, or a number that leads to itself.
 ghost use Rattle.std.specs.Prelude.{◌≡◌, ◌+◌, ◌<◌, [], ◌∷◌, ◌++◌, length, map, slice_index_or, IfOk, OnOk};
-ghost use Rattle.rng_graph.specs.Search.{
-  AreMentionsBelow,
-  IsAnswer,
-  IsSearch,
-  IsStart,
-  IsStep,
-  lists,
-  weight,
-};
+ghost use Rattle.rng_graph.specs.plain.Search.{AreMentionsBelow, IsAnswer, IsSearch, IsStart, IsStep, lists, weight};
 ghost use Rattle.rng_graph.specs.declared.order.Task.TheVariants as task;
 
 use std::alloc::{AllocError, Global};

@@ -1,13 +1,13 @@
 // From the patterns of a schema to those of its graph.
 ghost use Rattle.std.specs.Prelude.{◌≡◌, IfOk, OnOk, map, option_map};
-ghost use Rattle.rng_model.specs.Patterns as schema;
-ghost use Rattle.rng_model.specs.SchemaView.{place_of, schema_pattern_of};
-ghost use Rattle.rng_model.specs.Types.{datatype_of};
-ghost use Rattle.rng_model.specs.View.{class_of};
-ghost use Rattle.rng_graph.specs.Connectors.{around, connector_of};
-ghost use Rattle.rng_graph.specs.Definitions.{definition_of, numbering_of};
-ghost use Rattle.rng_graph.specs.GraphView.{graph_pattern_of, members};
-ghost use Rattle.rng_graph.specs.Resolving.{looked_up, looked_up_outside, resolve, with_element, within};
+ghost use Rattle.rng_model.specs.schema.Patterns as schema;
+ghost use Rattle.rng_model.specs.views.SchemaView.{place_of, schema_pattern_of};
+ghost use Rattle.rng_model.specs.datatypes.DatatypeViews.{datatype_of};
+ghost use Rattle.rng_model.specs.names.NameViews.{class_of};
+ghost use Rattle.rng_graph.specs.views.Connectors.{around, connector_of};
+ghost use Rattle.rng_graph.specs.views.Definitions.{definition_of, numbering_of};
+ghost use Rattle.rng_graph.specs.views.GraphView.{graph_pattern_of, members};
+ghost use Rattle.rng_graph.specs.plain.Resolving.{looked_up, looked_up_outside, resolve, with_element, within};
 
 use crate::definitions::{Definition, Numbering, number};
 use crate::graph::{GraphElement, GraphPattern};
@@ -88,7 +88,7 @@ impl<'a> Scope<'a> {
     ///
     /// RELAX NG Specification, sections 4.18 and 4.19.
     #[cycle(resolving)]
-    #[tactic(auto, unfolding(crate::specs::Resolving::resolve))]
+    #[tactic(auto, unfolding(crate::specs::plain::Resolving::resolve))]
     pub(crate) fn pattern(
         &self,
         pattern: &'a SchemaPattern,
@@ -183,7 +183,7 @@ impl<'a> Scope<'a> {
     }
 
     /// A name of the grammar around, by its number; what allows nothing where there is none.
-    #[tactic(auto, unfolding(crate::specs::Resolving::looked_up_outside))]
+    #[tactic(auto, unfolding(crate::specs::plain::Resolving::looked_up_outside))]
     #[inline(never)]
     fn look_up_outside(
         &self,

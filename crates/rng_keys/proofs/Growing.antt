@@ -6,10 +6,10 @@ use Rattle.std.proofs.lemmas.Bool.{cases_lt}
 use Rattle.std.proofs.lemmas.List.{length-map}
 use Rattle.std.proofs.lemmas.Option.{none-some, same_Some, slice_get-map, slice_get_read, slice_get_within}
 use Rattle.std.proofs.lemmas.Slice.Eq.{bytes_eq-Decides}
-use Rattle.rng_model.specs.Names.{Name, NameClass, NameClasses, any_name, any_except, ns_except, name_is, classes_of, some_of}
-use Rattle.rng_names.specs.Written.{some_write_name, some_write_ns, writes_name, writes_ns}
+use Rattle.rng_model.specs.names.Names.{Name, NameClass, NameClasses, any_name, any_except, ns_except, name_is, classes_of, some_of}
+use Rattle.rng_names.specs.plain.Written.{some_write_name, some_write_ns, writes_name, writes_ns}
 use Rattle.rng_names.proofs.Holding.{same_name-Decides}
-use Rattle.rng_keys.specs.WrittenNames.{Grows, HasName, IsMeasured, Knows, Written}
+use Rattle.rng_keys.specs.plain.WrittenNames.{Grows, HasName, IsMeasured, Knows, Written}
 
 pub both_ok : {A E P Q R : Type 0} (r : Result A E) → (P → Q → R) → OnOk r P → OnOk r Q → OnOk r R
 both_ok (Ok x) f p q = f p q

@@ -7,13 +7,13 @@ use Rattle.std.proofs.Math.Bool.{and_comm}
 use Rattle.std.proofs.lemmas.List.{length-map, map-append}
 use Rattle.std.proofs.lemmas.Option.{slice_get-map}
 use Rattle.indexmap.specs.IndexSet.{insert_key}
-use Rattle.rng_model.specs.Names as names
-use Rattle.rng_model.specs.View.{name_of}
+use Rattle.rng_model.specs.names.Names as names
+use Rattle.rng_model.specs.names.NameViews.{name_of}
 use Rattle.rng_model.specs.declared.name.Name.{Name}
 use Rattle.rng_model.specs.contracts.name.NamePartialEq.TheImpl as same
-use Rattle.rng_names.specs.Holding.{same_name}
+use Rattle.rng_names.specs.plain.Holding.{same_name}
 use Rattle.rng_names.proofs.Holding.{same_name-Decides}
-use Rattle.rng_keys.specs.WrittenNames.{seen_numbers}
+use Rattle.rng_keys.specs.plain.WrittenNames.{seen_numbers}
 
 -- ---- names are compared by their bytes
 

@@ -9,13 +9,13 @@ use Rattle.std.proofs.lemmas.Bool.Decides.{Decides-like, same_from_decides}
 use Rattle.std.proofs.lemmas.List.Sums.{position_or_len_is}
 use Rattle.std.proofs.lemmas.Map.Keys.{IsDistinct-head, IsDistinct-tail}
 use Rattle.std.proofs.lemmas.Option.{get_or_from_slice_get, none-some, same_Some, slice_get-get_or, slice_get-map, slice_get_within}
-use Rattle.rng_model.specs.Names as names
-use Rattle.rng_model.specs.View.{name_of}
+use Rattle.rng_model.specs.names.Names as names
+use Rattle.rng_model.specs.names.NameViews.{name_of}
 use Rattle.rng_model.specs.declared.name.Name.{Name}
 use Rattle.rng_model.specs.contracts.name.NamePartialEq.TheImpl as same
-use Rattle.rng_names.specs.Holding.{same_name}
+use Rattle.rng_names.specs.plain.Holding.{same_name}
 use Rattle.rng_names.proofs.Holding.{same_name-Decides}
-use Rattle.rng_keys.specs.Keys.{key_of}
+use Rattle.rng_keys.specs.plain.Keys.{key_of}
 use Rattle.rng_keys.proofs.KeyLookups.{same_names}
 
 -- ---- no two of the names are the same

@@ -8,20 +8,20 @@ use Rattle.std.proofs.lemmas.Bool.Decides.{same_from_decides}
 use Rattle.std.proofs.lemmas.List.Quantifiers.{position-Some}
 use Rattle.std.proofs.lemmas.List.Sums.{fails_before_first}
 use Rattle.std.proofs.lemmas.Option.{slice_get_within, slice_get-map, get_or_from_slice_get, none-some, same_Some}
-use Rattle.rng_model.specs.Names.{Name, NameClass, In}
-use Rattle.rng_names.specs.Holding.{holds, pair, same_name}
-use Rattle.rng_names.specs.Written.{longest, writes_name, writes_ns}
+use Rattle.rng_model.specs.names.Names.{Name, NameClass, In}
+use Rattle.rng_names.specs.plain.Holding.{holds, pair, same_name}
+use Rattle.rng_names.specs.plain.Written.{longest, writes_name, writes_ns}
 use Rattle.rng_names.proofs.Fresh.{like_local, like_ns, like_unwritten}
 use Rattle.rng_names.proofs.Holding.{holds-Decides, same_name-Decides}
-use Rattle.rng_model.specs.Restrictions.{ClassIn}
-use Rattle.rng_model.specs.Table.{Table, grammar_of, tree_at}
-use Rattle.rng_model.specs.View.{class_of}
+use Rattle.rng_model.specs.restrictions.Restrictions.{ClassIn}
+use Rattle.rng_model.specs.simple.Table.{Table, grammar_of, tree_at}
+use Rattle.rng_model.specs.names.NameViews.{class_of}
 use Rattle.rng_model.specs.declared.name.NameClass as declared
 use Rattle.rng_model.specs.declared.simple.PatternId.{PatternId}
-use Rattle.rng_keys.specs.GrammarClasses.{attribute_class, element_class}
-use Rattle.rng_keys.specs.Keys.{AreKeys, IsClassOf, Keys, KeysServe, Serves, key_of, name_at, of_attribute, of_element}
-use Rattle.rng_keys.specs.KeyTables.{IsTold, ServesAll}
-use Rattle.rng_keys.specs.WrittenNames.{Knows, Written}
+use Rattle.rng_keys.specs.views.GrammarClasses.{attribute_class, element_class}
+use Rattle.rng_keys.specs.plain.Keys.{AreKeys, IsClassOf, Keys, KeysServe, Serves, key_of, name_at, of_attribute, of_element}
+use Rattle.rng_keys.specs.views.KeyTables.{IsTold, ServesAll}
+use Rattle.rng_keys.specs.plain.WrittenNames.{Knows, Written}
 
 -- a test that is not passed
 off : (b : Bool) → (b ≡ true → ⊥) → b ≡ false

@@ -6,10 +6,10 @@ use Rattle.std.specs.Option.{unwrap_or}
 use Rattle.std.proofs.lemmas.List.{length-map}
 use Rattle.std.proofs.lemmas.Option.{none-some, same_Some}
 use Rattle.std.proofs.lemmas.Slice.Eq.{bytes_eq-Decides}
-use Rattle.rng_names.specs.Holding.{pair}
-use Rattle.rng_keys.specs.Keys.{Keys}
-use Rattle.rng_keys.specs.KeyTables.{AddsOthers, HasOthers, IsTold, KeepsNames, StandsBeyond}
-use Rattle.rng_keys.specs.WrittenNames.{IsMeasured, Written, seen_numbers}
+use Rattle.rng_names.specs.plain.Holding.{pair}
+use Rattle.rng_keys.specs.plain.Keys.{Keys}
+use Rattle.rng_keys.specs.views.KeyTables.{AddsOthers, HasOthers, IsTold, KeepsNames, StandsBeyond}
+use Rattle.rng_keys.specs.plain.WrittenNames.{IsMeasured, Written, seen_numbers}
 use Rattle.rng_keys.proofs.Growing.{HoldsBefore, holds_on, holds_of_all}
 
 -- the first n of these namespaces have keys for their other names

@@ -1,4 +1,2 @@
-pub mod Keys
-pub mod GrammarClasses
-pub mod WrittenNames
-pub mod KeyTables
+pub mod plain
+pub mod views

@@ -1,8 +1,8 @@
 // The name classes of a grammar.
 ghost use Rattle.std.specs.Prelude.{◌≡◌, ◌≤◌, ℕ, IfOk, List, Option, Some, map, slice_get};
-ghost use Rattle.rng_model.specs.Names as names;
-ghost use Rattle.rng_names.specs.Written.{longest};
-ghost use Rattle.rng_keys.specs.GrammarClasses.{attribute_class, element_class, seen_class};
+ghost use Rattle.rng_model.specs.names.Names as names;
+ghost use Rattle.rng_names.specs.plain.Written.{longest};
+ghost use Rattle.rng_keys.specs.views.GrammarClasses.{attribute_class, element_class, seen_class};
 
 use rng_model::{ElementId, NameClass, OutOfMemory, PatternId, Simple, SimpleGrammar};
 use rng_names::longest;

@@ -1,7 +1,7 @@
 // Keys of names.
 ghost use Rattle.std.specs.Prelude.{◌≡◌, ◌<◌, ℕ, IfOk, length};
-ghost use Rattle.rng_model.specs.View.{name_of};
-ghost use Rattle.rng_keys.specs.Keys.{KeysServe, key_of, name_at};
+ghost use Rattle.rng_model.specs.names.NameViews.{name_of};
+ghost use Rattle.rng_keys.specs.plain.Keys.{KeysServe, key_of, name_at};
 
 use crate::classes::{attribute_classes, element_classes};
 use crate::tables::Tables;
@@ -24,8 +24,8 @@ pub struct NameKeys {
 }
 
 impl Model for NameKeys {
-    ghost use Rattle.rng_keys.specs.Keys.{AreKeys, Keys};
-    ghost use Rattle.rng_keys.specs.KeyTables.{keys_in};
+    ghost use Rattle.rng_keys.specs.plain.Keys.{AreKeys, Keys};
+    ghost use Rattle.rng_keys.specs.views.KeyTables.{keys_in};
 
     ghost Value = { Keys };
 

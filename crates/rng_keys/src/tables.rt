@@ -2,10 +2,10 @@
 ghost use Rattle.std.specs.Prelude.{◌≡◌, ◌<◌, ℕ, IfOk, List, OnOk, Option, Some, map, slice_get};
 ghost use Rattle.std.specs.Map.{lookup};
 ghost use Rattle.std.specs.Str.{bytes_eq};
-ghost use Rattle.rng_keys.specs.GrammarClasses.{seen_class};
-ghost use Rattle.rng_keys.specs.Keys.{AreKeys};
-ghost use Rattle.rng_keys.specs.KeyTables.{AddsOthers, IsTold, ServesAll, keys_in};
-ghost use Rattle.rng_keys.specs.WrittenNames.{written_in};
+ghost use Rattle.rng_keys.specs.views.GrammarClasses.{seen_class};
+ghost use Rattle.rng_keys.specs.plain.Keys.{AreKeys};
+ghost use Rattle.rng_keys.specs.views.KeyTables.{AddsOthers, IsTold, ServesAll, keys_in};
+ghost use Rattle.rng_keys.specs.plain.WrittenNames.{written_in};
 
 use crate::classes::longest_among;
 use crate::texts::{copied, note, number_of, put};

@@ -2,10 +2,10 @@
 ghost use Rattle.std.specs.Prelude.{◌≡◌, ℕ, IfOk, List, OnOk, Option, Some, map, position, slice_get, string_bytes};
 ghost use Rattle.std.specs.Map.{lookup, update};
 ghost use Rattle.std.specs.Str.{bytes_eq};
-ghost use Rattle.rng_model.specs.Names as names;
-ghost use Rattle.rng_model.specs.View.{name_of};
-ghost use Rattle.rng_names.specs.Holding.{pair, same_name};
-ghost use Rattle.rng_keys.specs.WrittenNames.{seen_numbers};
+ghost use Rattle.rng_model.specs.names.Names as names;
+ghost use Rattle.rng_model.specs.names.NameViews.{name_of};
+ghost use Rattle.rng_names.specs.plain.Holding.{pair, same_name};
+ghost use Rattle.rng_keys.specs.plain.WrittenNames.{seen_numbers};
 
 use indexmap::{IndexMap, IndexSet};
 use rng_model::{Name, OutOfMemory};

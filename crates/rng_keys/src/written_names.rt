@@ -2,10 +2,10 @@
 ghost use Rattle.std.specs.Prelude.{◌≡◌, ◌≤◌, ℕ, IfOk, OnOk, Option, Some, map, slice_get};
 ghost use Rattle.std.specs.Map.{lookup};
 ghost use Rattle.std.specs.Str.{bytes_eq};
-ghost use Rattle.rng_model.specs.Names as names;
-ghost use Rattle.rng_model.specs.View.{class_of, name_of};
-ghost use Rattle.rng_keys.specs.GrammarClasses.{seen_class};
-ghost use Rattle.rng_keys.specs.WrittenNames.{Grows, Knows, written_in};
+ghost use Rattle.rng_model.specs.names.Names as names;
+ghost use Rattle.rng_model.specs.names.NameViews.{class_of, name_of};
+ghost use Rattle.rng_keys.specs.views.GrammarClasses.{seen_class};
+ghost use Rattle.rng_keys.specs.plain.WrittenNames.{Grows, Knows, written_in};
 
 use crate::texts::{copied, note, number_of, put};
 use indexmap::{IndexMap, IndexSet};

@@ -6,19 +6,19 @@ use Rattle.std.specs.Map.{lookup}
 use Rattle.std.specs.Str.{bytes_eq}
 use Rattle.std.proofs.lemmas.Slice.Eq.{bytes_eq-Decides}
 use Rattle.indexmap.specs.IndexMap.{insert_entry}
-use Rattle.rng_model.specs.Lists.{Among, here, there}
-use Rattle.rng_model.specs.Patterns.{Place}
-use Rattle.rng_model.specs.Schema as schema
-use Rattle.rng_model.specs.SchemaView.{place_eq, place_of}
+use Rattle.rng_model.specs.names.Lists.{Among, here, there}
+use Rattle.rng_model.specs.schema.Patterns.{Place}
+use Rattle.rng_model.specs.schema.Schema as schema
+use Rattle.rng_model.specs.views.SchemaView.{place_eq, place_of}
 use Rattle.rng_model.specs.declared.place.Place as declared
 use Rattle.rng_model.proofs.SamePlaces.{same_place}
-use Rattle.rnc_grammar.specs.FileTree as tree
-use Rattle.rnc_grammar.specs.FileTree.{FileTree}
-use Rattle.rng_load.specs.FoundGrammars.{IsFound, CanBeRead, IsGrammarAt, HasGathered, AreRight, IsComplete, AreMore, gathered_at, nested_in}
-use Rattle.rng_load.specs.Loading.{TakenFiles, tree_in}
-use Rattle.rng_load.specs.MentionPaths.{path_limit}
-use Rattle.rng_load.specs.PlacedGrammars.{PlacedGrammar, PlacedGrammars, grammar_of, grammar_at, outer_if, schema_with}
-use Rattle.rng_load.specs.Places.{Gathered, Gathers, HasGrammar, main_is, nested_is, Nested, IsSchemaOf}
+use Rattle.rnc_model.specs.declarations.FileTree as tree
+use Rattle.rnc_model.specs.declarations.FileTree.{FileTree}
+use Rattle.rng_load.specs.plain.FoundGrammars.{IsFound, CanBeRead, IsGrammarAt, HasGathered, AreRight, IsComplete, AreMore, gathered_at, nested_in}
+use Rattle.rnc_model.specs.loading.Loading.{TakenFiles, tree_in}
+use Rattle.rnc_model.specs.loading.MentionPaths.{path_limit}
+use Rattle.rng_load.specs.views.PlacedGrammars.{PlacedGrammar, PlacedGrammars, grammar_of, grammar_at, outer_if, schema_with}
+use Rattle.rnc_model.specs.loading.Places.{Gathered, Gathers, HasGrammar, main_is, nested_is, Nested, IsSchemaOf}
 use Rattle.rng_load.specs.declared.schema.Grammar.{Grammar}
 use Rattle.rng_load.proofs.NameLists.{in_cons, in_either, in_none, false_true}
 use Rattle.rng_load.proofs.OneGrammar.{one_grammar}

@@ -9,14 +9,14 @@ use Rattle.std.specs.Map.{lookup, values_of}
 use Rattle.std.specs.Prelude.{not}
 use Rattle.std.specs.Str.{bytes_eq}
 use Rattle.std.proofs.lemmas.List.{map_more, take-append-drop, map-append, take_all}
-use Rattle.rng_model.specs.Lists.{Among, here}
+use Rattle.rng_model.specs.names.Lists.{Among, here}
 use Rattle.rnc_grammar.specs.declared.file_tree.FileTree as declared
-use Rattle.rnc_grammar.specs.FileTree as tree
-use Rattle.rnc_grammar.specs.FileTree.{FileTree, Mention, grammar_of}
-use Rattle.rnc_grammar.specs.View.{file_of}
-use Rattle.rng_load.specs.Loading.{TakenFiles, tree_in, BreaksInclude, no_grammar, nothing_to_override}
-use Rattle.rng_load.specs.GrammarNames.{HasName}
-use Rattle.rng_load.specs.SchemaFile.{Name}
+use Rattle.rnc_model.specs.declarations.FileTree as tree
+use Rattle.rnc_model.specs.declarations.FileTree.{FileTree, Mention, grammar_of}
+use Rattle.rnc_grammar.specs.views.View.{file_of}
+use Rattle.rnc_model.specs.loading.Loading.{TakenFiles, tree_in, BreaksInclude, no_grammar, nothing_to_override}
+use Rattle.rnc_model.specs.loading.GrammarNames.{HasName}
+use Rattle.rnc_model.specs.loading.SchemaFile.{Name}
 use Rattle.rng_load.proofs.MentionedNames.{tree_found}
 use Rattle.rng_load.proofs.NameLists.{some_is, in_none, in_left, in_right, in_more, in_map, from_map}
 use Rattle.rng_load.proofs.ReadInOrder.{entries_of}

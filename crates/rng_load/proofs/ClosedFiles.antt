@@ -4,11 +4,11 @@ use Rattle.std.proofs.Common.{append-nil, Some, None, Option, fold}
 use Rattle.std.specs.Str.{bytes_eq}
 use Rattle.std.proofs.lemmas.List.{length-append, length-map}
 use Rattle.std.proofs.lemmas.Slice.Eq.{bytes_eq-Decides}
-use Rattle.rng_model.specs.Lists.{Among, here, there}
-use Rattle.rnc_grammar.specs.FileTree.{FileTree}
-use Rattle.rng_load.specs.Loading.{TakenFiles, with_name, hrefs_of, hrefs_if, tree_in, IsTaken, none_yet, one_more, AreTaken}
+use Rattle.rng_model.specs.names.Lists.{Among, here, there}
+use Rattle.rnc_model.specs.declarations.FileTree.{FileTree}
+use Rattle.rnc_model.specs.loading.Loading.{TakenFiles, with_name, hrefs_of, hrefs_if, tree_in, IsTaken, none_yet, one_more, AreTaken}
 use Rattle.rng_load.proofs.PlainReading.{AreClosed, found_among}
-use Rattle.rng_load.specs.SchemaFile.{Name, NamedFile}
+use Rattle.rnc_model.specs.loading.SchemaFile.{Name, NamedFile}
 use Rattle.rng_load.proofs.NameLists.{false_true, in_cons, in_none, in_more}
 use Rattle.rng_load.proofs.TakenFiles.{is_order, first_of, kept_name, added_name}
 

@@ -8,10 +8,10 @@ use Rattle.std.proofs.lemmas.Slice.Eq.{bytes_eq-Decides}
 use Rattle.std.proofs.lemmas.List.{map_more, take-append-drop, map-append, take_all}
 use Rattle.rng_load.specs.declared.paths.Mark.{Mark}
 use Rattle.rng_load.specs.declared.paths.Mark.TheVariants.{Open, Counted}
-use Rattle.rng_model.specs.Lists.{Among, here}
-use Rattle.rng_load.specs.MentionPaths.{directly, through, path_limit}
-use Rattle.rng_load.specs.SchemaFile.{Name}
-use Rattle.rng_load.specs.Counting.{Marks, HasFewPaths, HasPaths, has, HavePaths, have_none, long_more, StopsAt, AreCounted, IsMarked, AreMore}
+use Rattle.rng_model.specs.names.Lists.{Among, here}
+use Rattle.rnc_model.specs.loading.MentionPaths.{directly, through, path_limit}
+use Rattle.rnc_model.specs.loading.SchemaFile.{Name}
+use Rattle.rng_load.specs.plain.Counting.{Marks, HasFewPaths, HasPaths, has, HavePaths, have_none, long_more, StopsAt, AreCounted, IsMarked, AreMore}
 use Rattle.rng_load.proofs.NameLists.{in_left, in_right}
 use Rattle.rng_load.proofs.CountedPaths.{have_next, breaks_up, sum_breaks}
 

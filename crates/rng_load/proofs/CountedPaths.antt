@@ -1,10 +1,10 @@
 -- A file that has a number of paths: nothing goes round, and no more paths are found however far one looks.
 use Rattle.std.proofs.Common.{◌≡◌, refl, sym, subst, ap, ◌∙◌, ℕ, zero, suc, ◌+◌, ◌<◌, ◌≤◌, List, [], ◌∷◌, ◌++◌, length, map, arith, inl, inr}
 use Rattle.std.proofs.lemmas.List.{length-append, length-map}
-use Rattle.rng_model.specs.Lists.{Among, here, there}
-use Rattle.rng_load.specs.MentionPaths.{Path, Mentions, directly, through, IsCyclic, path_limit}
-use Rattle.rng_load.specs.SchemaFile.{Name}
-use Rattle.rng_load.specs.Counting.{paths, paths_along, Breaks, HasPaths, has, HavePaths, have_none, have_more, IsLong, long_end, long_more}
+use Rattle.rng_model.specs.names.Lists.{Among, here, there}
+use Rattle.rnc_model.specs.loading.MentionPaths.{Path, Mentions, directly, through, IsCyclic, path_limit}
+use Rattle.rnc_model.specs.loading.SchemaFile.{Name}
+use Rattle.rng_load.specs.plain.Counting.{paths, paths_along, Breaks, HasPaths, has, HavePaths, have_none, have_more, IsLong, long_end, long_more}
 use Rattle.rng_load.proofs.NameLists.{in_none}
 
 -- a sum over names

@@ -1,6 +1,6 @@
 -- Lists in which nothing stands twice, put together from others.
 use Rattle.std.proofs.Common.{◌≡◌, subst, sym, List, [], ◌∷◌, ◌++◌, map, inl, inr}
-use Rattle.rng_model.specs.Lists.{Among, here, there, HasTwice, at_first, later}
+use Rattle.rng_model.specs.names.Lists.{Among, here, there, HasTwice, at_first, later}
 use Rattle.rng_load.proofs.NameLists.{none_twice, in_either, from_map}
 
 module _ {A : Type 0} where

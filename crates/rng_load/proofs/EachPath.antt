@@ -1,10 +1,10 @@
 -- The lists of paths hold each path of so many steps, once.
 use Rattle.std.proofs.Common.{◌≡◌, refl, sym, subst, ap, ◌∙◌, ℕ, zero, suc, ◌+◌, ◌<◌, ◌≤◌, arith, inl, inr, Some, None}
 use Rattle.std.proofs.Common.{List, [], ◌∷◌, length, map, slice_get}
-use Rattle.rng_model.specs.Lists.{Among, there, HasTwice}
-use Rattle.rng_load.specs.MentionPaths.{Path, IsPath, path_ends, path_goes_on, HasMorePathsThan, BreaksMentions, path_limit}
-use Rattle.rng_load.specs.SchemaFile.{Name}
-use Rattle.rng_load.specs.Counting.{paths, paths_along, Breaks}
+use Rattle.rng_model.specs.names.Lists.{Among, there, HasTwice}
+use Rattle.rnc_model.specs.loading.MentionPaths.{Path, IsPath, path_ends, path_goes_on, HasMorePathsThan, BreaksMentions, path_limit}
+use Rattle.rnc_model.specs.loading.SchemaFile.{Name}
+use Rattle.rng_load.specs.plain.Counting.{paths, paths_along, Breaks}
 use Rattle.rng_load.proofs.NameLists.{some_is, none_twice, in_cons, in_none, in_left, in_right, in_either, in_first, in_map, from_map, no_more}
 use Rattle.rng_load.proofs.DistinctLists.{differ_cons, differ_append, differ_map}
 

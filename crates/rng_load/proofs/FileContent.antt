@@ -1,22 +1,26 @@
 -- What each layer that reads a file says of its bytes.
 use Rattle.std.proofs.Common.{◌≡◌, ℕ, List, Ok, Err, IfSome, refl, sym, ap, subst, ◌∙◌, arith, inl, inr}
-use Rattle.rnc_text.specs.declared.character.Character.{Character}
+use Rattle.rnc_model.specs.declared.character.Character.{Character}
 use Rattle.rnc_text.specs.declared.fault.TextFault.{TextFault}
 use Rattle.rnc_text.specs.declared.fault.TextFault.TheVariants as texts
-use Rattle.rnc_text.specs.Answers.{GivesOk, GivesFault, IfBroken}
-use Rattle.rnc_text.specs.Cut.{Token, HasTokens, BreaksTokensAt}
-use Rattle.rnc_text.specs.Decoding.{IsDecoded, BreaksTextAt}
+use Rattle.rnc_text.specs.views.Answers.{GivesOk, GivesFault, IfBroken}
+use Rattle.rnc_model.specs.tokens.Cut.{Token, HasTokens, BreaksTokensAt}
+use Rattle.rnc_model.specs.characters.Decoding.{IsDecoded, BreaksTextAt}
 use Rattle.rnc_grammar.specs.declared.fault.ParseFault.{ParseFault}
 use Rattle.rnc_grammar.specs.declared.fault.ParseFault.TheVariants as parses
 use Rattle.rnc_grammar.specs.declared.file_tree.FileTree as declared
-use Rattle.rnc_grammar.specs.FileTree.{FileTree}
-use Rattle.rnc_grammar.specs.Lexeme.{Lexeme, lexemes}
-use Rattle.rnc_grammar.specs.Parsing.{BreaksGrammarAt, BreaksNesting, BreaksDeclarations, IsFileTree, IsFaultOf, NestsWithin, nesting_limit}
-use Rattle.rnc_grammar.specs.Parsing as parsing
-use Rattle.rnc_grammar.specs.View.{file_of}
-use Rattle.rng_load.specs.FileFaults.{fault_of_text, fault_of_parse, verdict_of}
-use Rattle.rng_load.specs.SchemaFile.{AreTokensOf, BreaksClause, not_utf8, bad_characters, bad_tokens, no_sentence, too_deep, bad_declarations}
-use Rattle.rng_load.specs.SchemaFile.{IsSchemaFile, FileVerdict, breaks, has_tree, IsContentVerdict, IsTheContentVerdict}
+use Rattle.rnc_model.specs.declarations.FileTree.{FileTree}
+use Rattle.rnc_model.specs.tokens.Lexeme.{Lexeme, lexemes}
+use Rattle.rnc_model.specs.grammar.Sentence.{BreaksGrammarAt, BreaksNesting, NestsWithin, nesting_limit}
+use Rattle.rnc_model.specs.declarations.Parsing.{BreaksDeclarations, IsFileTree}
+use Rattle.rnc_grammar.specs.views.ParsingFaults.{IsFaultOf}
+use Rattle.rng_model.specs.plain.Answers as answers
+use Rattle.rnc_model.specs.grammar.Sentence as parsing_sentence
+use Rattle.rnc_grammar.specs.views.ParsingFaults as parsing_faults
+use Rattle.rnc_grammar.specs.views.View.{file_of}
+use Rattle.rng_load.specs.views.FileFaults.{fault_of_text, fault_of_parse, verdict_of}
+use Rattle.rnc_model.specs.loading.SchemaFile.{AreTokensOf, BreaksClause, not_utf8, bad_characters, bad_tokens, no_sentence, too_deep, bad_declarations}
+use Rattle.rnc_model.specs.loading.SchemaFile.{IsSchemaFile, FileVerdict, breaks, has_tree, IsContentVerdict, IsTheContentVerdict}
 
 -- ---- characters
 
@@ -132,7 +136,7 @@ not_both : (ts : List Lexeme) → NestsWithin nesting_limit ts → BreaksNesting
 not_both ts within (k, beyond) = let e = within k in omega arith
 
 -- tokens that are stuck are no sentence
-not_stuck : (ts : List Lexeme) (number : ℕ) → BreaksGrammarAt ts number → parsing.IsSentence ts → ⊥
+not_stuck : (ts : List Lexeme) (number : ℕ) → BreaksGrammarAt ts number → parsing_sentence.IsSentence ts → ⊥
 not_stuck ts number b is = b.stuck.stuck ts ((λ within. refl), (λ beyond. refl)) is
 
 -- the tree of a file is one of its tokens
@@ -166,15 +170,15 @@ declarations_only ts k eight b j (nesting n e) = absurd (not_both ts b.nesting n
 declarations_only ts k eight b j (declarations d e) = eight ∙ sym e
 
 -- no tree is answered where a fault is
-no_tree_at : (k number : ℕ) (t : FileTree) → parsing.Gives parsing.unless_memory file_of (Err (parses.At k number)) (Ok t) → ⊥
+no_tree_at : (k number : ℕ) (t : FileTree) → answers.Gives parsing_faults.unless_memory file_of (Err (parses.At k number)) (Ok t) → ⊥
 no_tree_at k number t g = absurd (cc)
 
-no_tree_clause : (k : ℕ) (t : FileTree) → parsing.Gives parsing.unless_memory file_of (Err (parses.Clause k)) (Ok t) → ⊥
+no_tree_clause : (k : ℕ) (t : FileTree) → answers.Gives parsing_faults.unless_memory file_of (Err (parses.Clause k)) (Ok t) → ⊥
 no_tree_clause k t g = absurd (cc)
 
 -- a fault of the grammar is a broken clause, unless memory ran out
 pub parse_fault : (bytes : List ℕ) (ts : List Token) (x : ParseFault) → Lexed bytes ts → IsFaultOf (lexemes ts) x →
-    ((t : FileTree) → IsFileTree (lexemes ts) t → parsing.Gives parsing.unless_memory file_of (Err x) (Ok t))
+    ((t : FileTree) → IsFileTree (lexemes ts) t → answers.Gives parsing_faults.unless_memory file_of (Err x) (Ok t))
     → IfSome (verdict_of (Err (fault_of_parse x))) (IsTheContentVerdict bytes)
 parse_fault bytes ts parses.Memory l b none = tt
 parse_fault bytes ts (parses.At k number) l b none =
@@ -186,8 +190,8 @@ parse_fault bytes ts (parses.Clause k) l (inr (e, b)) none =
 
 -- a tree that was read is all that the file is
 pub parsed : (bytes : List ℕ) (ts : List Token) (x : declared.FileTree) → Lexed bytes ts → IsFileTree (lexemes ts) (file_of x) →
-    ((t : FileTree) → IsFileTree (lexemes ts) t → parsing.Gives parsing.unless_memory file_of (Ok x) (Ok t))
-    → (BreaksDeclarations (lexemes ts) → parsing.Gives parsing.unless_memory file_of (Ok x) (Err (parses.Clause 8))) →
+    ((t : FileTree) → IsFileTree (lexemes ts) t → answers.Gives parsing_faults.unless_memory file_of (Ok x) (Ok t))
+    → (BreaksDeclarations (lexemes ts) → answers.Gives parsing_faults.unless_memory file_of (Ok x) (Err (parses.Clause 8))) →
     IsTheContentVerdict bytes (has_tree (file_of x))
 parsed bytes ts x l is one none = record { is = record { tokens = ts; are = l.is; tree = is }; only = only } where
   no_clause : (j : ℕ) → BreaksSentence (lexemes ts) j → ⊥

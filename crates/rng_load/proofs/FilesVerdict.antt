@@ -1,10 +1,10 @@
 -- The verdict on all files, from what is known once each is read.
 use Rattle.std.proofs.Common.{◌≡◌, refl, sym, subst, ap, ℕ, List}
-use Rattle.rng_load.specs.MentionPaths.{BreaksMentions}
-use Rattle.rng_load.specs.Loading.{TakenFiles, hrefs_in, BreaksIncludes, BreaksTogether, mentions_break, includes_break, FilesVerdict, file_breaks}
-use Rattle.rng_load.specs.Loading.{together_break, are_taken, IsFilesVerdict, IsTheFilesVerdict}
-use Rattle.rng_load.specs.LoadingFaults.{IsTheReading}
-use Rattle.rng_load.specs.SchemaFile.{Name, NamedFile}
+use Rattle.rnc_model.specs.loading.MentionPaths.{BreaksMentions}
+use Rattle.rnc_model.specs.loading.Loading.{TakenFiles, hrefs_in, BreaksIncludes, BreaksTogether, mentions_break, includes_break, FilesVerdict, file_breaks}
+use Rattle.rnc_model.specs.loading.Loading.{together_break, are_taken, IsFilesVerdict, IsTheFilesVerdict}
+use Rattle.rng_load.specs.views.LoadingFaults.{IsTheReading}
+use Rattle.rnc_model.specs.loading.SchemaFile.{Name, NamedFile}
 
 same_files : {r s : TakenFiles} → are_taken r ≡ are_taken s → r ≡ s
 same_files e = cc

@@ -1,9 +1,9 @@
 -- The components of a file that is included.
 use Rattle.std.proofs.Common.{◌≡◌, ◌∙◌, sym, subst, ap, ℕ, zero, suc, ◌-◌, ◌<◌, List, ◌∷◌, Option, Some, arith}
-use Rattle.rnc_grammar.specs.FileTree as tree
-use Rattle.rnc_grammar.specs.FileTree.{FileTree}
-use Rattle.rng_load.specs.Places.{Way}
-use Rattle.rng_load.specs.PlainReading.{included_with, gather_at, gather_below}
+use Rattle.rnc_model.specs.declarations.FileTree as tree
+use Rattle.rnc_model.specs.declarations.FileTree.{FileTree}
+use Rattle.rnc_model.specs.loading.Places.{Way}
+use Rattle.rng_load.specs.plain.PlainReading.{included_with, gather_at, gather_below}
 
 module _ (files : List ℕ → Option FileTree) where
   one_level_less : (levels : ℕ) (v : List ℕ) (x : Way) (k : ℕ) (cs : tree.Components) → 0 < levels

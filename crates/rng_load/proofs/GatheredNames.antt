@@ -7,17 +7,17 @@ use Rattle.std.specs.List.{flat_map, list_any}
 use Rattle.std.specs.Bool.{IsTrue}
 use Rattle.std.specs.Map.{lookup}
 use Rattle.std.specs.Str.{bytes_eq}
-use Rattle.rng_model.specs.Lists.{Among, here, there, HasTwice}
+use Rattle.rng_model.specs.names.Lists.{Among, here, there, HasTwice}
 use Rattle.rnc_grammar.specs.declared.file_tree.FileTree as declared
-use Rattle.rnc_grammar.specs.FileTree as tree
-use Rattle.rnc_grammar.specs.FileTree.{FileTree}
-use Rattle.rnc_grammar.specs.View.{file_of}
-use Rattle.rnc_grammar.specs.Mentions.{MentionedFile, mention_of, mentions_of_component, mentions_of_components}
+use Rattle.rnc_model.specs.declarations.FileTree as tree
+use Rattle.rnc_model.specs.declarations.FileTree.{FileTree}
+use Rattle.rnc_grammar.specs.views.View.{file_of}
+use Rattle.rnc_model.specs.loading.Mentions.{MentionedFile, mention_of, mentions_of_component, mentions_of_components}
 use Rattle.std.proofs.lemmas.List.{map-append, take_all, take-append-le, length-map}
-use Rattle.rng_load.specs.ComponentNames.{Names, gather, gather_component, gather_if, HasIt, no_names}
-use Rattle.rng_load.specs.Loading.{TakenFiles, with_name, tree_in, grammar_if, grammar_in, hrefs_of}
-use Rattle.rng_load.specs.GrammarNames.{HasName, NamesIt, of_first, of_later, of_start, of_define, of_div, of_braces, of_file}
-use Rattle.rng_load.specs.SchemaFile.{Name}
+use Rattle.rng_load.specs.plain.ComponentNames.{Names, gather, gather_component, gather_if, HasIt, no_names}
+use Rattle.rnc_model.specs.loading.Loading.{TakenFiles, with_name, tree_in, grammar_if, grammar_in, hrefs_of}
+use Rattle.rnc_model.specs.loading.GrammarNames.{HasName, NamesIt, of_first, of_later, of_start, of_define, of_div, of_braces, of_file}
+use Rattle.rnc_model.specs.loading.SchemaFile.{Name}
 use Rattle.rng_load.proofs.MentionedNames.{tree_found}
 use Rattle.rng_load.proofs.NameLists.{some_is, any_in, in_any, from_map, false_true, in_cons, in_none, in_first, in_left, in_right, in_at, none_twice, no_more}
 use Rattle.rng_load.proofs.TakenFiles.{kept_name, added_name, name_origin, name_grows, name_differs}

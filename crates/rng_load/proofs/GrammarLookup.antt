@@ -2,10 +2,10 @@
 use Rattle.std.proofs.Common.{◌≡◌, ap, ◌∙◌, List, Option, Some, None, option_map, map, Bor}
 use Rattle.std.specs.Option.{option_copied}
 use Rattle.std.specs.Map.{lookup}
-use Rattle.rng_model.specs.SchemaView.{place_eq, place_of}
+use Rattle.rng_model.specs.views.SchemaView.{place_eq, place_of}
 use Rattle.rng_model.specs.declared.place.Place as declared
 use Rattle.rng_model.proofs.SamePlaces.{lookup_place_seen}
-use Rattle.rng_load.specs.PlacedGrammars.{grammar_at, grammar_of}
+use Rattle.rng_load.specs.views.PlacedGrammars.{grammar_at, grammar_of}
 use Rattle.rng_load.specs.declared.schema.Grammar.{Grammar}
 
 pub grammar_found : (es : List (declared.Place × Grammar)) (k : declared.Place) (o : Option (Bor Grammar)) → option_copied o ≡ lookup (place_eq k) es

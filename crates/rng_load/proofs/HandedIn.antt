@@ -6,15 +6,15 @@ use Rattle.std.specs.Global.{Global}
 use Rattle.std.specs.Option.{is_some}
 use Rattle.std.specs.Prelude.{MatchOption}
 use Rattle.std.proofs.lemmas.List.{map_more, take-append-drop, map-append, take_all, length-map}
-use Rattle.rng_load.specs.FilesView.{named_files}
+use Rattle.rnc_model.specs.loading.Files.{named_files}
 use Rattle.rnc_grammar.specs.declared.file_tree.FileTree as declared
 use Rattle.rng_load.specs.declared.fault.FileFault.{FileFault}
 use Rattle.rng_load.specs.declared.fault.FileFault.TheVariants as faults
-use Rattle.rng_load.specs.FileFaults.{verdict_of}
-use Rattle.rng_model.specs.Lists.{Among, here, there, HasTwo, first_and, both_later}
-use Rattle.rng_load.specs.SchemaFile.{Name, NamedFile, FileVerdict, breaks, has_tree, IsMissing, IsHandedInTwice, IsHandedIn, BreaksLimit, BreaksOwn}
-use Rattle.rng_load.specs.SchemaFile.{missing, handed_in_twice, too_large, bad_content, BreaksClause, IsFileVerdict, IsTheFileVerdict}
-use Rattle.rng_load.specs.SchemaFile.{IsContentVerdict, IsTheContentVerdict}
+use Rattle.rng_load.specs.views.FileFaults.{verdict_of}
+use Rattle.rng_model.specs.names.Lists.{Among, here, there, HasTwo, first_and, both_later}
+use Rattle.rnc_model.specs.loading.SchemaFile.{Name, NamedFile, FileVerdict, breaks, has_tree, IsMissing, IsHandedInTwice, IsHandedIn, BreaksLimit, BreaksOwn}
+use Rattle.rnc_model.specs.loading.SchemaFile.{missing, handed_in_twice, too_large, bad_content, BreaksClause, IsFileVerdict, IsTheFileVerdict}
+use Rattle.rnc_model.specs.loading.SchemaFile.{IsContentVerdict, IsTheContentVerdict}
 use Rattle.rng_load.proofs.NameLists.{in_none, in_cons, in_left, in_right, in_more}
 
 module _ {A : Type 0} (P : A → A → Type 0) where

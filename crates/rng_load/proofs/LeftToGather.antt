@@ -1,10 +1,10 @@
 -- What is left to gather where a call of the reader begins.
 use Rattle.std.proofs.Common.{◌≡◌, ℕ, ◌+◌, ◌-◌, ◌*◌, ◌<◌, List, map, length, get_or, Some}
-use Rattle.rnc_grammar.specs.FileTree as tree
-use Rattle.rnc_grammar.specs.FileTree.{components_of}
-use Rattle.rng_load.specs.FilesView.{taken_files_of}
-use Rattle.rng_load.specs.Loading.{grammar_if}
-use Rattle.rng_load.specs.ReadPatterns.{files_in}
+use Rattle.rnc_model.specs.declarations.FileTree as tree
+use Rattle.rnc_model.specs.declarations.FileTree.{components_of}
+use Rattle.rng_load.specs.views.FilesView.{taken_files_of}
+use Rattle.rnc_model.specs.loading.Loading.{grammar_if}
+use Rattle.rng_load.specs.views.ReadPatterns.{files_in}
 use Rattle.rng_load.specs.declared.reading_patterns.TreeReader.{TreeReader}
 use Rattle.rng_load.proofs.LeftToRead.{left_in, below_four}
 use Rattle.rng_load.proofs.TreeSizes.{size_of_all, size_of_component, size_of_components, component_smaller, falls_inside, falls_at_mention}

@@ -1,9 +1,9 @@
 -- What is left to read where a call of the reader begins.
 use Rattle.std.proofs.Common.{◌≡◌, ℕ, ◌+◌, ◌-◌, ◌*◌, ◌<◌, List, map, length, get_or, Some, arith}
-use Rattle.rnc_grammar.specs.FileTree as tree
-use Rattle.rnc_grammar.specs.FileTree.{pattern_file, patterns_of}
-use Rattle.rng_load.specs.FilesView.{taken_files_of}
-use Rattle.rng_load.specs.ReadPatterns.{files_in}
+use Rattle.rnc_model.specs.declarations.FileTree as tree
+use Rattle.rnc_model.specs.declarations.FileTree.{pattern_file, patterns_of}
+use Rattle.rng_load.specs.views.FilesView.{taken_files_of}
+use Rattle.rng_load.specs.views.ReadPatterns.{files_in}
 use Rattle.rng_load.specs.declared.reading_patterns.TreeReader.{TreeReader}
 use Rattle.rng_load.proofs.TreeSizes.{left_to_read, size, size_of_all, size_of_patterns, pattern_smaller, falls_inside, falls_at_mention}
 use Rattle.rng_load.proofs.TreeSizes.{pattern_of_file_fits}

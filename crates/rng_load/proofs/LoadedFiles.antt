@@ -1,13 +1,13 @@
 -- Files that break no clause can be read.
 use Rattle.std.proofs.Common.{◌≡◌, refl, List, Option, Some, None, option_map, Bor}
 use Rattle.std.specs.Option.{IsSome}
-use Rattle.rnc_grammar.specs.View.{file_of}
+use Rattle.rnc_grammar.specs.views.View.{file_of}
 use Rattle.rnc_grammar.specs.declared.file_tree.FileTree as declared
-use Rattle.rnc_grammar.specs.FileTree.{FileTree}
-use Rattle.rng_load.specs.FoundGrammars.{CanBeRead}
-use Rattle.rng_load.specs.Loading.{BreaksIncludes, IsTheFilesVerdict, TakenFiles, are_taken, hrefs_in, includes_break, mentions_break, tree_in}
-use Rattle.rng_load.specs.MentionPaths.{BreaksMentions}
-use Rattle.rng_load.specs.SchemaFile.{Name, NamedFile}
+use Rattle.rnc_model.specs.declarations.FileTree.{FileTree}
+use Rattle.rng_load.specs.plain.FoundGrammars.{CanBeRead}
+use Rattle.rnc_model.specs.loading.Loading.{BreaksIncludes, IsTheFilesVerdict, TakenFiles, are_taken, hrefs_in, includes_break, mentions_break, tree_in}
+use Rattle.rnc_model.specs.loading.MentionPaths.{BreaksMentions}
+use Rattle.rnc_model.specs.loading.SchemaFile.{Name, NamedFile}
 use Rattle.rng_load.proofs.ClosedFiles.{are_closed, main_there}
 use Rattle.rng_load.proofs.PlainReading.{main_readable}
 

@@ -7,11 +7,11 @@ use Rattle.std.specs.Str.{bytes_eq}
 use Rattle.std.proofs.lemmas.List.{take_all}
 use Rattle.rnc_grammar.specs.declared.file_tree.FileTree as declared
 use Rattle.rnc_grammar.specs.declared.mentions.MentionedFile as mentioned
-use Rattle.rnc_grammar.specs.FileTree.{FileTree}
-use Rattle.rnc_grammar.specs.Mentions.{mention_of, mentions_of}
-use Rattle.rnc_grammar.specs.View.{file_of, mentioned_file_of}
-use Rattle.rng_load.specs.Loading.{tree_in, hrefs_of, hrefs_if, hrefs_in}
-use Rattle.rng_load.specs.SchemaFile.{Name}
+use Rattle.rnc_model.specs.declarations.FileTree.{FileTree}
+use Rattle.rnc_model.specs.loading.Mentions.{mention_of, mentions_of}
+use Rattle.rnc_grammar.specs.views.View.{file_of, mentioned_file_of}
+use Rattle.rnc_model.specs.loading.Loading.{tree_in, hrefs_of, hrefs_if, hrefs_in}
+use Rattle.rnc_model.specs.loading.SchemaFile.{Name}
 
 -- the name of a file that is mentioned
 abbrev pub href_of : mentioned.MentionedFile → Name

@@ -4,8 +4,8 @@ use Rattle.std.proofs.Common.{Some, slice_get, get_or, ◌<◌}
 use Rattle.std.specs.List.{list_any}
 use Rattle.std.specs.Str.{bytes_eq}
 use Rattle.std.proofs.lemmas.Slice.Eq.{bytes_eq-Decides}
-use Rattle.rng_model.specs.Lists.{Among, here, there, HasTwice, at_first, later}
-use Rattle.rng_load.specs.SchemaFile.{Name}
+use Rattle.rng_model.specs.names.Lists.{Among, here, there, HasTwice, at_first, later}
+use Rattle.rnc_model.specs.loading.SchemaFile.{Name}
 
 pub false_true : false ≡ true → ⊥
 false_true h = cc

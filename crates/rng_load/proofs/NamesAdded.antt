@@ -9,9 +9,9 @@ use Rattle.std.proofs.lemmas.List.Sums.{fold-append}
 use Rattle.std.proofs.lemmas.Slice.Eq.{bytes_eq-Decides}
 use Rattle.indexmap.specs.IndexMap.{insert_entry}
 use Rattle.indexmap.specs.IndexSet.{insert_key}
-use Rattle.rng_model.specs.Lists.{Among, there}
-use Rattle.rng_load.specs.Loading.{with_name}
-use Rattle.rng_load.specs.SchemaFile.{Name}
+use Rattle.rng_model.specs.names.Lists.{Among, there}
+use Rattle.rnc_model.specs.loading.Loading.{with_name}
+use Rattle.rnc_model.specs.loading.SchemaFile.{Name}
 use Rattle.rng_load.proofs.NameLists.{in_first}
 
 -- keys that are seen as names, and are equal where their names are

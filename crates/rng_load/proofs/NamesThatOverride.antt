@@ -7,11 +7,11 @@ use Rattle.std.specs.Str.{bytes_eq}
 use Rattle.std.proofs.Math.Bool.{or-false}
 use Rattle.std.proofs.lemmas.Bool.{or_cases}
 use Rattle.std.proofs.lemmas.Slice.Eq.{bytes_eq-Decides}
-use Rattle.rng_model.specs.Lists.{Among}
-use Rattle.rng_model.specs.Schema.{same_name}
-use Rattle.rng_load.specs.GatheredComponents.{has_name}
-use Rattle.rng_load.specs.Loading.{with_name}
-use Rattle.rng_load.specs.SchemaFile.{Name}
+use Rattle.rng_model.specs.names.Lists.{Among}
+use Rattle.rng_model.specs.schema.Schema.{same_name}
+use Rattle.rng_load.specs.views.GatheredComponents.{has_name}
+use Rattle.rnc_model.specs.loading.Loading.{with_name}
+use Rattle.rnc_model.specs.loading.SchemaFile.{Name}
 use Rattle.rng_load.specs.declared.gathering.OverridingNames.{OverridingNames}
 use Rattle.rng_load.proofs.NameLists.{any_in, in_any, or_left, or_right}
 use Rattle.rng_load.proofs.NamesAdded.{any_seen}

@@ -2,13 +2,13 @@
 use Rattle.std.proofs.Common.{◌≡◌, refl, sym, subst, ap, ◌∙◌, ℕ, suc, ◌<◌, Option, Some, None, List, [], ◌∷◌, ◌++◌, arith, inl, inr}
 use Rattle.std.proofs.lemmas.Bool.{cases_order}
 use Rattle.std.proofs.lemmas.List.{append_assoc}
-use Rattle.rng_model.specs.Lists.{Among}
-use Rattle.rng_model.specs.Patterns.{Place}
-use Rattle.rnc_grammar.specs.FileTree as tree
-use Rattle.rnc_grammar.specs.FileTree.{FileTree}
-use Rattle.rng_load.specs.Places.{Way, Gathered, Gathers, main_grammar, HasGrammar, main_is, nested_is}
+use Rattle.rng_model.specs.names.Lists.{Among}
+use Rattle.rng_model.specs.schema.Patterns.{Place}
+use Rattle.rnc_model.specs.declarations.FileTree as tree
+use Rattle.rnc_model.specs.declarations.FileTree.{FileTree}
+use Rattle.rnc_model.specs.loading.Places.{Way, Gathered, Gathers, main_grammar, HasGrammar, main_is, nested_is}
 use Rattle.rng_load.proofs.OneSchema.{one_gathering}
-use Rattle.rng_load.specs.FoundGrammars.{nested_in}
+use Rattle.rng_load.specs.plain.FoundGrammars.{nested_in}
 use Rattle.rng_load.proofs.PlacesApart.{longer, same_entry, in_nested, gathered_children}
 
 module _ (files : List ℕ → Option FileTree) (main : FileTree) where

@@ -1,14 +1,14 @@
 -- A set of files has at most one schema.
 use Rattle.std.proofs.Common.{◌≡◌, refl, sym, subst, ap, ap₂, ◌∙◌, ℕ, List, [], ◌∷◌, ◌++◌, Option, Some, None, map, filter, not}
-use Rattle.rng_model.specs.Patterns.{Place, Pattern, members}
-use Rattle.rng_model.specs.Patterns as pattern
-use Rattle.rng_model.specs.Schema.{Schema, Component}
-use Rattle.rnc_grammar.specs.FileTree as tree
-use Rattle.rnc_grammar.specs.FileTree.{FileTree, grammar_file, pattern_file, grammar_of}
-use Rattle.rng_load.specs.Places.{Way, Nested, Gathered, is_overridden, uri_in, class_in, datatype_in, HasGrammar, IsSchemaOf}
-use Rattle.rng_load.specs.Places.{Reads, element_is, attribute_is, list_is, mixed_is, optional_is, zero_or_more_is, one_or_more_is, ref_is, parent_ref_is}
-use Rattle.rng_load.specs.Places.{empty_is, text_is, not_allowed_is, value_is, data_is, except_is, grammar_is, pattern_file_is, grammar_file_is, joined_is}
-use Rattle.rng_load.specs.Places.{ReadAll, none_are, more_are, Gathers, nothing, a_start, a_define, a_div, an_include}
+use Rattle.rng_model.specs.schema.Patterns.{Place, Pattern, members}
+use Rattle.rng_model.specs.schema.Patterns as pattern
+use Rattle.rng_model.specs.schema.Schema.{Schema, Component}
+use Rattle.rnc_model.specs.declarations.FileTree as tree
+use Rattle.rnc_model.specs.declarations.FileTree.{FileTree, grammar_file, pattern_file, grammar_of}
+use Rattle.rnc_model.specs.loading.Places.{Way, Nested, Gathered, is_overridden, uri_in, class_in, datatype_in, HasGrammar, IsSchemaOf}
+use Rattle.rnc_model.specs.loading.Places.{Reads, element_is, attribute_is, list_is, mixed_is, optional_is, zero_or_more_is, one_or_more_is, ref_is, parent_ref_is}
+use Rattle.rnc_model.specs.loading.Places.{empty_is, text_is, not_allowed_is, value_is, data_is, except_is, grammar_is, pattern_file_is, grammar_file_is, joined_is}
+use Rattle.rnc_model.specs.loading.Places.{ReadAll, none_are, more_are, Gathers, nothing, a_start, a_define, a_div, an_include}
 
 same_content : {o : Option FileTree} {a b : tree.Pattern} → o ≡ Some (pattern_file a) → o ≡ Some (pattern_file b) → b ≡ a
 same_content e f = cc

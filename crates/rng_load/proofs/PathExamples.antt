@@ -1,13 +1,13 @@
 -- Small schemas whose files mention one another: which go round, and how many paths of mentions there are.
 use Rattle.std.proofs.Common.{refl, [], ◌∷◌, arith, inl, codes}
-use Rattle.rng_model.specs.Lists.{here}
-use Rattle.rng_model.specs.Tree.{group}
-use Rattle.rnc_grammar.specs.FileTree as tree
-use Rattle.rnc_grammar.specs.FileTree.{FileTree, inherited, pattern_file}
-use Rattle.rng_load.specs.Counting.{paths, paths_along, HasPaths, has, have_none, have_more}
-use Rattle.rng_load.specs.Loading.{TakenFiles, hrefs_in}
-use Rattle.rng_load.specs.MentionPaths.{IsCyclic, HasMorePathsThan, directly, through}
-use Rattle.rng_load.specs.SchemaFile.{Name}
+use Rattle.rng_model.specs.names.Lists.{here}
+use Rattle.rng_model.specs.simple.Tree.{group}
+use Rattle.rnc_model.specs.declarations.FileTree as tree
+use Rattle.rnc_model.specs.declarations.FileTree.{FileTree, inherited, pattern_file}
+use Rattle.rng_load.specs.plain.Counting.{paths, paths_along, HasPaths, has, have_none, have_more}
+use Rattle.rnc_model.specs.loading.Loading.{TakenFiles, hrefs_in}
+use Rattle.rnc_model.specs.loading.MentionPaths.{IsCyclic, HasMorePathsThan, directly, through}
+use Rattle.rnc_model.specs.loading.SchemaFile.{Name}
 use Rattle.rng_load.proofs.CountedPaths.{at_most}
 use Rattle.rng_load.proofs.EachPath.{more_here, more_found}
 

@@ -3,10 +3,10 @@ use Rattle.std.proofs.Common.{◌≡◌, refl, sym, ℕ, List, Bool, true, false
 use Rattle.std.specs.Bool.{IsTrue}
 use Rattle.std.specs.Option.{is_some}
 use Rattle.std.specs.Prelude.{◌↔◌, MatchOption, not}
-use Rattle.rng_load.specs.MentionPaths.{BreaksMentions, path_limit}
-use Rattle.rng_load.specs.SchemaFile.{Name}
+use Rattle.rnc_model.specs.loading.MentionPaths.{BreaksMentions, path_limit}
+use Rattle.rnc_model.specs.loading.SchemaFile.{Name}
 use Rattle.rng_load.proofs.EachPath.{breaks_found, breaks_here}
-use Rattle.rng_load.specs.Counting.{HasFewPaths, StopsAt}
+use Rattle.rng_load.specs.plain.Counting.{HasFewPaths, StopsAt}
 use Rattle.rng_load.proofs.CountedPaths.{few_keep, long_breaks}
 
 no_truth : IsTrue false → ⊥

@@ -1,16 +1,16 @@
 -- Small schemas of a few files: which components their grammars get, and one whole schema.
 use Rattle.std.proofs.Common.{◌≡◌, refl, sym, subst, List, ℕ, zero, suc, [], ◌∷◌, Option, Some, None, codes, map, if◌then◌else◌}
 use Rattle.std.specs.Str.{bytes_eq}
-use Rattle.rng_model.specs.Lists.{Among, here, there}
-use Rattle.rng_model.specs.Patterns.{Place}
-use Rattle.rng_model.specs.Schema.{Schema, Component}
-use Rattle.rng_model.specs.Names as names
-use Rattle.rng_model.specs.Patterns as pattern
+use Rattle.rng_model.specs.names.Lists.{Among, here, there}
+use Rattle.rng_model.specs.schema.Patterns.{Place}
+use Rattle.rng_model.specs.schema.Schema.{Schema, Component}
+use Rattle.rng_model.specs.names.Names as names
+use Rattle.rng_model.specs.schema.Patterns as pattern
 use Rattle.rng_model.specs.declared.method.Method.TheVariants as methods
-use Rattle.rnc_grammar.specs.FileTree as tree
-use Rattle.rnc_grammar.specs.FileTree.{FileTree, Namespace, inherited, given, grammar_file, pattern_file}
-use Rattle.rng_load.specs.Places.{Gathered, Gathers, nothing, a_start, a_define, an_include, ref_is, element_is, empty_is, grammar_is}
-use Rattle.rng_load.specs.Places.{Reads, pattern_file_is, grammar_file_is, HasGrammar, main_is, nested_is, Nested, IsSchemaOf}
+use Rattle.rnc_model.specs.declarations.FileTree as tree
+use Rattle.rnc_model.specs.declarations.FileTree.{FileTree, Namespace, inherited, given, grammar_file, pattern_file}
+use Rattle.rnc_model.specs.loading.Places.{Gathered, Gathers, nothing, a_start, a_define, an_include, ref_is, element_is, empty_is, grammar_is}
+use Rattle.rnc_model.specs.loading.Places.{Reads, pattern_file_is, grammar_file_is, HasGrammar, main_is, nested_is, Nested, IsSchemaOf}
 use Rattle.rng_load.proofs.NameLists.{in_none}
 
 -- every mention is of this file

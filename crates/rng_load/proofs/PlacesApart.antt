@@ -2,15 +2,15 @@
 use Rattle.std.proofs.Common.{◌≡◌, refl, sym, subst, ap, ◌∙◌, ℕ, ◌+◌, ◌<◌, ◌≤◌, Bool, true, false, cond, Option, List, [], ◌∷◌, ◌++◌, length, arith}
 use Rattle.std.proofs.Common.{inl, inr, filter, not}
 use Rattle.std.proofs.lemmas.List.{append_assoc, length-append}
-use Rattle.rng_model.specs.Lists.{Among, here, there}
-use Rattle.rng_model.specs.Patterns.{Pattern}
-use Rattle.rnc_grammar.specs.FileTree as tree
-use Rattle.rnc_grammar.specs.FileTree.{FileTree}
-use Rattle.rng_load.specs.FoundGrammars.{nested_in}
-use Rattle.rng_load.specs.Places.{Way, Nested, Gathered, is_overridden}
-use Rattle.rng_load.specs.Places.{Reads, element_is, attribute_is, list_is, mixed_is, optional_is, zero_or_more_is, one_or_more_is, ref_is, parent_ref_is}
-use Rattle.rng_load.specs.Places.{empty_is, text_is, not_allowed_is, value_is, data_is, except_is, grammar_is, pattern_file_is, grammar_file_is, joined_is}
-use Rattle.rng_load.specs.Places.{ReadAll, none_are, more_are, Gathers, nothing, a_start, a_define, a_div, an_include}
+use Rattle.rng_model.specs.names.Lists.{Among, here, there}
+use Rattle.rng_model.specs.schema.Patterns.{Pattern}
+use Rattle.rnc_model.specs.declarations.FileTree as tree
+use Rattle.rnc_model.specs.declarations.FileTree.{FileTree}
+use Rattle.rng_load.specs.plain.FoundGrammars.{nested_in}
+use Rattle.rnc_model.specs.loading.Places.{Way, Nested, Gathered, is_overridden}
+use Rattle.rnc_model.specs.loading.Places.{Reads, element_is, attribute_is, list_is, mixed_is, optional_is, zero_or_more_is, one_or_more_is, ref_is, parent_ref_is}
+use Rattle.rnc_model.specs.loading.Places.{empty_is, text_is, not_allowed_is, value_is, data_is, except_is, grammar_is, pattern_file_is, grammar_file_is, joined_is}
+use Rattle.rnc_model.specs.loading.Places.{ReadAll, none_are, more_are, Gathers, nothing, a_start, a_define, a_div, an_include}
 use Rattle.rng_load.proofs.NameLists.{in_none, in_cons, in_either, in_left, in_right}
 
 -- ---- ways

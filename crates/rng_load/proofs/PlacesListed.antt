@@ -5,16 +5,16 @@ use Rattle.std.specs.Cmp.{decided}
 use Rattle.std.specs.Map.{keys_of}
 use Rattle.std.proofs.lemmas.Map.Views.{Contains-keys_from_lookup, IsSome-lookup_from_Contains}
 use Rattle.std.proofs.lemmas.Slice.Eq.{bytes_eq-Decides}
-use Rattle.rng_model.specs.Patterns.{Place}
-use Rattle.rng_model.specs.Schema.{Component}
-use Rattle.rng_model.specs.Lists.{Among, here, there, HasTwice, at_first, later}
-use Rattle.rng_model.specs.SchemaView.{place_of, place_eq}
+use Rattle.rng_model.specs.schema.Patterns.{Place}
+use Rattle.rng_model.specs.schema.Schema.{Component}
+use Rattle.rng_model.specs.names.Lists.{Among, here, there, HasTwice, at_first, later}
+use Rattle.rng_model.specs.views.SchemaView.{place_of, place_eq}
 use Rattle.rng_model.proofs.SamePlaces.{same_place}
 use Rattle.rng_load.proofs.NameLists.{from_map, none_twice}
 use Rattle.std.specs.List.{AllByRecursion, IsDistinct}
 use Rattle.rng_model.specs.declared.place.Place as declared
-use Rattle.rng_load.specs.PlacedGrammars.{PlacedGrammar, PlacedGrammars, grammar_at, grammar_of, schema_with}
-use Rattle.rng_load.specs.SchemaPlaces.{AreItsPlaces}
+use Rattle.rng_load.specs.views.PlacedGrammars.{PlacedGrammar, PlacedGrammars, grammar_at, grammar_of, schema_with}
+use Rattle.rng_load.specs.plain.SchemaPlaces.{AreItsPlaces}
 use Rattle.rng_load.specs.declared.schema.Grammar.{Grammar}
 
 has_components : (o : Option PlacedGrammar) → IsSome o → (cs : List Component) × (option_map (λ g. g.components) o ≡ Some cs)

@@ -3,20 +3,20 @@
 use Rattle.std.proofs.Common.{◌≡◌, sym, subst, ap, ◌∙◌, ℕ, suc, ◌+◌, ◌-◌, ◌*◌, ◌<◌, ◌≤◌, List, [], ◌∷◌, ◌++◌, length, arith, inl, inr, Option, Some}
 use Rattle.std.proofs.Common.{filter, not}
 use Rattle.std.proofs.lemmas.List.{length-append}
-use Rattle.rng_model.specs.Lists.{Among, here, there}
-use Rattle.rng_model.specs.Patterns.{Place, Pattern}
-use Rattle.rnc_grammar.specs.FileTree as tree
-use Rattle.rnc_grammar.specs.FileTree.{FileTree, grammar_file, pattern_file, grammar_of}
-use Rattle.rnc_grammar.specs.Mentions.{external_file, included_file, mentions_of_pattern, mentions_of_patterns, mentions_of_components}
-use Rattle.rng_load.specs.Loading.{TakenFiles, tree_in, hrefs_in, BreaksIncludes}
-use Rattle.rng_load.specs.MentionPaths.{BreaksMentions, path_limit}
-use Rattle.rng_load.specs.SchemaFile.{Name}
-use Rattle.rng_load.specs.Places.{Way, Nested, Gathered, is_overridden, uri_in, main_grammar, HasGrammar, main_is, nested_is}
-use Rattle.rng_load.specs.Places.{Reads, element_is, attribute_is, list_is, mixed_is, optional_is, zero_or_more_is, one_or_more_is, ref_is, parent_ref_is}
-use Rattle.rng_load.specs.Places.{empty_is, text_is, not_allowed_is, value_is, data_is, except_is, grammar_is, pattern_file_is, grammar_file_is, joined_is}
-use Rattle.rng_load.specs.Places.{ReadAll, none_are, more_are, Gathers, nothing, a_start, a_define, a_div, an_include}
-use Rattle.rng_load.specs.PlainReading.{AreFollowed, IsReadable, AreReadable}
-use Rattle.rng_load.specs.FoundGrammars.{nested_in}
+use Rattle.rng_model.specs.names.Lists.{Among, here, there}
+use Rattle.rng_model.specs.schema.Patterns.{Place, Pattern}
+use Rattle.rnc_model.specs.declarations.FileTree as tree
+use Rattle.rnc_model.specs.declarations.FileTree.{FileTree, grammar_file, pattern_file, grammar_of}
+use Rattle.rnc_model.specs.loading.Mentions.{external_file, included_file, mentions_of_pattern, mentions_of_patterns, mentions_of_components}
+use Rattle.rnc_model.specs.loading.Loading.{TakenFiles, tree_in, hrefs_in, BreaksIncludes}
+use Rattle.rnc_model.specs.loading.MentionPaths.{BreaksMentions, path_limit}
+use Rattle.rnc_model.specs.loading.SchemaFile.{Name}
+use Rattle.rnc_model.specs.loading.Places.{Way, Nested, Gathered, is_overridden, uri_in, main_grammar, HasGrammar, main_is, nested_is}
+use Rattle.rnc_model.specs.loading.Places.{Reads, element_is, attribute_is, list_is, mixed_is, optional_is, zero_or_more_is, one_or_more_is, ref_is, parent_ref_is}
+use Rattle.rnc_model.specs.loading.Places.{empty_is, text_is, not_allowed_is, value_is, data_is, except_is, grammar_is, pattern_file_is, grammar_file_is, joined_is}
+use Rattle.rnc_model.specs.loading.Places.{ReadAll, none_are, more_are, Gathers, nothing, a_start, a_define, a_div, an_include}
+use Rattle.rng_load.specs.plain.PlainReading.{AreFollowed, IsReadable, AreReadable}
+use Rattle.rng_load.specs.plain.FoundGrammars.{nested_in}
 use Rattle.rng_load.proofs.NameLists.{in_none, in_cons, in_either}
 use Rattle.rng_load.proofs.PlacesApart.{in_nested, nested_in_both, in_filter, gathered_children}
 use Rattle.rng_load.proofs.PlainReading.{grammar_mentions, followed_left, followed_right, follows, AreClosed, main_readable}

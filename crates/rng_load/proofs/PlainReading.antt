@@ -2,22 +2,22 @@
 use Rattle.std.proofs.Common.{◌≡◌, refl, sym, subst, ap, ◌∙◌, ℕ, zero, suc, ◌+◌, ◌-◌, ◌<◌, arith, Bool, true, false, cond, not, List, [], ◌∷◌, ◌++◌, filter}
 use Rattle.std.proofs.Common.{inl, inr, Option, Some, None}
 use Rattle.std.specs.Str.{bytes_eq}
-use Rattle.rng_model.specs.Lists.{Among, here, there}
-use Rattle.rng_model.specs.Patterns.{Place, Pattern}
-use Rattle.rnc_grammar.specs.FileTree as tree
-use Rattle.rnc_grammar.specs.FileTree.{FileTree, grammar_file, pattern_file, grammar_of, whole_grammar}
-use Rattle.rnc_grammar.specs.Mentions.{MentionedFile, external_file, included_file, mention_of, mentions_of, mentions_of_pattern, mentions_of_patterns}
-use Rattle.rnc_grammar.specs.Mentions.{mentions_of_components}
-use Rattle.rng_load.specs.MentionPaths.{BreaksMentions, path_limit}
-use Rattle.rng_load.specs.Loading.{hrefs_if, TakenFiles, tree_in, hrefs_in, grammar_if, BreaksIncludes, no_grammar}
-use Rattle.rng_load.specs.SchemaFile.{Name}
-use Rattle.rng_load.specs.Counting.{IsLong, long_end, long_more}
-use Rattle.rng_load.specs.Places.{Way, Nested, Gathered, is_overridden, uri_in, grammar_or_start, main_grammar, HasGrammar, main_is, nested_is}
-use Rattle.rng_load.specs.Places.{Reads, element_is, attribute_is, list_is, mixed_is, optional_is, zero_or_more_is, one_or_more_is, ref_is, parent_ref_is}
-use Rattle.rng_load.specs.Places.{empty_is, text_is, not_allowed_is, value_is, data_is, except_is, grammar_is, pattern_file_is, grammar_file_is, joined_is}
-use Rattle.rng_load.specs.Places.{ReadAll, none_are, more_are, Gathers, nothing, a_start, a_define, a_div, an_include}
-use Rattle.rng_load.specs.PlainReading.{PatternReader, Gatherer, external_with, included_with, read_with, read_all_with, gather_with, gather_one_with}
-use Rattle.rng_load.specs.PlainReading.{read_below, read_at, read_all_at, gather_below, gather_at, IsFollowed, AreFollowed, IsReadable, AreReadable, Serves}
+use Rattle.rng_model.specs.names.Lists.{Among, here, there}
+use Rattle.rng_model.specs.schema.Patterns.{Place, Pattern}
+use Rattle.rnc_model.specs.declarations.FileTree as tree
+use Rattle.rnc_model.specs.declarations.FileTree.{FileTree, grammar_file, pattern_file, grammar_of, whole_grammar}
+use Rattle.rnc_model.specs.loading.Mentions.{MentionedFile, external_file, included_file, mention_of, mentions_of, mentions_of_pattern, mentions_of_patterns}
+use Rattle.rnc_model.specs.loading.Mentions.{mentions_of_components}
+use Rattle.rnc_model.specs.loading.MentionPaths.{BreaksMentions, path_limit}
+use Rattle.rnc_model.specs.loading.Loading.{hrefs_if, TakenFiles, tree_in, hrefs_in, grammar_if, BreaksIncludes, no_grammar}
+use Rattle.rnc_model.specs.loading.SchemaFile.{Name}
+use Rattle.rng_load.specs.plain.Counting.{IsLong, long_end, long_more}
+use Rattle.rnc_model.specs.loading.Places.{Way, Nested, Gathered, is_overridden, uri_in, grammar_or_start, main_grammar, HasGrammar, main_is, nested_is}
+use Rattle.rnc_model.specs.loading.Places.{Reads, element_is, attribute_is, list_is, mixed_is, optional_is, zero_or_more_is, one_or_more_is, ref_is, parent_ref_is}
+use Rattle.rnc_model.specs.loading.Places.{empty_is, text_is, not_allowed_is, value_is, data_is, except_is, grammar_is, pattern_file_is, grammar_file_is, joined_is}
+use Rattle.rnc_model.specs.loading.Places.{ReadAll, none_are, more_are, Gathers, nothing, a_start, a_define, a_div, an_include}
+use Rattle.rng_load.specs.plain.PlainReading.{PatternReader, Gatherer, external_with, included_with, read_with, read_all_with, gather_with, gather_one_with}
+use Rattle.rng_load.specs.plain.PlainReading.{read_below, read_at, read_all_at, gather_below, gather_at, IsFollowed, AreFollowed, IsReadable, AreReadable, Serves}
 use Rattle.rng_load.proofs.CountedPaths.{long_breaks}
 use Rattle.rng_load.proofs.EachPath.{breaks_here}
 use Rattle.rng_load.proofs.NameLists.{in_none, in_cons, in_first, in_either, in_left, in_right, in_map}

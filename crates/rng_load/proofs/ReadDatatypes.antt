@@ -1,16 +1,16 @@
 -- Datatypes as they stand in a file, and as they are read.
 use Rattle.std.proofs.Common.{◌≡◌, ◌∙◌, sym, ap, ap₂, ℕ, List, ◌∷◌, rules, Box, Global, Option, Some, None}
-use Rattle.rng_model.specs.Patterns as pattern
-use Rattle.rng_model.specs.Tree as tree_types
+use Rattle.rng_model.specs.schema.Patterns as pattern
+use Rattle.rng_model.specs.simple.Tree as tree_types
 use Rattle.rnc_grammar.specs.declared.file_tree.Component.{the_lemmas as tree_lemmas}
 use Rattle.rnc_grammar.specs.declared.file_tree.Datatype.{Datatype}
 use Rattle.rnc_grammar.specs.declared.file_tree.Pattern.{Pattern}
 use Rattle.rnc_grammar.specs.declared.file_tree.Pattern.TheVariants as trees
-use Rattle.rnc_grammar.specs.FileTree as tree
-use Rattle.rnc_grammar.specs.FileTree.{FileTree}
-use Rattle.rnc_grammar.specs.View.{parameters_of, pattern_of, type_of}
-use Rattle.rng_load.specs.Places.{Way, datatype_in}
-use Rattle.rng_load.specs.PlainReading.{read_at, read_with}
+use Rattle.rnc_model.specs.declarations.FileTree as tree
+use Rattle.rnc_model.specs.declarations.FileTree.{FileTree}
+use Rattle.rnc_grammar.specs.views.View.{parameters_of, pattern_of, type_of}
+use Rattle.rnc_model.specs.loading.Places.{Way, datatype_in}
+use Rattle.rng_load.specs.plain.PlainReading.{read_at, read_with}
 
 plain_tree : (d : Box Datatype Global) → pattern_of (trees.Data d None) ≡ tree.data_of (type_of d.value.type_name) (parameters_of d.value)
 plain_tree d = search (rules, tree_lemmas)

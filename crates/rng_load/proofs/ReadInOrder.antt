@@ -5,14 +5,14 @@ use Rattle.std.specs.Global.{Global}
 use Rattle.std.specs.String.{string_eq}
 use Rattle.indexmap.specs.IndexMap.{insert_entry}
 use Rattle.std.proofs.lemmas.List.{length-append, length-map, map-append}
-use Rattle.rng_model.specs.Lists.{Among}
+use Rattle.rng_model.specs.names.Lists.{Among}
 use Rattle.rnc_grammar.specs.declared.file_tree.FileTree as declared
-use Rattle.rnc_grammar.specs.View.{file_of}
-use Rattle.rng_load.specs.Loading.{TakenFiles, with_name, hrefs_of, file_breaks}
-use Rattle.rng_load.specs.LoadingFaults.{IsNamedTree, IsTheReading, verdict_of_reading}
+use Rattle.rnc_grammar.specs.views.View.{file_of}
+use Rattle.rnc_model.specs.loading.Loading.{TakenFiles, with_name, hrefs_of, file_breaks}
+use Rattle.rng_load.specs.views.LoadingFaults.{IsNamedTree, IsTheReading, verdict_of_reading}
 use Rattle.rng_load.specs.declared.fault.ReadingFault.{ReadingFault}
 use Rattle.rng_load.specs.declared.fault.ReadingFault.TheVariants as readings
-use Rattle.rng_load.specs.SchemaFile.{Name, NamedFile, breaks, has_tree, IsTheFileVerdict}
+use Rattle.rnc_model.specs.loading.SchemaFile.{Name, NamedFile, breaks, has_tree, IsTheFileVerdict}
 use Rattle.rng_load.proofs.NamesAdded.{entry_goes_last}
 use Rattle.rng_load.proofs.TakenFiles.{IsFirm, more_firm, firm_taken, fresh, few_taken, first_broken, first_of}
 

@@ -2,12 +2,12 @@
 use Rattle.std.proofs.Common.{◌≡◌, ◌∙◌, sym, subst, ap, ℕ, zero, suc, ◌-◌, ◌<◌, List, ◌∷◌, Option, Some, arith, rules, Box, Global}
 use Rattle.rng_model.specs.declared.schema_pattern.SchemaPattern.{SchemaPattern, the_lemmas}
 use Rattle.rng_model.specs.declared.schema_pattern.SchemaPattern.TheVariants as patterns
-use Rattle.rng_model.specs.Patterns as pattern
-use Rattle.rng_model.specs.SchemaView.{schema_pattern_of}
-use Rattle.rnc_grammar.specs.FileTree as tree
-use Rattle.rnc_grammar.specs.FileTree.{FileTree, pattern_file}
-use Rattle.rng_load.specs.Places.{Way}
-use Rattle.rng_load.specs.PlainReading.{external_with, read_at, read_below, within}
+use Rattle.rng_model.specs.schema.Patterns as pattern
+use Rattle.rng_model.specs.views.SchemaView.{schema_pattern_of}
+use Rattle.rnc_model.specs.declarations.FileTree as tree
+use Rattle.rnc_model.specs.declarations.FileTree.{FileTree, pattern_file}
+use Rattle.rnc_model.specs.loading.Places.{Way}
+use Rattle.rng_load.specs.plain.PlainReading.{external_with, read_at, read_below, within}
 
 pub external_schema : (b : Box SchemaPattern Global) → schema_pattern_of (patterns.External b) ≡ pattern.external (schema_pattern_of b.value)
 external_schema b = search (rules, the_lemmas)

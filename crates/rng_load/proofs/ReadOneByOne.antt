@@ -1,11 +1,11 @@
 -- The members of a pattern read one by one.
 use Rattle.std.proofs.Common.{◌≡◌, ◌∙◌, refl, sym, ap, ℕ, ◌+◌, ◌<◌, ◌≤◌, List, [], ◌∷◌, ◌++◌, map, length, drop, get_or, Option, append_assoc}
 use Rattle.std.proofs.lemmas.List.{append-nil, drop_all, drop_more}
-use Rattle.rng_model.specs.Patterns.{Pattern}
-use Rattle.rnc_grammar.specs.FileTree as tree
-use Rattle.rnc_grammar.specs.FileTree.{FileTree, patterns_of}
-use Rattle.rng_load.specs.Places.{Way, Nested}
-use Rattle.rng_load.specs.PlainReading.{read_at, read_all_at, read_all_with}
+use Rattle.rng_model.specs.schema.Patterns.{Pattern}
+use Rattle.rnc_model.specs.declarations.FileTree as tree
+use Rattle.rnc_model.specs.declarations.FileTree.{FileTree, patterns_of}
+use Rattle.rnc_model.specs.loading.Places.{Way, Nested}
+use Rattle.rng_load.specs.plain.PlainReading.{read_at, read_all_at, read_all_with}
 
 -- the loop over these patterns: before it these grammars were found, and after so many patterns those; of the patterns so far these were read
 pub record AreRead (files : List ℕ → Option FileTree) (levels : ℕ) (u : List ℕ) (x : Way) (all : List tree.Pattern) (before : List Nested) (n : ℕ)

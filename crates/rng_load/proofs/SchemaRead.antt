@@ -1,17 +1,17 @@
 -- What the reader of a schema begins and ends with.
 use Rattle.std.proofs.Common.{◌≡◌, refl, sym, subst, ℕ, List, [], ◌∷◌, Option, None, map, option_map}
 use Rattle.indexmap.specs.IndexMap.{insert_entry}
-use Rattle.rng_model.specs.Patterns.{Place}
-use Rattle.rng_model.specs.SchemaView.{place_eq, place_of, schema_component_of}
+use Rattle.rng_model.specs.schema.Patterns.{Place}
+use Rattle.rng_model.specs.views.SchemaView.{place_eq, place_of, schema_component_of}
 use Rattle.rng_model.specs.declared.method.Method.TheVariants as methods
 use Rattle.rng_model.specs.declared.place.Place as declared
-use Rattle.rnc_grammar.specs.FileTree as tree
-use Rattle.rnc_grammar.specs.FileTree.{FileTree}
-use Rattle.rng_load.specs.FoundGrammars.{AreMore, CanBeRead, HasGathered, IsFound, gathered_at}
-use Rattle.rng_load.specs.MentionPaths.{path_limit}
-use Rattle.rng_load.specs.PlacedGrammars.{PlacedGrammars, grammar_of, schema_with}
-use Rattle.rng_load.specs.Places.{Gathered, IsSchemaOf, main_grammar}
-use Rattle.rng_load.specs.PlainReading.{gather_one_with, gather_with, gathered_as, read_at}
+use Rattle.rnc_model.specs.declarations.FileTree as tree
+use Rattle.rnc_model.specs.declarations.FileTree.{FileTree}
+use Rattle.rng_load.specs.plain.FoundGrammars.{AreMore, CanBeRead, HasGathered, IsFound, gathered_at}
+use Rattle.rnc_model.specs.loading.MentionPaths.{path_limit}
+use Rattle.rng_load.specs.views.PlacedGrammars.{PlacedGrammars, grammar_of, schema_with}
+use Rattle.rnc_model.specs.loading.Places.{Gathered, IsSchemaOf, main_grammar}
+use Rattle.rng_load.specs.plain.PlainReading.{gather_one_with, gather_with, gathered_as, read_at}
 use Rattle.rng_load.specs.declared.schema.Grammar.{Grammar}
 use Rattle.rng_load.proofs.AllFound.{ArePut, Entries, IsAdding, begins, is_put, is_schema, view}
 use Rattle.rng_load.proofs.OneGrammar.{main_there}

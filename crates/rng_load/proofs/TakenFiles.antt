@@ -5,12 +5,12 @@ use Rattle.std.proofs.Common.{append-nil, append_assoc, Some, Option, slice_get}
 use Rattle.std.specs.List.{list_any, fold}
 use Rattle.std.specs.Str.{bytes_eq}
 use Rattle.std.proofs.lemmas.List.{length-append, length-map, map-append}
-use Rattle.rng_model.specs.Lists.{Among, here, there, HasTwice}
-use Rattle.rnc_grammar.specs.FileTree.{FileTree}
-use Rattle.rng_load.specs.Loading.{TakenFiles, with_name, hrefs_of, IsTaken, none_yet, one_more, AreTaken, IsFirstBroken, FilesVerdict, file_breaks}
-use Rattle.rng_load.specs.Loading.{together_break, are_taken}
-use Rattle.rng_load.specs.SchemaFile.{Name, NamedFile, HasTree, BreaksOwn, breaks, has_tree, IsTheFileVerdict}
-use Rattle.rng_load.specs.LoadingFaults.{IsReading, IsTheReading}
+use Rattle.rng_model.specs.names.Lists.{Among, here, there, HasTwice}
+use Rattle.rnc_model.specs.declarations.FileTree.{FileTree}
+use Rattle.rnc_model.specs.loading.Loading.{TakenFiles, with_name, hrefs_of, IsTaken, none_yet, one_more, AreTaken, IsFirstBroken, FilesVerdict, file_breaks}
+use Rattle.rnc_model.specs.loading.Loading.{together_break, are_taken}
+use Rattle.rnc_model.specs.loading.SchemaFile.{Name, NamedFile, HasTree, BreaksOwn, breaks, has_tree, IsTheFileVerdict}
+use Rattle.rng_load.specs.views.LoadingFaults.{IsReading, IsTheReading}
 use Rattle.rng_load.proofs.NameLists.{false_true, in_none, in_cons, in_left, in_right, in_either, none_twice, twice_or, differ_more, differ_front}
 use Rattle.rng_load.proofs.NameLists.{differ_parts, no_more, in_map, from_map, any_in, in_any}
 

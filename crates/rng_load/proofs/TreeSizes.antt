@@ -1,11 +1,11 @@
 -- The sizes of trees: those of parts are smaller, and no file that was read is larger than all of them together. So what is left to read falls at each step:
 -- into a part of a tree, or by a mention, which takes a level, into another file.
 use Rattle.std.proofs.Common.{◌≡◌, refl, sym, subst, ap, ℕ, zero, suc, ◌+◌, ◌-◌, ◌*◌, ◌<◌, ◌≤◌, List, [], ◌∷◌, Option, Some, None, arith}
-use Rattle.rng_model.specs.Lists.{Among, here, there}
-use Rattle.rnc_grammar.specs.FileTree as tree
-use Rattle.rnc_grammar.specs.FileTree.{FileTree, grammar_file, pattern_file, grammar_of, whole_grammar}
-use Rattle.rng_load.specs.Loading.{TakenFiles, tree_in, grammar_if}
-use Rattle.rng_load.specs.SchemaFile.{Name}
+use Rattle.rng_model.specs.names.Lists.{Among, here, there}
+use Rattle.rnc_model.specs.declarations.FileTree as tree
+use Rattle.rnc_model.specs.declarations.FileTree.{FileTree, grammar_file, pattern_file, grammar_of, whole_grammar}
+use Rattle.rnc_model.specs.loading.Loading.{TakenFiles, tree_in, grammar_if}
+use Rattle.rnc_model.specs.loading.SchemaFile.{Name}
 use Rattle.rng_load.proofs.PlainReading.{found_among}
 
 -- ---- sizes

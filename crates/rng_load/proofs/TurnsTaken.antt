@@ -2,7 +2,7 @@
 use Rattle.std.proofs.Common.{◌≡◌, sym, ap, ◌∙◌, ℕ, ◌+◌, ◌<◌, List, [], ◌∷◌, ◌++◌, length, map, take, get_or, Some}
 use Rattle.std.proofs.lemmas.List.{map_more}
 use Rattle.std.proofs.lemmas.Option.{slice_get-get_or}
-use Rattle.rng_model.specs.Lists.{Among}
+use Rattle.rng_model.specs.names.Lists.{Among}
 use Rattle.rng_load.proofs.NameLists.{in_at, in_map}
 
 module _ {E A : Type 0} (view : E → A) (es : List E) (i : ℕ) (e : E) (inside : i < length es) (is : e ≡ get_or es i e) where

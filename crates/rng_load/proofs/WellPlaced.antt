@@ -1,19 +1,19 @@
 -- The grammars of the schema of a set of files are in their places.
 use Rattle.std.proofs.Common.{◌≡◌, inl, inr, refl, sym, subst, ap, ◌∙◌, ℕ, Bool, true, false, cond, not, List, [], ◌∷◌, ◌++◌, filter, map}
 use Rattle.std.proofs.Common.{Option, Some}
-use Rattle.rng_model.specs.Lists.{Among, here, there}
-use Rattle.rng_model.specs.Tree.{Connector, choice, group, interleave}
-use Rattle.rng_model.specs.Patterns.{Place, Pattern, Patterns, grammar, joined, pattern_and, patterns_of, members}
-use Rattle.rng_model.specs.Patterns.{IsWrittenIn, itself, in_element, in_attribute, in_list, in_except, in_mixed, in_optional, in_zero_or_more}
-use Rattle.rng_model.specs.Patterns.{in_one_or_more, in_first, in_second, in_another, in_external, IsWrittenAmong, in_this, in_later}
-use Rattle.rng_model.specs.Schema.{Schema, Component, IsWrittenAt, IsWellPlaced}
+use Rattle.rng_model.specs.names.Lists.{Among, here, there}
+use Rattle.rng_model.specs.simple.Tree.{Connector, choice, group, interleave}
+use Rattle.rng_model.specs.schema.Patterns.{Place, Pattern, Patterns, grammar, joined, pattern_and, patterns_of, members}
+use Rattle.rng_model.specs.schema.Patterns.{IsWrittenIn, itself, in_element, in_attribute, in_list, in_except, in_mixed, in_optional, in_zero_or_more}
+use Rattle.rng_model.specs.schema.Patterns.{in_one_or_more, in_first, in_second, in_another, in_external, IsWrittenAmong, in_this, in_later}
+use Rattle.rng_model.specs.schema.Schema.{Schema, Component, IsWrittenAt, IsWellPlaced}
 use Rattle.rng_model.proofs.Unfolding.{some_is}
-use Rattle.rnc_grammar.specs.FileTree as tree
-use Rattle.rnc_grammar.specs.FileTree.{FileTree}
-use Rattle.rng_load.specs.Places.{Way, Nested, Gathered, is_overridden, HasGrammar, main_is, nested_is, IsSchemaOf}
-use Rattle.rng_load.specs.Places.{Reads, element_is, attribute_is, list_is, mixed_is, optional_is, zero_or_more_is, one_or_more_is, ref_is, parent_ref_is}
-use Rattle.rng_load.specs.Places.{empty_is, text_is, not_allowed_is, value_is, data_is, except_is, grammar_is, pattern_file_is, grammar_file_is, joined_is}
-use Rattle.rng_load.specs.Places.{ReadAll, none_are, more_are, Gathers, nothing, a_start, a_define, a_div, an_include}
+use Rattle.rnc_model.specs.declarations.FileTree as tree
+use Rattle.rnc_model.specs.declarations.FileTree.{FileTree}
+use Rattle.rnc_model.specs.loading.Places.{Way, Nested, Gathered, is_overridden, HasGrammar, main_is, nested_is, IsSchemaOf}
+use Rattle.rnc_model.specs.loading.Places.{Reads, element_is, attribute_is, list_is, mixed_is, optional_is, zero_or_more_is, one_or_more_is, ref_is, parent_ref_is}
+use Rattle.rnc_model.specs.loading.Places.{empty_is, text_is, not_allowed_is, value_is, data_is, except_is, grammar_is, pattern_file_is, grammar_file_is, joined_is}
+use Rattle.rnc_model.specs.loading.Places.{ReadAll, none_are, more_are, Gathers, nothing, a_start, a_define, a_div, an_include}
 use Rattle.rng_load.proofs.NameLists as names
 use Rattle.rng_load.proofs.NameLists.{in_none, in_cons, in_either, in_left, in_right, from_map}
 

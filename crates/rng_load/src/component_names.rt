@@ -1,11 +1,11 @@
 // Which names the components of a grammar have, through the files that it includes.
 ghost use Rattle.std.specs.Prelude.{◌≡◌, ◌↔◌, ℕ, List, Option, IfOk, IsFalse, IsTrue, OnOk, Some, map, option_map, slice_get};
-ghost use Rattle.rnc_grammar.specs.FileTree.{components_of};
-ghost use Rattle.rnc_grammar.specs.View.{component_of};
-ghost use Rattle.rng_load.specs.ComponentNames.{HasIt, gather, gather_component, gather_if, names_in, no_names};
-ghost use Rattle.rng_load.specs.FilesView.{taken_files_of};
-ghost use Rattle.rng_load.specs.Loading.{grammar_in, tree_in, with_name};
-ghost use Rattle.rng_load.specs.GrammarNames.{HasName};
+ghost use Rattle.rnc_model.specs.declarations.FileTree.{components_of};
+ghost use Rattle.rnc_grammar.specs.views.View.{component_of};
+ghost use Rattle.rng_load.specs.plain.ComponentNames.{HasIt, gather, gather_component, gather_if, names_in, no_names};
+ghost use Rattle.rng_load.specs.views.FilesView.{taken_files_of};
+ghost use Rattle.rnc_model.specs.loading.Loading.{grammar_in, tree_in, with_name};
+ghost use Rattle.rnc_model.specs.loading.GrammarNames.{HasName};
 
 use indexmap::{IndexMap, IndexSet};
 use rnc_grammar::{Component, FileTree};

@@ -1,6 +1,6 @@
 // Why a file of a schema, or one of its files, has no tree.
 ghost use Rattle.std.specs.Prelude.{◌≡◌};
-ghost use Rattle.rng_load.specs.FileFaults.{fault_of_parse, fault_of_text};
+ghost use Rattle.rng_load.specs.views.FileFaults.{fault_of_parse, fault_of_text};
 ghost use Rattle.rng_load.specs.declared.fault.ReadingFault.TheVariants as readings;
 
 use rnc_grammar::ParseFault;

@@ -1,13 +1,13 @@
 // From the components of files to those of the grammars of a schema.
 ghost use Rattle.std.specs.Prelude.{◌≡◌, [], ◌∷◌, ◌++◌, ◌||◌, ℕ, IfOk, List, OnOk, Option, filter, map, not, option_map, reverse, string_bytes};
-ghost use Rattle.rng_model.specs.Schema.{same_name};
-ghost use Rattle.rnc_grammar.specs.FileTree.{components_of};
-ghost use Rattle.rnc_grammar.specs.View.{component_of, mention_of, pattern_of};
-ghost use Rattle.rng_load.specs.GatheredComponents.{gathered_of, has_name};
-ghost use Rattle.rng_load.specs.Loading.{grammar_if};
-ghost use Rattle.rng_load.specs.Places.{Gathered, is_overridden, uri_in};
-ghost use Rattle.rng_load.specs.PlainReading.{gather_at, gather_below, gather_one_at, gathered_as, included_with, read_at, replaced_by};
-ghost use Rattle.rng_load.specs.ReadPatterns.{files_in};
+ghost use Rattle.rng_model.specs.schema.Schema.{same_name};
+ghost use Rattle.rnc_model.specs.declarations.FileTree.{components_of};
+ghost use Rattle.rnc_grammar.specs.views.View.{component_of, mention_of, pattern_of};
+ghost use Rattle.rng_load.specs.views.GatheredComponents.{gathered_of, has_name};
+ghost use Rattle.rnc_model.specs.loading.Loading.{grammar_if};
+ghost use Rattle.rnc_model.specs.loading.Places.{Gathered, is_overridden, uri_in};
+ghost use Rattle.rng_load.specs.plain.PlainReading.{gather_at, gather_below, gather_one_at, gathered_as, included_with, read_at, replaced_by};
+ghost use Rattle.rng_load.specs.views.ReadPatterns.{files_in};
 
 use crate::component_names::{grammar_of, note};
 use crate::reading_names::namespace_uri;
@@ -76,7 +76,7 @@ impl<'a> TreeReader<'a> {
 
     /// Puts those of one component there.
     #[cycle(gathering)]
-    #[tactic(auto, unfolding(crate::specs::PlainReading::gather_with))]
+    #[tactic(auto, unfolding(crate::specs::plain::PlainReading::gather_with))]
     fn gather(
         self,
         levels: u32,
@@ -134,7 +134,7 @@ impl<'a> TreeReader<'a> {
 
     /// The components of the file that is included.
     #[cycle(gathering)]
-    #[tactic(auto, unfolding(crate::specs::PlainReading::included_with, crate::specs::PlainReading::gather_below))]
+    #[tactic(auto, unfolding(crate::specs::plain::PlainReading::included_with, crate::specs::plain::PlainReading::gather_below))]
     #[inline(never)]
     fn included(
         self,

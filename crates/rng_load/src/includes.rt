@@ -1,9 +1,9 @@
 // Whether the includes of files are of grammars that have what is overridden.
 ghost use Rattle.std.specs.Prelude.{◌↔◌, IfOk, IsTrue, map};
-ghost use Rattle.rnc_grammar.specs.FileTree.{components_of};
-ghost use Rattle.rnc_grammar.specs.View.{component_of, file_of, mention_of, mentioned_file_of};
-ghost use Rattle.rng_load.specs.FilesView.{taken_files_of};
-ghost use Rattle.rng_load.specs.Loading.{BreaksInclude, BreaksIncludes, IsBrokenInclude, HasBrokenInclude};
+ghost use Rattle.rnc_model.specs.declarations.FileTree.{components_of};
+ghost use Rattle.rnc_grammar.specs.views.View.{component_of, file_of, mention_of, mentioned_file_of};
+ghost use Rattle.rng_load.specs.views.FilesView.{taken_files_of};
+ghost use Rattle.rnc_model.specs.loading.Loading.{BreaksInclude, BreaksIncludes, IsBrokenInclude, HasBrokenInclude};
 
 use crate::component_names::component_names;
 use indexmap::IndexMap;

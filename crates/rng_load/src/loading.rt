@@ -1,11 +1,11 @@
 // From the files that are handed in to their schema.
 ghost use Rattle.std.specs.Prelude.{IfOk, IfSome};
-ghost use Rattle.rng_model.specs.Schema.{IsWellPlaced};
-ghost use Rattle.rng_load.specs.FilesView.{named_files};
-ghost use Rattle.rng_load.specs.LoadedSchema.{IsLoaded};
-ghost use Rattle.rng_load.specs.Loading.{IsTheFilesVerdict};
-ghost use Rattle.rng_load.specs.LoadingFaults.{reading_of};
-ghost use Rattle.rng_load.specs.PlacedGrammars.{schema_of};
+ghost use Rattle.rng_model.specs.schema.Schema.{IsWellPlaced};
+ghost use Rattle.rnc_model.specs.loading.Files.{named_files};
+ghost use Rattle.rng_load.specs.views.Loaded.{IsLoaded};
+ghost use Rattle.rnc_model.specs.loading.Loading.{IsTheFilesVerdict};
+ghost use Rattle.rng_load.specs.views.LoadingFaults.{reading_of};
+ghost use Rattle.rng_load.specs.views.PlacedGrammars.{schema_of};
 
 use crate::fault::ReadingFault;
 use crate::includes::breaks_includes;

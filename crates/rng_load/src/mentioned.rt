@@ -1,9 +1,9 @@
 // The names of the files that a file mentions.
 ghost use Rattle.std.specs.Prelude.{◌≡◌, map, IfOk};
-ghost use Rattle.rnc_grammar.specs.Mentions.{mention_of};
-ghost use Rattle.rnc_grammar.specs.View.{file_of, mentioned_file_of};
-ghost use Rattle.rng_load.specs.FilesView.{taken_files_of};
-ghost use Rattle.rng_load.specs.Loading.{hrefs_of, hrefs_in};
+ghost use Rattle.rnc_model.specs.loading.Mentions.{mention_of};
+ghost use Rattle.rnc_grammar.specs.views.View.{file_of, mentioned_file_of};
+ghost use Rattle.rng_load.specs.views.FilesView.{taken_files_of};
+ghost use Rattle.rnc_model.specs.loading.Loading.{hrefs_of, hrefs_in};
 
 use indexmap::IndexMap;
 use rnc_grammar::{FileTree, MentionedFile};

@@ -1,9 +1,10 @@
 // The files of a schema, in load order.
 ghost use Rattle.std.specs.Prelude.{◌≡◌, fold, map, string_bytes, IfOk, IfSome, OnOk};
-ghost use Rattle.rnc_grammar.specs.View.{file_of};
-ghost use Rattle.rng_load.specs.FilesView.{names_of, named_files, taken_files_of};
-ghost use Rattle.rng_load.specs.Loading.{hrefs_of, with_name};
-ghost use Rattle.rng_load.specs.LoadingFaults.{IsNamedTree, IsTheReading, order_of};
+ghost use Rattle.rnc_grammar.specs.views.View.{file_of};
+ghost use Rattle.rng_load.specs.views.FilesView.{names_of, taken_files_of};
+ghost use Rattle.rnc_model.specs.loading.Files.{named_files};
+ghost use Rattle.rnc_model.specs.loading.Loading.{hrefs_of, with_name};
+ghost use Rattle.rng_load.specs.views.LoadingFaults.{IsNamedTree, IsTheReading, order_of};
 
 use crate::fault::{FileFault, ReadingFault};
 use crate::mentioned::hrefs;

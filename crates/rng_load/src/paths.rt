@@ -1,9 +1,9 @@
 // Whether files mention themselves, or are mentioned along too many paths.
 ghost use Rattle.std.specs.Prelude.{◌≡◌, ◌↔◌, IfOk, IfSome, IsTrue, MatchOption};
-ghost use Rattle.rng_load.specs.Counting.{marks_of, AreMore, HasFewPaths, IsMarked, StopsAt};
-ghost use Rattle.rng_load.specs.FilesView.{taken_files_of};
-ghost use Rattle.rng_load.specs.MentionPaths.{BreaksMentions};
-ghost use Rattle.rng_load.specs.Loading.{hrefs_in};
+ghost use Rattle.rng_load.specs.plain.Counting.{marks_of, AreMore, HasFewPaths, IsMarked, StopsAt};
+ghost use Rattle.rng_load.specs.views.FilesView.{taken_files_of};
+ghost use Rattle.rnc_model.specs.loading.MentionPaths.{BreaksMentions};
+ghost use Rattle.rnc_model.specs.loading.Loading.{hrefs_in};
 
 use crate::mentioned::hrefs_in;
 use indexmap::IndexMap;

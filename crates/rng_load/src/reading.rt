@@ -1,15 +1,8 @@
 // From the files that are handed in to the tree of one of them.
 ghost use Rattle.std.specs.Prelude.{◌↔◌, ◌⊎◌, IfSome, IsTrue, MatchOption};
-ghost use Rattle.rng_load.specs.FileFaults.{verdict_of};
-ghost use Rattle.rng_load.specs.FilesView.{named_files};
-ghost use Rattle.rng_load.specs.SchemaFile.{
-  IsHandedIn,
-  IsHandedInTwice,
-  IsMissing,
-  IsTheContentVerdict,
-  IsTheFileVerdict,
-  BreaksLimit,
-};
+ghost use Rattle.rng_load.specs.views.FileFaults.{verdict_of};
+ghost use Rattle.rnc_model.specs.loading.Files.{named_files};
+ghost use Rattle.rnc_model.specs.loading.SchemaFile.{IsHandedIn, IsHandedInTwice, IsMissing, IsTheContentVerdict, IsTheFileVerdict, BreaksLimit};
 
 use crate::fault::FileFault;
 use rnc_grammar::{FileTree, parse};

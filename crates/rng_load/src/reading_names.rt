@@ -1,9 +1,9 @@
 // Names of a file tree, with the namespace that their file inherits.
 ghost use Rattle.std.specs.Prelude.{◌≡◌, IfOk, map};
-ghost use Rattle.rng_model.specs.View.{class_of, name_of};
-ghost use Rattle.rnc_grammar.specs.FileTree.{classes_of};
-ghost use Rattle.rnc_grammar.specs.View as file;
-ghost use Rattle.rng_load.specs.Places.{class_in, classes_in, name_in, uri_in};
+ghost use Rattle.rng_model.specs.names.NameViews.{class_of, name_of};
+ghost use Rattle.rnc_model.specs.declarations.FileTree.{classes_of};
+ghost use Rattle.rnc_grammar.specs.views.View as file;
+ghost use Rattle.rnc_model.specs.loading.Places.{class_in, classes_in, name_in, uri_in};
 
 use rnc_grammar::{ExpandedName, Namespace};
 use rng_model::{Name, NameClass, OutOfMemory};

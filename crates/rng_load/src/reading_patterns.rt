@@ -1,13 +1,13 @@
 // From the patterns of files to those of a schema.
 ghost use Rattle.std.specs.Prelude.{◌≡◌, ◌∷◌, ◌++◌, IfOk, OnOk, map, option_map, reverse, string_bytes};
-ghost use Rattle.rng_model.specs.Patterns as schema;
-ghost use Rattle.rng_model.specs.SchemaView.{schema_pattern_of};
-ghost use Rattle.rng_model.specs.Types.{datatype_of, parameter_of};
-ghost use Rattle.rnc_grammar.specs.FileTree.{components_of, patterns_of};
-ghost use Rattle.rnc_grammar.specs.View.{class_of, component_of, file_of, mention_of, parameters_of, pattern_of, type_of};
-ghost use Rattle.rng_load.specs.Places.{class_in, datatype_in, uri_in};
-ghost use Rattle.rng_load.specs.PlainReading.{external_with, nested_here, read_all_at, read_at, read_below};
-ghost use Rattle.rng_load.specs.ReadPatterns.{connector_of, files_in, nested_of};
+ghost use Rattle.rng_model.specs.schema.Patterns as schema;
+ghost use Rattle.rng_model.specs.views.SchemaView.{schema_pattern_of};
+ghost use Rattle.rng_model.specs.datatypes.DatatypeViews.{datatype_of, parameter_of};
+ghost use Rattle.rnc_model.specs.declarations.FileTree.{components_of, patterns_of};
+ghost use Rattle.rnc_grammar.specs.views.View.{class_of, component_of, file_of, mention_of, parameters_of, pattern_of, type_of};
+ghost use Rattle.rnc_model.specs.loading.Places.{class_in, datatype_in, uri_in};
+ghost use Rattle.rng_load.specs.plain.PlainReading.{external_with, nested_here, read_all_at, read_at, read_below};
+ghost use Rattle.rng_load.specs.views.ReadPatterns.{connector_of, files_in, nested_of};
 
 use crate::reading_names::{name_class, namespace_uri};
 use indexmap::IndexMap;
@@ -64,7 +64,7 @@ impl<'a> TreeReader<'a> {
     ///
     /// RELAX NG Specification, sections 4.6, 4.9 and 4.18.
     #[cycle(reading)]
-    #[tactic(auto, unfolding(crate::specs::PlainReading::read_with))]
+    #[tactic(auto, unfolding(crate::specs::plain::PlainReading::read_with))]
     pub(crate) fn pattern(
         self,
         levels: u32,
@@ -198,7 +198,7 @@ impl<'a> TreeReader<'a> {
     ///
     /// RELAX NG Specification, section 4.6.
     #[cycle(reading)]
-    #[tactic(auto, unfolding(crate::specs::PlainReading::external_with, crate::specs::PlainReading::read_below))]
+    #[tactic(auto, unfolding(crate::specs::plain::PlainReading::external_with, crate::specs::plain::PlainReading::read_below))]
     #[inline(never)]
     fn external(
         self,

@@ -1,8 +1,8 @@
 // A schema: its grammars at their places.
 ghost use Rattle.std.specs.Prelude.{◌≡◌, map, option_map};
-ghost use Rattle.rng_model.specs.SchemaView.{place_of, schema_component_of};
-ghost use Rattle.rng_load.specs.PlacedGrammars.{schema_of};
-ghost use Rattle.rng_load.specs.SchemaPlaces.{AreItsPlaces};
+ghost use Rattle.rng_model.specs.views.SchemaView.{place_of, schema_component_of};
+ghost use Rattle.rng_load.specs.views.PlacedGrammars.{schema_of};
+ghost use Rattle.rng_load.specs.plain.SchemaPlaces.{AreItsPlaces};
 
 use indexmap::IndexMap;
 use rng_model::{Component, Place};

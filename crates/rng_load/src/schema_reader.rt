@@ -1,15 +1,15 @@
 // From the files of a schema to its grammars at their places.
 ghost use Rattle.std.specs.Prelude.{◌≡◌, [], map, option_map, reverse, IfOk, OnOk, None, Some};
-ghost use Rattle.rng_model.specs.SchemaView.{place_of, schema_component_of};
-ghost use Rattle.rnc_grammar.specs.FileTree.{components_of};
-ghost use Rattle.rnc_grammar.specs.View.{component_of, file_of, pattern_of};
-ghost use Rattle.rng_load.specs.FilesView.{taken_files_of};
-ghost use Rattle.rng_load.specs.FoundGrammars.{AreMore, CanBeRead, HasGathered, IsFound, gathered_at, nested_in};
-ghost use Rattle.rng_load.specs.GatheredComponents.{gathered_of};
-ghost use Rattle.rng_load.specs.Loading.{tree_in};
-ghost use Rattle.rng_load.specs.PlacedGrammars.{grammars_of, schema_of};
-ghost use Rattle.rng_load.specs.Places.{HasGrammar, IsSchemaOf, grammar_or_start, main_grammar};
-ghost use Rattle.rng_load.specs.ReadPatterns.{files_in, nested_of};
+ghost use Rattle.rng_model.specs.views.SchemaView.{place_of, schema_component_of};
+ghost use Rattle.rnc_model.specs.declarations.FileTree.{components_of};
+ghost use Rattle.rnc_grammar.specs.views.View.{component_of, file_of, pattern_of};
+ghost use Rattle.rng_load.specs.views.FilesView.{taken_files_of};
+ghost use Rattle.rng_load.specs.plain.FoundGrammars.{AreMore, CanBeRead, HasGathered, IsFound, gathered_at, nested_in};
+ghost use Rattle.rng_load.specs.views.GatheredComponents.{gathered_of};
+ghost use Rattle.rnc_model.specs.loading.Loading.{tree_in};
+ghost use Rattle.rng_load.specs.views.PlacedGrammars.{grammars_of, schema_of};
+ghost use Rattle.rnc_model.specs.loading.Places.{HasGrammar, IsSchemaOf, grammar_or_start, main_grammar};
+ghost use Rattle.rng_load.specs.views.ReadPatterns.{files_in, nested_of};
 
 use crate::gathering::GatheredComponent;
 use crate::put::put;

@@ -8,20 +8,20 @@ use Rattle.std.proofs.lemmas.Option.{same_Some, slice_get-map, slice_get-get_or,
 use Rattle.std.proofs.lemmas.List.{length-set, length-replicate, drop_more, take_more, get_or-set_same}
 use Rattle.std.proofs.lemmas.List.Elements.{All-weaker, All-cons, All-head, All-nil, All-drop, All-map, All-contains, All-set, All-replicate}
 use Rattle.std.proofs.lemmas.List.Elements.{Contains-append_left, Contains-append_right, Contains-push, Contains-push_cases}
-use Rattle.rng_model.specs.Tree.{Simple}
-use Rattle.rng_model.specs.Document.{Item}
-use Rattle.rng_model.specs.Texts.{is_blank}
-use Rattle.rng_matching.specs.Reading.{Reading}
-use Rattle.rng_matching.specs.Taking.{Takes}
-use Rattle.rng_matching.specs.Derivatives.{is_not_allowed, is_nullable}
-use Rattle.rng_matching.specs.LevelStates as level
-use Rattle.rng_matching.specs.LevelStates.{AreEnded, EndsNow, EndsWith, IsAfterText}
+use Rattle.rng_model.specs.simple.Tree.{Simple}
+use Rattle.rng_model.specs.matching.Document.{Item}
+use Rattle.rng_model.specs.datatypes.Texts.{is_blank}
+use Rattle.rng_model.specs.matching.Reading.{Reading}
+use Rattle.rng_matching.specs.plain.Taking.{Takes}
+use Rattle.rng_matching.specs.plain.Derivatives.{is_not_allowed, is_nullable}
+use Rattle.rng_matching.specs.plain.LevelStates as level
+use Rattle.rng_matching.specs.plain.LevelStates.{AreEnded, EndsNow, EndsWith, IsAfterText}
 use Rattle.rng_matching.proofs.LevelStates.{beside_first, contained, nullable_may_end, may_end_with}
 use Rattle.rng_matching.proofs.States.{none_taken}
 use Rattle.rng_matching.proofs.LevelSteps.{none_ended, ended_no_more, ended_more}
 use Rattle.rng_patterns.specs.declared.pattern.PatternNumber.{PatternNumber}
-use Rattle.rng_matcher.specs.Numbers.{IsInside, tree_of, Adds, IsChoiceOf}
-use Rattle.rng_matcher.specs.Levels.{link_of, IsOnlyRest, IsRestWithin, AreEndsWith, LeavesBy, AddsEnded}
+use Rattle.rng_matcher.specs.views.Numbers.{IsInside, tree_of, Adds, IsChoiceOf}
+use Rattle.rng_matcher.specs.views.Levels.{link_of, IsOnlyRest, IsRestWithin, AreEndsWith, LeavesBy, AddsEnded}
 use Rattle.rng_matcher.specs.declared.links.Link.{Link}
 use Rattle.rng_matcher.proofs.Numbers.{longer_same, longer_through, inside_stays, all_inside_stay, trees_stay, map_push}
 use Rattle.rng_matcher.proofs.Linked.{zip_push}

@@ -4,23 +4,23 @@ use Rattle.std.proofs.Common.{Bool, Contains, append_assoc}
 use Rattle.std.specs.List.{list_all, list_any}
 use Rattle.std.proofs.lemmas.List.Elements.{All-push, All-nil, All-cons, All-contains, Contains-get_or}
 use Rattle.std.proofs.lemmas.List.Folds.{Any-from_list_any}
-use Rattle.rng_model.specs.Tree.{Simple}
-use Rattle.rng_model.specs.Document.{Item}
-use Rattle.rng_model.specs.PyxLines.{Said}
-use Rattle.rng_model.specs.PyxNamespaces.{Scope}
-use Rattle.rng_model.specs.PyxTrees.{Event, EventKind, a_start, a_string, an_end, Placed, events_of, IsPyxDocument, IsElement, element}
-use Rattle.rng_matching.specs.Reading.{Reading}
-use Rattle.rng_matching.specs.Taking.{Takes}
-use Rattle.rng_matching.specs.Derivatives.{is_nullable, is_not_allowed}
-use Rattle.rng_matching.specs.Events.{kinds}
-use Rattle.rng_matching.specs.LevelEvents.{LevelMatcher, StepsTo, StandsFor}
+use Rattle.rng_model.specs.simple.Tree.{Simple}
+use Rattle.rng_model.specs.matching.Document.{Item}
+use Rattle.rng_model.specs.documents.PyxLines.{Said}
+use Rattle.rng_model.specs.documents.PyxNamespaces.{Scope}
+use Rattle.rng_model.specs.documents.PyxTrees.{Event, EventKind, a_start, a_string, an_end, Placed, events_of, IsPyxDocument, IsElement, element}
+use Rattle.rng_model.specs.matching.Reading.{Reading}
+use Rattle.rng_matching.specs.plain.Taking.{Takes}
+use Rattle.rng_matching.specs.plain.Derivatives.{is_nullable, is_not_allowed}
+use Rattle.rng_matching.specs.plain.Events.{kinds}
+use Rattle.rng_matching.specs.plain.LevelEvents.{LevelMatcher, StepsTo, StandsFor}
 use Rattle.rng_matching.proofs.Events.{kinds_append}
 use Rattle.rng_matching.proofs.LevelEvents.{stands_on, stands_first, levels_answer, no_levels_are_invalid, no_end_is_invalid, unknown_name_leaves_none}
 use Rattle.rng_patterns.specs.declared.pattern.PatternNumber.{PatternNumber}
-use Rattle.rng_matcher.specs.Numbers.{tree_of}
-use Rattle.rng_matcher.specs.Strings.{IsHeld}
-use Rattle.rng_matcher.specs.Outcomes.{KnowsName, IsValid, FailsAt}
-use Rattle.rng_matcher.specs.Positions.{Leads, AddsStep, HasCome}
+use Rattle.rng_matcher.specs.views.Numbers.{tree_of}
+use Rattle.rng_matcher.specs.views.Strings.{IsHeld}
+use Rattle.rng_model.specs.matching.Outcomes.{KnowsName, IsValid, FailsAt}
+use Rattle.rng_matcher.specs.views.Positions.{Leads, AddsStep, HasCome}
 use Rattle.rng_matcher.specs.declared.position.Position.{Position}
 use Rattle.rng_matcher.proofs.Numbers.{all_before}
 

@@ -6,7 +6,7 @@ use Rattle.std.proofs.lemmas.List.{take_more}
 use Rattle.std.proofs.lemmas.List.Elements.{All-weaker, All-append, All-cons, All-nil, All-head, All-tail, Contains-push, Contains-append_left}
 use Rattle.rng_patterns.specs.declared.pattern.PatternNumber.{PatternNumber}
 use Rattle.rng_matching.proofs.LevelSteps.{in_front}
-use Rattle.rng_matcher.specs.Levels.{IsBodyOf, IsLinkOf, AddsLinks}
+use Rattle.rng_matcher.specs.views.Levels.{IsBodyOf, IsLinkOf, AddsLinks}
 use Rattle.rng_matcher.specs.declared.derivatives.Way.{Way}
 use Rattle.rng_matcher.specs.declared.links.Link.{Link}
 use Rattle.rng_matcher.proofs.Numbers.{append_nothing}

@@ -4,11 +4,11 @@ use Rattle.std.proofs.Common.{append_assoc, Result, Ok, Err, IfOk, OnOk}
 use Rattle.std.proofs.lemmas.List.{length-append, length-set, get_or_append_left, take_at, take_more}
 use Rattle.std.proofs.lemmas.List.Elements.{All-weaker, All-take, All-push, AllZip-push, All-head, All-tail, All-nil, All-cons}
 use Rattle.std.specs.List.{AllZip, refill}
-use Rattle.rng_model.specs.Tree.{Simple, s_not_allowed}
-use Rattle.rng_matching.specs.Reading.{Reading}
-use Rattle.rng_matching.specs.Restricted.{IsRestricted}
+use Rattle.rng_model.specs.simple.Tree.{Simple, s_not_allowed}
+use Rattle.rng_model.specs.matching.Reading.{Reading}
+use Rattle.rng_matching.specs.plain.Restricted.{IsRestricted}
 use Rattle.rng_patterns.specs.declared.pattern.PatternNumber.{PatternNumber}
-use Rattle.rng_matcher.specs.Numbers.{Longer, IsInside, tree_of, Adds, AddsEach}
+use Rattle.rng_matcher.specs.views.Numbers.{Longer, IsInside, tree_of, Adds, AddsEach}
 
 pub ok_weaker : {A E : Type 0} (r : Result A E) (P Q : A → Type 0) → ((x : A) → P x → Q x) → IfOk r P → IfOk r Q
 ok_weaker (Ok x) P Q f h = f x h

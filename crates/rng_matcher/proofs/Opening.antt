@@ -5,15 +5,15 @@ use Rattle.std.specs.Option.{option_map}
 use Rattle.std.proofs.lemmas.Option.{slice_get-map, slice_get_within}
 use Rattle.std.proofs.lemmas.List.{length-append, length-map, length-take, map-append, take_more}
 use Rattle.std.proofs.lemmas.List.Elements.{All-weaker, All-append, All-head, All-tail, All-take, All-map, All-contains, All-nil, All-cons}
-use Rattle.rng_model.specs.Names.{Name}
-use Rattle.rng_model.specs.Tree.{Simple}
-use Rattle.rng_matching.specs.Reading.{Reading}
-use Rattle.rng_matching.specs.Ways.{EachWay}
-use Rattle.rng_matching.specs.LevelStates.{IsBodyNamed, AreStarts, AreOpened}
+use Rattle.rng_model.specs.names.Names.{Name}
+use Rattle.rng_model.specs.simple.Tree.{Simple}
+use Rattle.rng_model.specs.matching.Reading.{Reading}
+use Rattle.rng_matching.specs.plain.Ways.{EachWay}
+use Rattle.rng_matching.specs.plain.LevelStates.{IsBodyNamed, AreStarts, AreOpened}
 use Rattle.rng_matching.proofs.LevelSteps.{IsLinked, opened_more}
 use Rattle.rng_patterns.specs.declared.pattern.PatternNumber.{PatternNumber}
-use Rattle.rng_matcher.specs.Numbers.{Longer, IsInside, tree_of, way_of, AddsStarts}
-use Rattle.rng_matcher.specs.Levels.{link_of, IsBodyOf, IsLinkOf, IsLinkWithin, AddsLinks, AddsOpened}
+use Rattle.rng_matcher.specs.views.Numbers.{Longer, IsInside, tree_of, way_of, AddsStarts}
+use Rattle.rng_matcher.specs.views.Levels.{link_of, IsBodyOf, IsLinkOf, IsLinkWithin, AddsLinks, AddsOpened}
 use Rattle.rng_matcher.specs.declared.derivatives.Way.{Way}
 use Rattle.rng_matcher.specs.declared.links.Link.{Link}
 use Rattle.rng_matcher.proofs.Numbers.{longer_through, inside_stays, tree_stays, all_inside_stay, trees_stay}

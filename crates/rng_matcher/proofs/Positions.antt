@@ -2,20 +2,20 @@
 use Rattle.std.proofs.Common.{◌≡◌, ◌↔◌, inl, inr, true, false, ℕ, List, [], length, map, refl, sym, ap, ◌∙◌, subst, All, Bool, Option, Some, None}
 use Rattle.std.specs.List.{AllZip}
 use Rattle.std.proofs.lemmas.List.Elements.{All-weaker}
-use Rattle.rng_model.specs.Names.{Name}
-use Rattle.rng_model.specs.Tree.{Simple}
-use Rattle.rng_model.specs.Texts.{is_blank}
-use Rattle.rng_model.specs.Document.{Attribute}
-use Rattle.rng_model.specs.PyxTrees.{a_start, a_string, an_end}
-use Rattle.rng_matching.specs.Reading.{Reading}
-use Rattle.rng_matching.specs.LevelStates.{IsAfterText, StartsLevel, LevelState, EndsLevel, EndsNow, EndsWith}
-use Rattle.rng_matching.specs.LevelEvents.{LevelMatcher, SettlesLevels, StepsTo, as_blank, as_text, at_start, at_string, at_end, at_end_of_text, at_stray_end}
+use Rattle.rng_model.specs.names.Names.{Name}
+use Rattle.rng_model.specs.simple.Tree.{Simple}
+use Rattle.rng_model.specs.datatypes.Texts.{is_blank}
+use Rattle.rng_model.specs.matching.Document.{Attribute}
+use Rattle.rng_model.specs.documents.PyxTrees.{a_start, a_string, an_end}
+use Rattle.rng_model.specs.matching.Reading.{Reading}
+use Rattle.rng_matching.specs.plain.LevelStates.{IsAfterText, StartsLevel, LevelState, EndsLevel, EndsNow, EndsWith}
+use Rattle.rng_matching.specs.plain.LevelEvents.{LevelMatcher, SettlesLevels, StepsTo, as_blank, as_text, at_start, at_string, at_end, at_end_of_text, at_stray_end}
 use Rattle.rng_patterns.specs.declared.pattern.PatternNumber.{PatternNumber}
-use Rattle.rng_matcher.specs.Numbers.{Longer, IsInside, tree_of, AddsEach}
-use Rattle.rng_matcher.specs.Levels.{AreEndsWith}
-use Rattle.rng_matcher.specs.States.{state_of, IsStateInside, AddsState, EndsBy, EndsIf, levels_of, IsLevelInside}
-use Rattle.rng_matcher.specs.Strings.{IsHeld, IsHeldInside, AddsHeld}
-use Rattle.rng_matcher.specs.Positions.{IsPositionInside, IsPositionOf, AddsStep}
+use Rattle.rng_matcher.specs.views.Numbers.{Longer, IsInside, tree_of, AddsEach}
+use Rattle.rng_matcher.specs.views.Levels.{AreEndsWith}
+use Rattle.rng_matcher.specs.views.States.{state_of, IsStateInside, AddsState, EndsBy, EndsIf, levels_of, IsLevelInside}
+use Rattle.rng_matcher.specs.views.Strings.{IsHeld, IsHeldInside, AddsHeld}
+use Rattle.rng_matcher.specs.views.Positions.{IsPositionInside, IsPositionOf, AddsStep}
 use Rattle.rng_matcher.specs.declared.held.Held.{Held}
 use Rattle.rng_matcher.specs.declared.position.Position.{Position}
 use Rattle.rng_matcher.specs.declared.state.State.{State}

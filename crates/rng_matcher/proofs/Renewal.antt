@@ -4,17 +4,17 @@ use Rattle.std.proofs.Common.{slice_set, slice_index_or, None}
 use Rattle.std.specs.List.{AllZip}
 use Rattle.std.proofs.lemmas.List.{length-take, take_more, take_more_set, drop_more, drop-set-lt, length-set, length-append, length-map, length-drop}
 use Rattle.std.proofs.lemmas.List.Elements.{All-append, All-map, All-nil, All-head, All-tail, All-weaker}
-use Rattle.rng_model.specs.Tree.{Simple}
-use Rattle.rng_model.specs.PyxTrees.{Event}
-use Rattle.rng_matching.specs.Reading.{Reading}
-use Rattle.rng_matching.specs.LevelStates as level
+use Rattle.rng_model.specs.simple.Tree.{Simple}
+use Rattle.rng_model.specs.documents.PyxTrees.{Event}
+use Rattle.rng_model.specs.matching.Reading.{Reading}
+use Rattle.rng_matching.specs.plain.LevelStates as level
 use Rattle.rng_patterns.specs.declared.pattern.PatternNumber.{PatternNumber}
-use Rattle.rng_matcher.specs.Numbers.{IsInside, AreRenewed, tree_of}
-use Rattle.rng_matcher.specs.Levels.{IsRestWithin, link_of}
-use Rattle.rng_matcher.specs.States.{IsLevelInside, IsStateInside, with_level}
-use Rattle.rng_matcher.specs.Strings.{IsHeld, IsHeldInside}
-use Rattle.rng_matcher.specs.Positions.{HasCome, IsPositionInside}
-use Rattle.rng_matcher.specs.Renewal.{IsLevelRenewed, IsLinkRenewed, IsPositionRenewed, IsRenewed, IsStateRenewed, rests_in, rests_of, with_rests}
+use Rattle.rng_matcher.specs.views.Numbers.{IsInside, AreRenewed, tree_of}
+use Rattle.rng_matcher.specs.views.Levels.{IsRestWithin, link_of}
+use Rattle.rng_matcher.specs.views.States.{IsLevelInside, IsStateInside, with_level}
+use Rattle.rng_matcher.specs.views.Strings.{IsHeld, IsHeldInside}
+use Rattle.rng_matcher.specs.views.Positions.{HasCome, IsPositionInside}
+use Rattle.rng_matcher.specs.views.Renewal.{IsLevelRenewed, IsLinkRenewed, IsPositionRenewed, IsRenewed, IsStateRenewed, rests_in, rests_of, with_rests}
 use Rattle.rng_matcher.specs.declared.links.Link.{Link}
 use Rattle.rng_matcher.specs.declared.position.Position.{Position}
 use Rattle.rng_matcher.specs.declared.state.Level.{Level}

@@ -2,16 +2,16 @@
 use Rattle.std.proofs.Common.{◌≡◌, ◌↔◌, true, ℕ, ◌<◌, List, [], ◌∷◌, ◌++◌, length, map, fold, refl, sym, ap, ◌∙◌, subst, All, inr, Bool}
 use Rattle.std.specs.List.{AllZip}
 use Rattle.std.proofs.lemmas.List.Elements.{All-weaker, All-push, All-head, All-tail, All-contains, Contains-push}
-use Rattle.rng_model.specs.Names.{Name}
-use Rattle.rng_model.specs.Tree.{Simple}
-use Rattle.rng_model.specs.Document.{Attribute}
-use Rattle.rng_matching.specs.Reading.{Reading}
-use Rattle.rng_matching.specs.LevelStates as level
-use Rattle.rng_matching.specs.LevelStates.{IsAfterTag, AreOpened, StartsLevel, LevelState, EndsLevel, IsAfterText, TakesString}
+use Rattle.rng_model.specs.names.Names.{Name}
+use Rattle.rng_model.specs.simple.Tree.{Simple}
+use Rattle.rng_model.specs.matching.Document.{Attribute}
+use Rattle.rng_model.specs.matching.Reading.{Reading}
+use Rattle.rng_matching.specs.plain.LevelStates as level
+use Rattle.rng_matching.specs.plain.LevelStates.{IsAfterTag, AreOpened, StartsLevel, LevelState, EndsLevel, IsAfterText, TakesString}
 use Rattle.rng_patterns.specs.declared.pattern.PatternNumber.{PatternNumber}
-use Rattle.rng_matcher.specs.Numbers.{Longer, IsInside, tree_of, AddsEach}
-use Rattle.rng_matcher.specs.Levels.{link_of, IsLinkWithin, IsRestWithin, AddsOpened, AddsEnded}
-use Rattle.rng_matcher.specs.States.{with_level, levels_of, state_of, IsLevelInside, IsStateInside, AddsState, EndsBy, EndsLevelBy}
+use Rattle.rng_matcher.specs.views.Numbers.{Longer, IsInside, tree_of, AddsEach}
+use Rattle.rng_matcher.specs.views.Levels.{link_of, IsLinkWithin, IsRestWithin, AddsOpened, AddsEnded}
+use Rattle.rng_matcher.specs.views.States.{with_level, levels_of, state_of, IsLevelInside, IsStateInside, AddsState, EndsBy, EndsLevelBy}
 use Rattle.rng_matcher.specs.declared.state.Level.{Level}
 use Rattle.rng_matcher.specs.declared.state.State.{State}
 use Rattle.rng_matcher.proofs.Numbers.{longer_through, inside_stays, trees_stay, all_before}

@@ -1,8 +1,8 @@
 // The end of an element, with what stood in it.
 ghost use Rattle.std.specs.Prelude.{◌≡◌, ℕ, List, OnOk, length};
-ghost use Rattle.rng_matching.specs.LevelStates.{EndsNow, EndsWith};
-ghost use Rattle.rng_matcher.specs.States.{AddsState, EndsIf, IsStateInside, state_of};
-ghost use Rattle.rng_matcher.specs.Strings.{IsHeld, IsHeldInside};
+ghost use Rattle.rng_matching.specs.plain.LevelStates.{EndsNow, EndsWith};
+ghost use Rattle.rng_matcher.specs.views.States.{AddsState, EndsIf, IsStateInside, state_of};
+ghost use Rattle.rng_matcher.specs.views.Strings.{IsHeld, IsHeldInside};
 
 use crate::derivatives::Derivatives;
 use crate::ends::{which_end, which_end_with};

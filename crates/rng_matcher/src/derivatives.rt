@@ -1,11 +1,12 @@
 // What the matcher asks about patterns.
 ghost use Rattle.std.specs.Prelude.{◌≡◌, ℕ, List, All, IfOk, OnOk, map};
-ghost use Rattle.rng_model.specs.Tree.{Simple};
-ghost use Rattle.rng_model.specs.View.{attribute_of, name_of};
-ghost use Rattle.rng_matching.specs.Derivatives as tree;
-ghost use Rattle.rng_matching.specs.LevelStates.{IsAfterTag, IsAfterText};
-ghost use Rattle.rng_matching.specs.Reading.{Reading};
-ghost use Rattle.rng_matcher.specs.Numbers.{Adds, AddsStarts, AreRenewed, IsChoiceOf, IsInside, tree_of};
+ghost use Rattle.rng_model.specs.simple.Tree.{Simple};
+ghost use Rattle.rng_model.specs.documents.DocumentViews.{attribute_of};
+ghost use Rattle.rng_model.specs.names.NameViews.{name_of};
+ghost use Rattle.rng_matching.specs.plain.Derivatives as tree;
+ghost use Rattle.rng_matching.specs.plain.LevelStates.{IsAfterTag, IsAfterText};
+ghost use Rattle.rng_model.specs.matching.Reading.{Reading};
+ghost use Rattle.rng_matcher.specs.views.Numbers.{Adds, AddsStarts, AreRenewed, IsChoiceOf, IsInside, tree_of};
 
 use crate::lists::Ways;
 use rng_model::{Attr, Name, OutOfMemory};

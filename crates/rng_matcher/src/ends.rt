@@ -1,10 +1,10 @@
 // The end of an element.
 ghost use Rattle.std.specs.Prelude.{◌≡◌, ◌↔◌, ◌<◌, ◌||◌, ◌&&◌, [], ◌∷◌, All, IfOk, IfSome, OnOk, Some, length, map, slice_get, true};
 ghost use Rattle.std.specs.List.{AllZip, list_any};
-ghost use Rattle.rng_matching.specs.LevelStates.{EndsNow};
-ghost use Rattle.rng_matching.specs.Derivatives.{is_nullable};
-ghost use Rattle.rng_matcher.specs.Levels.{AddsEnded, AreEndsWith, IsOnlyRest, IsRestWithin, LeavesBy};
-ghost use Rattle.rng_matcher.specs.Numbers.{Adds, IsChoiceOf, IsInside, tree_of};
+ghost use Rattle.rng_matching.specs.plain.LevelStates.{EndsNow};
+ghost use Rattle.rng_matching.specs.plain.Derivatives.{is_nullable};
+ghost use Rattle.rng_matcher.specs.views.Levels.{AddsEnded, AreEndsWith, IsOnlyRest, IsRestWithin, LeavesBy};
+ghost use Rattle.rng_matcher.specs.views.Numbers.{Adds, IsChoiceOf, IsInside, tree_of};
 
 use crate::derivatives::Derivatives;
 use crate::links::Link;

@@ -1,8 +1,8 @@
 // Strings of which it is not told yet whether they are only children.
 ghost use Rattle.std.specs.Prelude.{◌≡◌, ℕ, List, All, IfOk, OnOk, length};
-ghost use Rattle.rng_model.specs.Texts.{is_blank};
-ghost use Rattle.rng_matcher.specs.Numbers.{IsInside};
-ghost use Rattle.rng_matcher.specs.Strings.{AddsHeld, IsHeld, IsHeldInside};
+ghost use Rattle.rng_model.specs.datatypes.Texts.{is_blank};
+ghost use Rattle.rng_matcher.specs.views.Numbers.{IsInside};
+ghost use Rattle.rng_matcher.specs.views.Strings.{AddsHeld, IsHeld, IsHeldInside};
 
 use crate::derivatives::Derivatives;
 use crate::levels::after_string;

@@ -1,8 +1,8 @@
 // Levels of open elements, at each event.
 ghost use Rattle.std.specs.Prelude.{◌≡◌, All, IfOk, OnOk, map};
-ghost use Rattle.rng_model.specs.View.{attribute_of};
-ghost use Rattle.rng_matching.specs.LevelStates.{IsAfterTag, IsAfterText};
-ghost use Rattle.rng_matcher.specs.Numbers.{AddsEach, IsInside};
+ghost use Rattle.rng_model.specs.documents.DocumentViews.{attribute_of};
+ghost use Rattle.rng_matching.specs.plain.LevelStates.{IsAfterTag, IsAfterText};
+ghost use Rattle.rng_matcher.specs.views.Numbers.{AddsEach, IsInside};
 
 use crate::derivatives::Derivatives;
 use crate::lists::Numbers;

@@ -1,8 +1,8 @@
 // Ways out of elements.
 ghost use Rattle.std.specs.Prelude.{◌≡◌, ◌⊎◌, ◌++◌, ◌∷◌, [], All, IfOk, OnOk, Some, length, slice_get};
-ghost use Rattle.rng_model.specs.View.{name_of};
-ghost use Rattle.rng_matcher.specs.Levels.{AddsLinks, AddsOpened};
-ghost use Rattle.rng_matcher.specs.Numbers.{IsInside};
+ghost use Rattle.rng_model.specs.names.NameViews.{name_of};
+ghost use Rattle.rng_matcher.specs.views.Levels.{AddsLinks, AddsOpened};
+ghost use Rattle.rng_matcher.specs.views.Numbers.{IsInside};
 
 use crate::derivatives::{Derivatives, Way};
 use crate::lists::{Links, Numbers};

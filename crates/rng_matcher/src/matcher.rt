@@ -1,21 +1,20 @@
 // The matcher.
 ghost use Rattle.std.specs.Prelude.{◌≡◌, ◌↔◌, ℕ, List, [], ◌∷◌, ◌++◌, IfOk, IsErr, OnErr, OnOk, map};
-ghost use Rattle.rng_model.specs.EventView.{event_of};
-ghost use Rattle.rng_model.specs.Document.{Item};
-ghost use Rattle.rng_model.specs.PyxTrees as trees;
-ghost use Rattle.rng_model.specs.PyxTrees.{IsPyxDocument, Placed, events_of};
-ghost use Rattle.rng_matching.specs.Taking.{Takes};
-ghost use Rattle.rng_matcher.specs.Numbers.{IsInside, tree_of};
-ghost use Rattle.rng_matcher.specs.Outcomes.{IsOutcome};
-ghost use Rattle.rng_matcher.specs.Positions.{IsKnown, IsLost};
+ghost use Rattle.rng_model.specs.documents.EventView.{event_of};
+ghost use Rattle.rng_model.specs.matching.Document.{Item};
+ghost use Rattle.rng_model.specs.documents.PyxTrees as trees;
+ghost use Rattle.rng_model.specs.documents.PyxTrees.{IsPyxDocument, Placed, events_of};
+ghost use Rattle.rng_matching.specs.plain.Taking.{Takes};
+ghost use Rattle.rng_matcher.specs.views.Numbers.{IsInside, tree_of};
+ghost use Rattle.rng_model.specs.matching.Outcomes.{IsOutcome};
+ghost use Rattle.rng_matcher.specs.views.Positions.{IsKnown, IsLost};
 
 use crate::derivatives::Derivatives;
 use crate::ends::some_end;
-use crate::outcome::Outcome;
 use crate::position::Position;
 use crate::progress::{Progress, take_event};
 use crate::state::State;
-use rng_model::{Event, Events, OutOfMemory};
+use rng_model::{Event, Events, OutOfMemory, Outcome};
 use rng_patterns::PatternNumber;
 use smallvec::SmallVec;
 use std::alloc::Global;
@@ -33,7 +32,7 @@ pub struct Matcher<D: Derivatives + Drop> {
 
 impl<D: Derivatives + Drop> Model for Matcher<D> {
     ghost use Rattle.rng_matcher.specs.declared.progress.Progress.{Progress};
-    ghost use Rattle.rng_matcher.specs.Positions.{IsProgressInside};
+    ghost use Rattle.rng_matcher.specs.views.Positions.{IsProgressInside};
 
     ghost Value = { D × Progress };
 

@@ -1,12 +1,13 @@
 // What a matcher keeps between two events.
 ghost use Rattle.std.specs.Prelude.{◌≡◌, ℕ, List, None, OnOk, map};
-ghost use Rattle.rng_model.specs.PyxTrees as trees;
-ghost use Rattle.rng_model.specs.Tree.{Simple};
-ghost use Rattle.rng_model.specs.View.{attribute_of, name_of};
-ghost use Rattle.rng_matching.specs.LevelEvents.{LevelMatcher, SettlesLevels};
-ghost use Rattle.rng_matching.specs.Reading.{Reading};
-ghost use Rattle.rng_matcher.specs.Positions.{AddsStep, IsPositionInside, IsPositionOf};
-ghost use Rattle.rng_matcher.specs.States.{IsStateInside, state_of};
+ghost use Rattle.rng_model.specs.documents.PyxTrees as trees;
+ghost use Rattle.rng_model.specs.simple.Tree.{Simple};
+ghost use Rattle.rng_model.specs.documents.DocumentViews.{attribute_of};
+ghost use Rattle.rng_model.specs.names.NameViews.{name_of};
+ghost use Rattle.rng_matching.specs.plain.LevelEvents.{LevelMatcher, SettlesLevels};
+ghost use Rattle.rng_model.specs.matching.Reading.{Reading};
+ghost use Rattle.rng_matcher.specs.views.Positions.{AddsStep, IsPositionInside, IsPositionOf};
+ghost use Rattle.rng_matcher.specs.views.States.{IsStateInside, state_of};
 
 use crate::closing::{after_elements, after_lone_string};
 use crate::derivatives::Derivatives;

@@ -1,11 +1,11 @@
 // What is known of a document, event by event.
 ghost use Rattle.std.specs.Prelude.{◌≡◌, ℕ, All, IfOk, IsErr, OnOk};
 ghost use Rattle.std.specs.List.{list_all};
-ghost use Rattle.rng_model.specs.EventView.{event_of, kind_of};
-ghost use Rattle.rng_model.specs.PyxTrees as trees;
-ghost use Rattle.rng_matching.specs.Derivatives.{is_not_allowed};
-ghost use Rattle.rng_matcher.specs.Numbers.{IsInside, tree_of};
-ghost use Rattle.rng_matcher.specs.Positions.{AddsProgress, AddsStep, HasCome, IsKnown, IsLost, IsPositionInside, IsProgressInside, progress_at};
+ghost use Rattle.rng_model.specs.documents.EventView.{event_of, kind_of};
+ghost use Rattle.rng_model.specs.documents.PyxTrees as trees;
+ghost use Rattle.rng_matching.specs.plain.Derivatives.{is_not_allowed};
+ghost use Rattle.rng_matcher.specs.views.Numbers.{IsInside, tree_of};
+ghost use Rattle.rng_matcher.specs.views.Positions.{AddsProgress, AddsStep, HasCome, IsKnown, IsLost, IsPositionInside, IsProgressInside, progress_at};
 
 use crate::derivatives::Derivatives;
 use crate::position::{Position, after_end, after_start, after_text};

@@ -1,10 +1,10 @@
 // Patterns that a position does not hold are let go.
 ghost use Rattle.std.specs.Prelude.{◌≡◌, ◌++◌, ◌≤◌, ℕ, List, OnOk, drop, length, take};
 ghost use Rattle.std.specs.List.{AllZip};
-ghost use Rattle.rng_model.specs.Tree.{Simple};
-ghost use Rattle.rng_matcher.specs.Positions.{IsPositionInside};
-ghost use Rattle.rng_matcher.specs.Renewal.{IsLevelRenewed, IsPositionRenewed, IsRenewed, IsStateRenewed, rests_in, rests_of, with_rests};
-ghost use Rattle.rng_matcher.specs.States.{IsStateInside};
+ghost use Rattle.rng_model.specs.simple.Tree.{Simple};
+ghost use Rattle.rng_matcher.specs.views.Positions.{IsPositionInside};
+ghost use Rattle.rng_matcher.specs.views.Renewal.{IsLevelRenewed, IsPositionRenewed, IsRenewed, IsStateRenewed, rests_in, rests_of, with_rests};
+ghost use Rattle.rng_matcher.specs.views.States.{IsStateInside};
 
 use crate::derivatives::Derivatives;
 use crate::links::Link;

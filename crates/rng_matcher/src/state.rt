@@ -1,9 +1,10 @@
 // What a matcher keeps of the open elements, at each tag.
 ghost use Rattle.std.specs.Prelude.{◌≡◌, All, OnOk, length, map};
-ghost use Rattle.rng_model.specs.View.{attribute_of, name_of};
-ghost use Rattle.rng_matching.specs.LevelStates.{StartsLevel};
-ghost use Rattle.rng_matcher.specs.Numbers.{IsInside};
-ghost use Rattle.rng_matcher.specs.States.{AddsState, EndsBy, IsStateInside, state_of};
+ghost use Rattle.rng_model.specs.documents.DocumentViews.{attribute_of};
+ghost use Rattle.rng_model.specs.names.NameViews.{name_of};
+ghost use Rattle.rng_matching.specs.plain.LevelStates.{StartsLevel};
+ghost use Rattle.rng_matcher.specs.views.Numbers.{IsInside};
+ghost use Rattle.rng_matcher.specs.views.States.{AddsState, EndsBy, IsStateInside, state_of};
 
 use crate::derivatives::Derivatives;
 use crate::ends::ended;

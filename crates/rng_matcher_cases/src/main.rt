@@ -6,8 +6,8 @@
 #![tactic(auto)]
 
 ghost use Rattle.std.specs.Prelude.{All, IfOk};
-ghost use Rattle.rng_matching.specs.Laws.{BreaksNone};
-ghost use Rattle.rng_model.specs.Table.{grammar_of};
+ghost use Rattle.rng_model.specs.restrictions.BreaksNone.{BreaksNone};
+ghost use Rattle.rng_model.specs.simple.Table.{grammar_of};
 
 use case_rows::{Row, rows};
 use pyx::Reader;

@@ -3,18 +3,18 @@
 -- alone in it, so that it may be taken out of any copy.
 use Rattle.std.proofs.Common.{◌≡◌, ℕ, List, [], ◌∷◌, ◌++◌, refl, sym, ◌∙◌, subst, inl, inr, ◌⊎◌}
 use Rattle.std.proofs.lemmas.List.{append-nil}
-use Rattle.rng_model.specs.Tree.{Simple, choice, group, interleave, s_not_allowed, s_empty, s_text, s_leaf, s_attribute, s_list, s_data, s_data_except}
-use Rattle.rng_model.specs.Tree.{s_value, s_one_or_more, s_joined}
-use Rattle.rng_model.specs.Document.{Attribute, Item, Interleaves, SharesName}
-use Rattle.rng_model.specs.Document as document
-use Rattle.rng_model.specs.WellFormed.{Distinct}
+use Rattle.rng_model.specs.simple.Tree.{Simple, choice, group, interleave, s_not_allowed, s_empty, s_text, s_leaf, s_attribute, s_list, s_data, s_data_except}
+use Rattle.rng_model.specs.simple.Tree.{s_value, s_one_or_more, s_joined}
+use Rattle.rng_model.specs.matching.Document.{Attribute, Item, Interleaves, SharesName}
+use Rattle.rng_model.specs.matching.Document as document
+use Rattle.rng_model.specs.matching.WellFormed.{Distinct}
 use Rattle.rng_model.proofs.Interleaving.{right_alone, left_is_all, right_is_all}
-use Rattle.rng_matching.specs.Reading.{Reading}
-use Rattle.rng_matching.specs.Taking.{Takes, Same}
-use Rattle.rng_matching.specs.Taking as t
-use Rattle.rng_matching.specs.Restricted.{HasNoAttribute, HasNoneGrouped, RepeatsWell}
-use Rattle.rng_matching.specs.Derivatives.{Way, more_of, alone, behind, group_of, interleave_of, group_before, interleave_before, attribute_ways}
-use Rattle.rng_matching.specs.Ways.{TakesAttribute, AreAttributeWays}
+use Rattle.rng_model.specs.matching.Reading.{Reading}
+use Rattle.rng_matching.specs.plain.Taking.{Takes, Same}
+use Rattle.rng_matching.specs.plain.Taking as t
+use Rattle.rng_matching.specs.plain.Restricted.{HasNoAttribute, HasNoneGrouped, RepeatsWell}
+use Rattle.rng_matching.specs.plain.Derivatives.{Way, more_of, alone, behind, group_of, interleave_of, group_before, interleave_before, attribute_ways}
+use Rattle.rng_matching.specs.plain.Ways.{TakesAttribute, AreAttributeWays}
 use Rattle.rng_matching.proofs.Tools.{nothing_shared, distinct_left, distinct_right, apart}
 use Rattle.rng_matching.proofs.Same.{group_of-same, interleave_of-same}
 

@@ -1,18 +1,18 @@
 -- What is left after the attributes of a tag, one by one, and once the tag is closed.
 use Rattle.std.proofs.Common.{◌≡◌, ℕ, List, [], ◌∷◌, refl, subst, Bool, true, cond, inl, inr}
-use Rattle.rng_model.specs.Tree.{Simple, choice, group, interleave, s_not_allowed, s_empty, s_text, s_leaf, s_attribute, s_list, s_data, s_data_except}
-use Rattle.rng_model.specs.Tree.{s_value, s_one_or_more, s_joined}
-use Rattle.rng_model.specs.Document.{Attribute, Item, a_text, Interleaves}
-use Rattle.rng_model.specs.Document as document
-use Rattle.rng_model.specs.WellFormed.{Distinct, one_more}
+use Rattle.rng_model.specs.simple.Tree.{Simple, choice, group, interleave, s_not_allowed, s_empty, s_text, s_leaf, s_attribute, s_list, s_data, s_data_except}
+use Rattle.rng_model.specs.simple.Tree.{s_value, s_one_or_more, s_joined}
+use Rattle.rng_model.specs.matching.Document.{Attribute, Item, a_text, Interleaves}
+use Rattle.rng_model.specs.matching.Document as document
+use Rattle.rng_model.specs.matching.WellFormed.{Distinct, one_more}
 use Rattle.rng_model.proofs.Interleaving.{left_is_none, right_is_none}
-use Rattle.rng_names.specs.Holding.{holds}
-use Rattle.rng_matching.specs.Reading.{Reading}
-use Rattle.rng_matching.specs.Taking.{Takes, WeaklyTakes, Same}
-use Rattle.rng_matching.specs.Taking as t
-use Rattle.rng_matching.specs.Restricted.{IsRestricted}
-use Rattle.rng_matching.specs.Derivatives.{Way, attribute_ways, rests_of, has_text, takes_attribute, after_attribute, after_attributes, closed}
-use Rattle.rng_matching.specs.Ways.{TakesAttribute, EachWay, IsAttributeLeaf}
+use Rattle.rng_names.specs.plain.Holding.{holds}
+use Rattle.rng_model.specs.matching.Reading.{Reading}
+use Rattle.rng_matching.specs.plain.Taking.{Takes, WeaklyTakes, Same}
+use Rattle.rng_matching.specs.plain.Taking as t
+use Rattle.rng_matching.specs.plain.Restricted.{IsRestricted}
+use Rattle.rng_matching.specs.plain.Derivatives.{Way, attribute_ways, rests_of, has_text, takes_attribute, after_attribute, after_attributes, closed}
+use Rattle.rng_matching.specs.plain.Ways.{TakesAttribute, EachWay, IsAttributeLeaf}
 use Rattle.rng_matching.proofs.Tools.{both, in_both, nothing_apart}
 use Rattle.rng_matching.proofs.Nullable.{under_in, under_out}
 use Rattle.rng_matching.proofs.Same.{choice_of-same, group_of-same, interleave_of-same, repeat_of-same}

@@ -1,16 +1,16 @@
 -- A whole document: the start takes the root alone exactly if the state after the root accepts.
 use Rattle.std.proofs.Common.{◌≡◌, ℕ, List, [], ◌∷◌, refl, Bool, true, false, cond}
-use Rattle.rng_model.specs.Names.{Name}
-use Rattle.rng_model.specs.Tree.{Simple}
-use Rattle.rng_model.specs.Document.{Attribute, Item, a_text, an_element, Items, no_items, item_and, list_of}
-use Rattle.rng_model.specs.WellFormed.{Separate, IsWellFormed, AreWellFormed}
-use Rattle.rng_model.specs.Texts.{is_blank}
-use Rattle.rng_matching.specs.Reading.{Reading}
-use Rattle.rng_matching.specs.Taking.{Takes}
-use Rattle.rng_matching.specs.Restricted.{IsRestricted}
-use Rattle.rng_matching.specs.Blanks.{Every, cons, IsNotBlank, has_element, without_blanks, string_of}
-use Rattle.rng_matching.specs.States.{State, finished, after_of, end_tag, accepts, start_tag, string, end_text, after_items, after_item, Holds, Begins}
-use Rattle.rng_matching.specs.States.{HasRestrictedBodies, IsRestrictedState}
+use Rattle.rng_model.specs.names.Names.{Name}
+use Rattle.rng_model.specs.simple.Tree.{Simple}
+use Rattle.rng_model.specs.matching.Document.{Attribute, Item, a_text, an_element, Items, no_items, item_and, list_of}
+use Rattle.rng_model.specs.matching.WellFormed.{Separate, IsWellFormed, AreWellFormed}
+use Rattle.rng_model.specs.datatypes.Texts.{is_blank}
+use Rattle.rng_model.specs.matching.Reading.{Reading}
+use Rattle.rng_matching.specs.plain.Taking.{Takes}
+use Rattle.rng_matching.specs.plain.Restricted.{IsRestricted}
+use Rattle.rng_matching.specs.plain.Blanks.{Every, cons, IsNotBlank, has_element, without_blanks, string_of}
+use Rattle.rng_matching.specs.plain.States.{State, finished, after_of, end_tag, accepts, start_tag, string, end_text, after_items, after_item, Holds, Begins}
+use Rattle.rng_matching.specs.plain.States.{HasRestrictedBodies, IsRestrictedState}
 use Rattle.rng_matching.proofs.PutBlanks.{without_is_clean}
 use Rattle.rng_matching.proofs.States.{holds_after, holds_after_out, after_of-restricted}
 use Rattle.rng_matching.proofs.Levels.{start_tag_in, start_tag_out, start_tag_restricted, begins_in, begins_out, string_in, string_out, string_restricted}

@@ -1,19 +1,19 @@
 -- Where section 7.2 is obeyed and the items hold an element, a pattern takes them as well without blank strings.
 use Rattle.std.proofs.Common.{◌≡◌, ℕ, List, [], ◌∷◌, ◌++◌, refl, sym, ap, ◌∙◌, subst, Bool, true, false, cond, Option, Some, None, ◌⊎◌, inl, inr}
 use Rattle.std.proofs.lemmas.List.{append-nil}
-use Rattle.rng_model.specs.Names.{Name}
-use Rattle.rng_model.specs.Tree.{Simple, choice, group, interleave, s_not_allowed, s_empty, s_text, s_leaf, s_attribute, s_list, s_data, s_data_except}
-use Rattle.rng_model.specs.Tree.{s_value, s_one_or_more, s_joined}
-use Rattle.rng_model.specs.Document.{Attribute, Item, a_text, an_element, Items, Interleaves, AllTexts, no_texts, text_and, Padded}
-use Rattle.rng_model.specs.Document as document
-use Rattle.rng_model.specs.Restrictions.{ContentType, empty_content, complex_content, simple_content}
-use Rattle.rng_model.specs.Texts.{is_blank}
+use Rattle.rng_model.specs.names.Names.{Name}
+use Rattle.rng_model.specs.simple.Tree.{Simple, choice, group, interleave, s_not_allowed, s_empty, s_text, s_leaf, s_attribute, s_list, s_data, s_data_except}
+use Rattle.rng_model.specs.simple.Tree.{s_value, s_one_or_more, s_joined}
+use Rattle.rng_model.specs.matching.Document.{Attribute, Item, a_text, an_element, Items, Interleaves, AllTexts, no_texts, text_and, Padded}
+use Rattle.rng_model.specs.matching.Document as document
+use Rattle.rng_model.specs.restrictions.Restrictions.{ContentType, empty_content, complex_content, simple_content}
+use Rattle.rng_model.specs.datatypes.Texts.{is_blank}
 use Rattle.rng_model.proofs.Interleaving.{left_alone, right_alone, left_is_all, right_is_all}
-use Rattle.rng_matching.specs.Reading.{Reading}
-use Rattle.rng_matching.specs.Taking.{Takes}
-use Rattle.rng_matching.specs.Taking as t
-use Rattle.rng_matching.specs.Restricted.{type_of_choice, type_of_both, content_type, IsTyped}
-use Rattle.rng_matching.specs.Blanks.{has_element, without_blanks}
+use Rattle.rng_model.specs.matching.Reading.{Reading}
+use Rattle.rng_matching.specs.plain.Taking.{Takes}
+use Rattle.rng_matching.specs.plain.Taking as t
+use Rattle.rng_matching.specs.plain.Restricted.{type_of_choice, type_of_both, content_type, IsTyped}
+use Rattle.rng_matching.specs.plain.Blanks.{has_element, without_blanks}
 
 -- ---- types of sides
 

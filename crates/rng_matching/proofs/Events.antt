@@ -1,18 +1,18 @@
 -- The matcher, event by event, reaches the state after the whole document; and a state that is never stays so.
 use Rattle.std.proofs.Common.{◌≡◌, ℕ, List, [], ◌∷◌, ◌++◌, refl, sym, ap, ◌∙◌, subst, Bool, true, false, cond, append_assoc}
-use Rattle.rng_model.specs.Names.{Name}
-use Rattle.rng_model.specs.Tree.{Simple}
-use Rattle.rng_model.specs.Document.{Attribute, a_text, an_element, Items, no_items, item_and, list_of}
-use Rattle.rng_model.specs.WellFormed.{Separate, IsWellFormed, AreWellFormed}
-use Rattle.rng_model.specs.WellFormed as w
-use Rattle.rng_model.specs.Texts.{is_blank}
-use Rattle.rng_model.specs.PyxTrees.{Event, EventKind, a_start, a_string, an_end, Placed, PlacedItems, text_at, element_at, none_placed, placed_and}
-use Rattle.rng_model.specs.PyxTrees.{item_of, items_of, events_of, events_in}
-use Rattle.rng_matching.specs.Reading.{Reading}
-use Rattle.rng_matching.specs.Blanks.{has_element, string_of}
-use Rattle.rng_matching.specs.States.{State, never, finished, after, either, is_never, after_of, end_tag, accepts, start_tag, string, end_text, after_items}
-use Rattle.rng_matching.specs.States.{after_item}
-use Rattle.rng_matching.specs.Events.{kinds, events_of_items, Matcher, new, step, run, is_valid}
+use Rattle.rng_model.specs.names.Names.{Name}
+use Rattle.rng_model.specs.simple.Tree.{Simple}
+use Rattle.rng_model.specs.matching.Document.{Attribute, a_text, an_element, Items, no_items, item_and, list_of}
+use Rattle.rng_model.specs.matching.WellFormed.{Separate, IsWellFormed, AreWellFormed}
+use Rattle.rng_model.specs.matching.WellFormed as w
+use Rattle.rng_model.specs.datatypes.Texts.{is_blank}
+use Rattle.rng_model.specs.documents.PyxTrees.{Event, EventKind, a_start, a_string, an_end, Placed, PlacedItems, text_at, element_at, none_placed, placed_and}
+use Rattle.rng_model.specs.documents.PyxTrees.{item_of, items_of, events_of, events_in}
+use Rattle.rng_model.specs.matching.Reading.{Reading}
+use Rattle.rng_matching.specs.plain.Blanks.{has_element, string_of}
+use Rattle.rng_matching.specs.plain.States.{State, never, finished, after, either, is_never, after_of, end_tag, accepts, start_tag, string, end_text, after_items}
+use Rattle.rng_matching.specs.plain.States.{after_item}
+use Rattle.rng_matching.specs.plain.Events.{kinds, events_of_items, Matcher, new, step, run, is_valid}
 
 -- ---- events without their lines
 

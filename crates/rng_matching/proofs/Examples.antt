@@ -1,15 +1,15 @@
 -- Small documents, computed by the matcher. Each is one on which a wrong derivative answers otherwise.
 use Rattle.std.proofs.Common.{◌≡◌, ℕ, ◌+◌, List, [], ◌∷◌, refl, Bool, true, false}
 use Rattle.std.specs.Str.{bytes_eq}
-use Rattle.rng_model.specs.Names.{Name, NameClass, any_name, name_is}
-use Rattle.rng_model.specs.Tree.{Simple, Datatype, choice, group, interleave, s_not_allowed, s_empty, s_text, s_leaf, s_attribute}
-use Rattle.rng_model.specs.Tree.{s_data_except, s_value, s_one_or_more, s_joined}
-use Rattle.rng_model.specs.Document.{Attribute, Item, a_text, an_element, Items, no_items, item_and}
-use Rattle.rng_model.specs.PyxTrees.{a_start}
-use Rattle.rng_model.specs.Texts.{TextTests}
-use Rattle.rng_matching.specs.Reading.{Reading}
-use Rattle.rng_matching.specs.States.{is_never}
-use Rattle.rng_matching.specs.Events.{events_of_items, new, run, is_valid}
+use Rattle.rng_model.specs.names.Names.{Name, NameClass, any_name, name_is}
+use Rattle.rng_model.specs.simple.Tree.{Simple, Datatype, choice, group, interleave, s_not_allowed, s_empty, s_text, s_leaf, s_attribute}
+use Rattle.rng_model.specs.simple.Tree.{s_data_except, s_value, s_one_or_more, s_joined}
+use Rattle.rng_model.specs.matching.Document.{Attribute, Item, a_text, an_element, Items, no_items, item_and}
+use Rattle.rng_model.specs.documents.PyxTrees.{a_start}
+use Rattle.rng_model.specs.datatypes.Texts.{TextTests}
+use Rattle.rng_model.specs.matching.Reading.{Reading}
+use Rattle.rng_matching.specs.plain.States.{is_never}
+use Rattle.rng_matching.specs.plain.Events.{events_of_items, new, run, is_valid}
 
 abbrev name : ℕ → Name
 name k = record { ns = []; local = k ∷ [] }

@@ -1,12 +1,12 @@
 -- The except of a data (RELAX NG Specification, sections 6.2.8 and 7.1.4): the test says what the definition says.
 use Rattle.std.proofs.Common.{◌≡◌, ℕ, List, refl, sym, subst, Bool, true, false, ◌&&◌, not, inl, inr}
-use Rattle.rng_model.specs.Tree.{Simple, Datatype, choice, group, interleave, as_tree, s_not_allowed, s_empty, s_text, s_leaf, s_attribute, s_list}
-use Rattle.rng_model.specs.Tree.{s_data, s_data_except, s_value, s_one_or_more, s_joined}
-use Rattle.rng_model.specs.Lex.{HasText}
-use Rattle.rng_model.specs.Texts.{texts_of}
-use Rattle.rng_matching.specs.Reading.{Reading}
-use Rattle.rng_matching.specs.Restricted.{MayBeExcepted}
-use Rattle.rng_matching.specs.Derivatives.{is_excepted}
+use Rattle.rng_model.specs.simple.Tree.{Simple, Datatype, choice, group, interleave, as_tree, s_not_allowed, s_empty, s_text, s_leaf, s_attribute, s_list}
+use Rattle.rng_model.specs.simple.Tree.{s_data, s_data_except, s_value, s_one_or_more, s_joined}
+use Rattle.rng_model.specs.matching.Lex.{HasText}
+use Rattle.rng_model.specs.datatypes.Texts.{texts_of}
+use Rattle.rng_model.specs.matching.Reading.{Reading}
+use Rattle.rng_matching.specs.plain.Restricted.{MayBeExcepted}
+use Rattle.rng_matching.specs.plain.Derivatives.{is_excepted}
 use Rattle.rng_matching.proofs.Tools.{both, in_both, either_left, either_right, in_either}
 
 not_true : (b : Bool) → (b ≡ true → ⊥) → not b ≡ true

@@ -1,15 +1,15 @@
 -- Patterns and lists of ways that are made otherwise: choices as sets of alternatives, ways in another order, ways with
 -- equal leaves or with equal rests made one, ways that lead nowhere left out.
 use Rattle.std.proofs.Common.{◌≡◌, ◌⊎◌, inl, inr, ℕ, List, [], ◌∷◌, ◌++◌, refl, ap, ◌∙◌, Bool, true, false, cond, Some}
-use Rattle.rng_model.specs.Lists.{Among, here, there}
-use Rattle.rng_model.specs.Tree.{Simple, choice, group, interleave, s_not_allowed, s_empty, s_joined}
-use Rattle.rng_model.specs.Document.{Attribute, Item, a_text}
-use Rattle.rng_matching.specs.Reading.{Reading}
-use Rattle.rng_matching.specs.Taking.{Takes, WeaklyTakes, Same}
-use Rattle.rng_matching.specs.Taking as t
-use Rattle.rng_matching.specs.Restricted.{content_type, type_of_choice, IsTyped, IsRestricted, IsRestrictedBody}
-use Rattle.rng_matching.specs.Derivatives.{Way, is_not_allowed, choice_of}
-use Rattle.rng_matching.specs.Ways.{TakesItem, TakesAttribute, Opens, AreItemWays, AreAttributeWays}
+use Rattle.rng_model.specs.names.Lists.{Among, here, there}
+use Rattle.rng_model.specs.simple.Tree.{Simple, choice, group, interleave, s_not_allowed, s_empty, s_joined}
+use Rattle.rng_model.specs.matching.Document.{Attribute, Item, a_text}
+use Rattle.rng_model.specs.matching.Reading.{Reading}
+use Rattle.rng_matching.specs.plain.Taking.{Takes, WeaklyTakes, Same}
+use Rattle.rng_matching.specs.plain.Taking as t
+use Rattle.rng_matching.specs.plain.Restricted.{content_type, type_of_choice, IsTyped, IsRestricted, IsRestrictedBody}
+use Rattle.rng_matching.specs.plain.Derivatives.{Way, is_not_allowed, choice_of}
+use Rattle.rng_matching.specs.plain.Ways.{TakesItem, TakesAttribute, Opens, AreItemWays, AreAttributeWays}
 use Rattle.rng_matching.proofs.Same.{same, same_back, same_through, same_choice, same_group, same_interleave, choice_associative, group_associative}
 use Rattle.rng_matching.proofs.Same.{interleave_associative, not_allowed_or, empty_then, empty_beside}
 use Rattle.rng_matching.proofs.ItemWays.{same_has_ways}

@@ -1,12 +1,12 @@
 -- The restrictions are kept by all that derivatives build, in whatever order it is joined.
 use Rattle.std.proofs.Common.{ℕ, List, [], ◌∷◌, ◌++◌, Bool, true, false, cond}
-use Rattle.rng_model.specs.Tree.{Simple, Connector, choice, group, interleave, s_not_allowed, s_empty, s_text, s_leaf, s_attribute, s_list, s_data}
-use Rattle.rng_model.specs.Tree.{s_data_except, s_value, s_one_or_more, s_joined}
-use Rattle.rng_matching.specs.Restricted.{HasNoAttribute, HasNoneGrouped, RepeatsWell, HasTexts, IsRestricted}
-use Rattle.rng_matching.specs.Derivatives.{is_nullable, is_not_allowed, is_empty, choice_of, group_of, interleave_of, repeat_of, more_of, Way, behind}
-use Rattle.rng_matching.specs.Derivatives.{group_before}
-use Rattle.rng_matching.specs.Derivatives.{interleave_before, item_ways, attribute_ways, rests_of, closed}
-use Rattle.rng_matching.specs.Ways.{EachWay, IsItemLeaf, IsAttributeLeaf}
+use Rattle.rng_model.specs.simple.Tree.{Simple, Connector, choice, group, interleave, s_not_allowed, s_empty, s_text, s_leaf, s_attribute, s_list, s_data}
+use Rattle.rng_model.specs.simple.Tree.{s_data_except, s_value, s_one_or_more, s_joined}
+use Rattle.rng_matching.specs.plain.Restricted.{HasNoAttribute, HasNoneGrouped, RepeatsWell, HasTexts, IsRestricted}
+use Rattle.rng_matching.specs.plain.Derivatives.{is_nullable, is_not_allowed, is_empty, choice_of, group_of, interleave_of, repeat_of, more_of, Way, behind}
+use Rattle.rng_matching.specs.plain.Derivatives.{group_before}
+use Rattle.rng_matching.specs.plain.Derivatives.{interleave_before, item_ways, attribute_ways, rests_of, closed}
+use Rattle.rng_matching.specs.plain.Ways.{EachWay, IsItemLeaf, IsAttributeLeaf}
 
 -- Q goes from sides to what is joined of them, and back
 pub record IsHereditary (Q : Simple ℕ → Type 0) : Type 0 where

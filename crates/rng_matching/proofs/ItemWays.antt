@@ -2,18 +2,18 @@
 -- ways of a pattern. Strings and elements go the same way, since no blank string stands beside an element.
 use Rattle.std.proofs.Common.{◌≡◌, ℕ, List, [], ◌∷◌, ◌++◌, refl, sym, ap, ◌∙◌, subst, Bool, true, false, cond, inl, inr, ◌⊎◌}
 use Rattle.std.proofs.lemmas.List.{append-nil}
-use Rattle.rng_model.specs.Names.{Name}
-use Rattle.rng_model.specs.Tree.{Simple, choice, group, interleave, s_not_allowed, s_empty, s_text, s_leaf, s_attribute, s_list, s_data, s_data_except}
-use Rattle.rng_model.specs.Tree.{s_value, s_one_or_more, s_joined}
-use Rattle.rng_model.specs.Document.{Attribute, Item, a_text, an_element, Items, Interleaves, AllTexts, no_texts, text_and, Padded}
-use Rattle.rng_model.specs.Document as document
-use Rattle.rng_model.specs.Texts.{is_blank}
-use Rattle.rng_matching.specs.Reading.{Reading}
-use Rattle.rng_matching.specs.Taking.{Takes, Same}
-use Rattle.rng_matching.specs.Taking as t
-use Rattle.rng_matching.specs.Blanks.{IsBare, cons, strings_alone, no_blanks}
-use Rattle.rng_matching.specs.Derivatives.{Way, is_nullable, more_of, alone, behind, interleave_of, group_before, interleave_before, item_ways}
-use Rattle.rng_matching.specs.Ways.{TakesItem, AreItemWays}
+use Rattle.rng_model.specs.names.Names.{Name}
+use Rattle.rng_model.specs.simple.Tree.{Simple, choice, group, interleave, s_not_allowed, s_empty, s_text, s_leaf, s_attribute, s_list, s_data, s_data_except}
+use Rattle.rng_model.specs.simple.Tree.{s_value, s_one_or_more, s_joined}
+use Rattle.rng_model.specs.matching.Document.{Attribute, Item, a_text, an_element, Items, Interleaves, AllTexts, no_texts, text_and, Padded}
+use Rattle.rng_model.specs.matching.Document as document
+use Rattle.rng_model.specs.datatypes.Texts.{is_blank}
+use Rattle.rng_model.specs.matching.Reading.{Reading}
+use Rattle.rng_matching.specs.plain.Taking.{Takes, Same}
+use Rattle.rng_matching.specs.plain.Taking as t
+use Rattle.rng_matching.specs.plain.Blanks.{IsBare, cons, strings_alone, no_blanks}
+use Rattle.rng_matching.specs.plain.Derivatives.{Way, is_nullable, more_of, alone, behind, interleave_of, group_before, interleave_before, item_ways}
+use Rattle.rng_matching.specs.plain.Ways.{TakesItem, AreItemWays}
 use Rattle.rng_matching.proofs.Tools.{bare_cut, bare_left, bare_right, nothing_apart}
 use Rattle.rng_matching.proofs.Nullable.{null_in, null_out}
 use Rattle.rng_matching.proofs.Same.{group_of-same, interleave_of-same}

@@ -1,19 +1,20 @@
 -- A pattern takes what it matches by the one definition of matching.
 use Rattle.std.proofs.Common.{◌≡◌, ℕ, List, [], refl, sym, ap, ◌∙◌, subst, true, Option, Some, None, slice_get}
 use Rattle.std.proofs.lemmas.List.{append-nil}
-use Rattle.rng_model.specs.Names.{Name, NameClass, In}
-use Rattle.rng_model.specs.Tree.{Simple, Tree, choice, group, interleave, as_tree, no_trees, tree_and, one_or_more, s_not_allowed, s_empty, s_text, s_leaf}
-use Rattle.rng_model.specs.Tree.{s_attribute, s_list, s_data, s_data_except, s_value, s_one_or_more, s_joined}
-use Rattle.rng_model.specs.Document.{Attribute, Item, a_text, an_element, Items, list_of, Interleaves, Shares}
-use Rattle.rng_model.specs.Document as document
-use Rattle.rng_model.specs.Matching as m
-use Rattle.rng_model.specs.Table.{is_listed}
-use Rattle.rng_model.specs.Texts.{texts_of}
+use Rattle.rng_model.specs.names.Names.{Name, NameClass, In}
+use Rattle.rng_model.specs.simple.Tree.{Simple, Tree, choice, group, interleave, as_tree, no_trees, tree_and, one_or_more, s_not_allowed, s_empty, s_text, s_leaf}
+use Rattle.rng_model.specs.simple.Tree.{s_attribute, s_list, s_data, s_data_except, s_value, s_one_or_more, s_joined}
+use Rattle.rng_model.specs.matching.Document.{Attribute, Item, a_text, an_element, Items, list_of, Interleaves, Shares}
+use Rattle.rng_model.specs.matching.Document as document
+use Rattle.rng_model.specs.matching.Matching as m
+use Rattle.rng_model.specs.simple.Table.{is_listed}
+use Rattle.rng_model.specs.datatypes.Texts.{texts_of}
 use Rattle.rng_model.proofs.Interleaving.{left_alone, left_is_all}
 use Rattle.rng_names.proofs.Holding.{holds-Decides}
-use Rattle.rng_matching.specs.Reading.{Reading, body_of, body_in, named_in, leaves_of}
-use Rattle.rng_matching.specs.Taking.{Matches, WeaklyMatches, Takes, WeaklyTakes}
-use Rattle.rng_matching.specs.Taking as t
+use Rattle.rng_model.specs.matching.Reading.{Reading}
+use Rattle.rng_matching.specs.plain.Reading.{body_of, body_in, named_in, leaves_of}
+use Rattle.rng_matching.specs.plain.Taking.{Matches, WeaklyMatches, Takes, WeaklyTakes}
+use Rattle.rng_matching.specs.plain.Taking as t
 
 module _ (g : Reading) where
   -- the second of two members shares out what is left

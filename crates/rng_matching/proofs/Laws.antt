@@ -1,19 +1,20 @@
 -- The laws of this crate.
 use Rattle.std.proofs.Common.{◌≡◌, ◌↔◌, ℕ, List, [], ◌∷◌, refl, sym, ap, ◌∙◌, subst, Bool, true, false, Option, Some, None, slice_get}
-use Rattle.rng_model.specs.Names.{Name, NameClass, In}
-use Rattle.rng_model.specs.Tree.{Simple}
-use Rattle.rng_model.specs.Document.{Attribute, an_element}
-use Rattle.rng_model.specs.WellFormed.{IsWellFormed}
-use Rattle.rng_model.specs.Table.{Grammar, IsValidBy}
-use Rattle.rng_model.specs.Restrictions.{ClassIn}
-use Rattle.rng_model.specs.Texts.{TextTests, texts_of}
-use Rattle.rng_model.specs.PyxTrees.{PlacedItems, element_at, item_of, items_of, events_of}
-use Rattle.rng_names.specs.Holding.{holds}
+use Rattle.rng_model.specs.names.Names.{Name, NameClass, In}
+use Rattle.rng_model.specs.simple.Tree.{Simple}
+use Rattle.rng_model.specs.matching.Document.{Attribute, an_element}
+use Rattle.rng_model.specs.matching.WellFormed.{IsWellFormed}
+use Rattle.rng_model.specs.simple.Table.{Grammar, IsValidBy}
+use Rattle.rng_model.specs.restrictions.Restrictions.{ClassIn}
+use Rattle.rng_model.specs.datatypes.Texts.{TextTests, texts_of}
+use Rattle.rng_model.specs.documents.PyxTrees.{PlacedItems, element_at, item_of, items_of, events_of}
+use Rattle.rng_names.specs.plain.Holding.{holds}
 use Rattle.rng_names.proofs.Holding.{holds-Decides}
-use Rattle.rng_matching.specs.Reading.{named_in}
-use Rattle.rng_matching.specs.States.{finished, after_of, after_item, accepts, is_never}
-use Rattle.rng_matching.specs.Events.{kinds, new, run, is_valid}
-use Rattle.rng_matching.specs.Laws.{BreaksNone, reading, AcceptsValidDocuments, NeverIsInvalid, UnknownNameIsNever, InvalidIsNever}
+use Rattle.rng_matching.specs.plain.Reading.{named_in}
+use Rattle.rng_matching.specs.plain.States.{finished, after_of, after_item, accepts, is_never}
+use Rattle.rng_matching.specs.plain.Events.{kinds, new, run, is_valid}
+use Rattle.rng_model.specs.restrictions.BreaksNone.{BreaksNone}
+use Rattle.rng_matching.specs.plain.Laws.{reading, AcceptsValidDocuments, NeverIsInvalid, UnknownNameIsNever, InvalidIsNever}
 use Rattle.rng_matching.proofs.Joint.{takes_in, takes_out}
 use Rattle.rng_matching.proofs.Restricted.{start_may_start, start_restricted, bodies_restricted}
 use Rattle.rng_matching.proofs.Document.{root_in, root_out}

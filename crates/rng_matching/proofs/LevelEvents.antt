@@ -1,18 +1,18 @@
 -- A matcher of level states: each event keeps what it stands for; and the laws.
 use Rattle.std.proofs.Common.{◌≡◌, ◌↔◌, ℕ, suc, List, [], ◌∷◌, ◌++◌, length, refl, sym, ap, ◌∙◌, subst, Bool, true, false, Some, None, Contains, slice_get}
-use Rattle.rng_model.specs.Tree.{Simple}
-use Rattle.rng_model.specs.Document.{Item}
-use Rattle.rng_model.specs.PyxTrees.{EventKind, a_start, a_string, an_end, events_of}
-use Rattle.rng_matching.specs.Reading.{Reading}
-use Rattle.rng_matching.specs.Taking.{Takes}
-use Rattle.rng_matching.specs.Derivatives.{is_nullable}
-use Rattle.rng_matching.specs.Events.{kinds, open_after}
-use Rattle.rng_matching.specs.Laws.{reading}
-use Rattle.rng_matching.specs.Meanings.{IsStart, Settles, Runs, stays}
-use Rattle.rng_matching.specs.Meanings as meanings
-use Rattle.rng_matching.specs.LevelStates.{Link, LevelState, HoldsInLevels, level_meaning}
-use Rattle.rng_matching.specs.LevelEvents.{LevelMatcher, SettlesLevels, StepsTo, StandsFor, as_blank, as_text, at_start, at_string, at_end, at_end_of_text}
-use Rattle.rng_matching.specs.LevelEvents.{at_stray_end, LevelsAnswer, NoLevelsAreInvalid, NoEndIsInvalid, UnknownNameLeavesNone}
+use Rattle.rng_model.specs.simple.Tree.{Simple}
+use Rattle.rng_model.specs.matching.Document.{Item}
+use Rattle.rng_model.specs.documents.PyxTrees.{EventKind, a_start, a_string, an_end, events_of}
+use Rattle.rng_model.specs.matching.Reading.{Reading}
+use Rattle.rng_matching.specs.plain.Taking.{Takes}
+use Rattle.rng_matching.specs.plain.Derivatives.{is_nullable}
+use Rattle.rng_matching.specs.plain.Events.{kinds, open_after}
+use Rattle.rng_matching.specs.plain.Laws.{reading}
+use Rattle.rng_matching.specs.plain.Meanings.{IsStart, Settles, Runs, stays}
+use Rattle.rng_matching.specs.plain.Meanings as meanings
+use Rattle.rng_matching.specs.plain.LevelStates.{Link, LevelState, HoldsInLevels, level_meaning}
+use Rattle.rng_matching.specs.plain.LevelEvents.{LevelMatcher, SettlesLevels, StepsTo, StandsFor, as_blank, as_text, at_start, at_string, at_end, at_end_of_text}
+use Rattle.rng_matching.specs.plain.LevelEvents.{at_stray_end, LevelsAnswer, NoLevelsAreInvalid, NoEndIsInvalid, UnknownNameLeavesNone}
 use Rattle.rng_matching.proofs.Meanings.{run_on, runs_answer, empty_stays_invalid}
 use Rattle.rng_matching.proofs.Events.{kinds_append, append_nothing}
 use Rattle.rng_matching.proofs.LevelStates.{start_is_after, string_is_after, end_is_after, end_of_text_is_after}

@@ -4,20 +4,21 @@ use Rattle.std.proofs.Common.{true, false, ◌||◌, ◌&&◌, Some, slice_get, 
 use Rattle.std.specs.List.{AllZip}
 use Rattle.std.proofs.lemmas.Option.{same_Some, slice_get_within, slice_get-get_or, get_or_from_slice_get}
 use Rattle.std.proofs.lemmas.List.Elements.{All-contains}
-use Rattle.rng_model.specs.Names.{Name}
-use Rattle.rng_model.specs.Tree.{Simple}
-use Rattle.rng_model.specs.Document.{Attribute, Item, a_text, an_element, Items, list_of, no_texts, text_and}
-use Rattle.rng_model.specs.WellFormed.{Distinct, Separate}
-use Rattle.rng_model.specs.Texts.{is_blank}
-use Rattle.rng_matching.specs.Reading.{Reading, has_name}
-use Rattle.rng_matching.specs.Taking.{Takes}
-use Rattle.rng_matching.specs.Taking as t
-use Rattle.rng_matching.specs.Blanks.{Every, IsNotBlank, IsBare, no_blanks, strings_alone, has_element, without_blanks}
-use Rattle.rng_matching.specs.Derivatives.{is_not_allowed, is_nullable}
-use Rattle.rng_matching.specs.States as states
-use Rattle.rng_matching.specs.Meanings.{IsEmpty, IsStart, IsAfterStart, IsAfterString, IsAfterEnd, IsAfterEndOfText}
-use Rattle.rng_matching.specs.LevelStates.{LevelState, HoldsAround, SomeHolds, HoldsInLevels, level_meaning, IsAfterText, IsAfterTag}
-use Rattle.rng_matching.specs.LevelStates.{IsBodyNamed, StartsLevel, TakesString, EndsLevel, EndsNow, EndsWith}
+use Rattle.rng_model.specs.names.Names.{Name}
+use Rattle.rng_model.specs.simple.Tree.{Simple}
+use Rattle.rng_model.specs.matching.Document.{Attribute, Item, a_text, an_element, Items, list_of, no_texts, text_and}
+use Rattle.rng_model.specs.matching.WellFormed.{Distinct, Separate}
+use Rattle.rng_model.specs.datatypes.Texts.{is_blank}
+use Rattle.rng_model.specs.matching.Reading.{Reading}
+use Rattle.rng_matching.specs.plain.Reading.{has_name}
+use Rattle.rng_matching.specs.plain.Taking.{Takes}
+use Rattle.rng_matching.specs.plain.Taking as t
+use Rattle.rng_matching.specs.plain.Blanks.{Every, IsNotBlank, IsBare, no_blanks, strings_alone, has_element, without_blanks}
+use Rattle.rng_matching.specs.plain.Derivatives.{is_not_allowed, is_nullable}
+use Rattle.rng_matching.specs.plain.States as states
+use Rattle.rng_matching.specs.plain.Meanings.{IsEmpty, IsStart, IsAfterStart, IsAfterString, IsAfterEnd, IsAfterEndOfText}
+use Rattle.rng_matching.specs.plain.LevelStates.{LevelState, HoldsAround, SomeHolds, HoldsInLevels, level_meaning, IsAfterText, IsAfterTag}
+use Rattle.rng_matching.specs.plain.LevelStates.{IsBodyNamed, StartsLevel, TakesString, EndsLevel, EndsNow, EndsWith}
 use Rattle.rng_matching.proofs.Tools.{both, in_both, either_left, either_right, in_either}
 use Rattle.rng_matching.proofs.Nullable.{null_in, null_out}
 use Rattle.rng_matching.proofs.States.{none_taken, none_contained}

@@ -5,16 +5,17 @@ use Rattle.std.specs.List.{AllZip}
 use Rattle.std.proofs.lemmas.Option.{same_Some}
 use Rattle.std.proofs.lemmas.List.Elements.{All-contains, All-append, Contains-push, Contains-push_cases}
 use Rattle.std.proofs.lemmas.List.Elements.{Contains-append_left, Contains-append_right, Contains-append_cases}
-use Rattle.rng_model.specs.Names.{Name}
-use Rattle.rng_model.specs.Tree.{Simple}
-use Rattle.rng_model.specs.Document.{Attribute, Item, an_element, Items, list_of}
-use Rattle.rng_matching.specs.Reading.{Reading, body_of}
-use Rattle.rng_matching.specs.Taking.{Takes, WeaklyTakes}
-use Rattle.rng_matching.specs.Restricted.{IsTyped}
-use Rattle.rng_matching.specs.Blanks.{Every, cons, no_blanks, IsNotBlank}
-use Rattle.rng_matching.specs.Derivatives.{Way, bodies_of}
-use Rattle.rng_matching.specs.Ways.{Opens, EachWay, AreItemWays, IsItemLeaf}
-use Rattle.rng_matching.specs.LevelStates.{Link, IsBodyNamed, AreStarts, OpensAt, AreOpened, AreEnded}
+use Rattle.rng_model.specs.names.Names.{Name}
+use Rattle.rng_model.specs.simple.Tree.{Simple}
+use Rattle.rng_model.specs.matching.Document.{Attribute, Item, an_element, Items, list_of}
+use Rattle.rng_model.specs.matching.Reading.{Reading}
+use Rattle.rng_matching.specs.plain.Reading.{body_of}
+use Rattle.rng_matching.specs.plain.Taking.{Takes, WeaklyTakes}
+use Rattle.rng_matching.specs.plain.Restricted.{IsTyped}
+use Rattle.rng_matching.specs.plain.Blanks.{Every, cons, no_blanks, IsNotBlank}
+use Rattle.rng_matching.specs.plain.Derivatives.{Way, bodies_of}
+use Rattle.rng_matching.specs.plain.Ways.{Opens, EachWay, AreItemWays, IsItemLeaf}
+use Rattle.rng_matching.specs.plain.LevelStates.{Link, IsBodyNamed, AreStarts, OpensAt, AreOpened, AreEnded}
 use Rattle.rng_matching.proofs.Starts.{bodies_in, bodies_out, bodies_keep}
 use Rattle.rng_matching.proofs.LevelStates.{beside_second, contained, found_at}
 

@@ -1,19 +1,19 @@
 -- Each event over levels: a state holds before it exactly if the state after it holds of what then remains.
 use Rattle.std.proofs.Common.{◌≡◌, ℕ, List, [], ◌∷◌, refl, sym, subst, Bool, true, false, inl, inr}
-use Rattle.rng_model.specs.Names.{Name}
-use Rattle.rng_model.specs.Tree.{Simple}
-use Rattle.rng_model.specs.Document.{Attribute, Item, a_text, an_element, Items, list_of}
-use Rattle.rng_model.specs.WellFormed.{Distinct, Separate}
-use Rattle.rng_model.specs.WellFormed as w
-use Rattle.rng_matching.specs.Reading.{Reading}
-use Rattle.rng_matching.specs.Taking.{Takes, WeaklyTakes}
-use Rattle.rng_matching.specs.Taking as t
-use Rattle.rng_matching.specs.Restricted.{IsRestricted, IsRestrictedBody, IsTyped}
-use Rattle.rng_matching.specs.Blanks.{Every, cons, IsNotBlank, no_blanks, has_element, without_blanks, string_of}
-use Rattle.rng_matching.specs.Derivatives.{Way, is_nullable, closed, after_text, has_text, after_attributes, after_start, item_ways}
-use Rattle.rng_matching.specs.Ways.{Opens, EachWay, IsItemLeaf}
-use Rattle.rng_matching.specs.States.{State, never, finished, after, either, after_of, end_tag, is_ended, accepts, enter, start_tag, string, end_text}
-use Rattle.rng_matching.specs.States.{Holds, Contains, Begins, HasRestrictedBodies, IsRestrictedState}
+use Rattle.rng_model.specs.names.Names.{Name}
+use Rattle.rng_model.specs.simple.Tree.{Simple}
+use Rattle.rng_model.specs.matching.Document.{Attribute, Item, a_text, an_element, Items, list_of}
+use Rattle.rng_model.specs.matching.WellFormed.{Distinct, Separate}
+use Rattle.rng_model.specs.matching.WellFormed as w
+use Rattle.rng_model.specs.matching.Reading.{Reading}
+use Rattle.rng_matching.specs.plain.Taking.{Takes, WeaklyTakes}
+use Rattle.rng_matching.specs.plain.Taking as t
+use Rattle.rng_matching.specs.plain.Restricted.{IsRestricted, IsRestrictedBody, IsTyped}
+use Rattle.rng_matching.specs.plain.Blanks.{Every, cons, IsNotBlank, no_blanks, has_element, without_blanks, string_of}
+use Rattle.rng_matching.specs.plain.Derivatives.{Way, is_nullable, closed, after_text, has_text, after_attributes, after_start, item_ways}
+use Rattle.rng_matching.specs.plain.Ways.{Opens, EachWay, IsItemLeaf}
+use Rattle.rng_matching.specs.plain.States.{State, never, finished, after, either, after_of, end_tag, is_ended, accepts, enter, start_tag, string, end_text}
+use Rattle.rng_matching.specs.plain.States.{Holds, Contains, Begins, HasRestrictedBodies, IsRestrictedState}
 use Rattle.rng_matching.proofs.Tools.{both, in_both, either_left, either_right, in_either}
 use Rattle.rng_matching.proofs.Nullable.{null_in, null_out}
 use Rattle.rng_matching.proofs.Hereditary.{IsRestricted-hereditary, closed-restricted, item_ways-keep, rests_of-keeps}

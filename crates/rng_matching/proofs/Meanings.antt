@@ -1,17 +1,17 @@
 -- Meanings that events lead to: after those of a document nothing remains exactly if the document is valid.
 use Rattle.std.proofs.Common.{◌≡◌, ◌↔◌, ℕ, List, [], ◌∷◌, ◌++◌, refl, sym, ap, ◌∙◌, subst, Bool, true, false, cond, append_assoc}
-use Rattle.rng_model.specs.Names.{Name}
-use Rattle.rng_model.specs.Document.{Attribute, Item, a_text, an_element, Items, no_items, item_and, list_of}
-use Rattle.rng_model.specs.WellFormed.{Distinct, Separate, IsWellFormed, AreWellFormed}
-use Rattle.rng_model.specs.WellFormed as w
-use Rattle.rng_model.specs.Texts.{is_blank, TextTests, texts_of}
-use Rattle.rng_model.specs.Table.{Grammar, IsValidBy}
-use Rattle.rng_model.specs.PyxTrees.{Event, EventKind, a_start, a_string, an_end, Placed, PlacedItems, element_at, item_of, items_of, events_of, IsPyxDocument}
-use Rattle.rng_matching.specs.Blanks.{Every, nil, cons, IsNotBlank, has_element, without_blanks}
-use Rattle.rng_matching.specs.Events.{kinds, events_of_items}
-use Rattle.rng_matching.specs.Laws.{reading}
-use Rattle.rng_matching.specs.Meanings.{Meaning, IsEmpty, IsStart, IsAfterStart, IsAfterString, IsAfterEnd, IsAfterEndOfText, Settles, Runs, as_blank, as_text}
-use Rattle.rng_matching.specs.Meanings.{stays, at_start, at_string, at_end, at_end_of_text, RunsAnswer, EmptyIsInvalid}
+use Rattle.rng_model.specs.names.Names.{Name}
+use Rattle.rng_model.specs.matching.Document.{Attribute, Item, a_text, an_element, Items, no_items, item_and, list_of}
+use Rattle.rng_model.specs.matching.WellFormed.{Distinct, Separate, IsWellFormed, AreWellFormed}
+use Rattle.rng_model.specs.matching.WellFormed as w
+use Rattle.rng_model.specs.datatypes.Texts.{is_blank, TextTests, texts_of}
+use Rattle.rng_model.specs.simple.Table.{Grammar, IsValidBy}
+use Rattle.rng_model.specs.documents.PyxTrees.{Event, EventKind, a_start, a_string, an_end, Placed, PlacedItems, element_at, item_of, items_of, events_of, IsPyxDocument}
+use Rattle.rng_matching.specs.plain.Blanks.{Every, nil, cons, IsNotBlank, has_element, without_blanks}
+use Rattle.rng_matching.specs.plain.Events.{kinds, events_of_items}
+use Rattle.rng_matching.specs.plain.Laws.{reading}
+use Rattle.rng_matching.specs.plain.Meanings.{Meaning, IsEmpty, IsStart, IsAfterStart, IsAfterString, IsAfterEnd, IsAfterEndOfText, Settles, Runs, as_blank, as_text}
+use Rattle.rng_matching.specs.plain.Meanings.{stays, at_start, at_string, at_end, at_end_of_text, RunsAnswer, EmptyIsInvalid}
 use Rattle.rng_matching.proofs.Joint.{takes_in, takes_out}
 use Rattle.rng_matching.proofs.PutBlanks.{without_is_clean}
 use Rattle.rng_matching.proofs.Events.{kinds_of_document, kinds_append}

@@ -1,13 +1,13 @@
 -- A pattern is nullable exactly if it takes no attributes with no items.
 use Rattle.std.proofs.Common.{◌≡◌, ◌↔◌, IsTrue, ℕ, List, [], refl, sym, ◌∙◌, subst, Bool, true, false, cond, inl, inr}
-use Rattle.rng_model.specs.Tree.{Simple, choice, group, interleave, s_not_allowed, s_empty, s_text, s_leaf, s_attribute, s_list, s_data, s_data_except}
-use Rattle.rng_model.specs.Tree.{s_value, s_one_or_more, s_joined}
-use Rattle.rng_model.specs.Document.{Attribute, Item, no_texts}
-use Rattle.rng_model.specs.Document as document
-use Rattle.rng_matching.specs.Reading.{Reading}
-use Rattle.rng_matching.specs.Taking.{Takes}
-use Rattle.rng_matching.specs.Taking as t
-use Rattle.rng_matching.specs.Derivatives.{is_nullable}
+use Rattle.rng_model.specs.simple.Tree.{Simple, choice, group, interleave, s_not_allowed, s_empty, s_text, s_leaf, s_attribute, s_list, s_data, s_data_except}
+use Rattle.rng_model.specs.simple.Tree.{s_value, s_one_or_more, s_joined}
+use Rattle.rng_model.specs.matching.Document.{Attribute, Item, no_texts}
+use Rattle.rng_model.specs.matching.Document as document
+use Rattle.rng_model.specs.matching.Reading.{Reading}
+use Rattle.rng_matching.specs.plain.Taking.{Takes}
+use Rattle.rng_matching.specs.plain.Taking as t
+use Rattle.rng_matching.specs.plain.Derivatives.{is_nullable}
 use Rattle.rng_matching.proofs.Tools.{both, in_both, either_left, either_right, in_either, nil_parts}
 
 module _ (g : Reading) where

@@ -1,9 +1,9 @@
 -- How many elements are open after events with which a document begins.
 use Rattle.std.proofs.Common.{◌≡◌, ◌≢◌, ℕ, zero, suc, List, [], ◌∷◌, ◌++◌, refl, sym, ap, ◌∙◌, append_assoc, Option, Some, None}
-use Rattle.rng_model.specs.Names.{Name}
-use Rattle.rng_model.specs.Document.{Attribute, a_text, an_element, Items, no_items, item_and}
-use Rattle.rng_model.specs.PyxTrees.{EventKind, a_start, a_string, an_end, Placed, text_at, element_at, item_of, items_of, events_of, IsPyxDocument}
-use Rattle.rng_matching.specs.Events.{kinds, events_of_items, open_after}
+use Rattle.rng_model.specs.names.Names.{Name}
+use Rattle.rng_model.specs.matching.Document.{Attribute, a_text, an_element, Items, no_items, item_and}
+use Rattle.rng_model.specs.documents.PyxTrees.{EventKind, a_start, a_string, an_end, Placed, text_at, element_at, item_of, items_of, events_of, IsPyxDocument}
+use Rattle.rng_matching.specs.plain.Events.{kinds, events_of_items, open_after}
 use Rattle.rng_matching.proofs.Events.{kinds_of_document, append_nothing}
 use Rattle.rng_matching.proofs.PyxDocuments.{document_formed}
 

@@ -1,21 +1,22 @@
 -- Where a document turns out to be invalid: at the latest at a start whose name lies in the class of no element, and at
 -- the latest at its last event.
 use Rattle.std.proofs.Common.{◌≡◌, ℕ, zero, suc, List, [], ◌∷◌, ◌++◌, refl, ap, ◌∙◌, Bool, true, false, cond}
-use Rattle.rng_model.specs.Names.{Name}
-use Rattle.rng_model.specs.Tree.{Simple, choice, group, interleave, s_not_allowed, s_empty, s_text, s_leaf, s_attribute, s_list, s_data, s_data_except}
-use Rattle.rng_model.specs.Tree.{s_value, s_one_or_more, s_joined}
-use Rattle.rng_model.specs.Document.{Attribute, a_text, an_element, Items, no_items, item_and, list_of}
-use Rattle.rng_model.specs.Texts.{is_blank}
-use Rattle.rng_model.specs.PyxTrees.{a_start}
-use Rattle.rng_matching.specs.Reading.{Reading, body_of, has_name}
-use Rattle.rng_matching.specs.Restricted.{MayStart}
-use Rattle.rng_matching.specs.Blanks.{has_element, string_of}
-use Rattle.rng_matching.specs.Derivatives.{Way, is_nullable, is_not_allowed, closed, after_text, has_text, after_attributes, after_start, item_ways}
-use Rattle.rng_matching.specs.Derivatives.{started, bodies_of}
-use Rattle.rng_matching.specs.Ways.{EachWay}
-use Rattle.rng_matching.specs.States.{State, never, finished, after, either, is_never, is_ended, accepts, after_of, either_of, enter, start_tag, string}
-use Rattle.rng_matching.specs.States.{end_tag, end_text, after_items, after_item}
-use Rattle.rng_matching.specs.Events.{Matcher, settled, step}
+use Rattle.rng_model.specs.names.Names.{Name}
+use Rattle.rng_model.specs.simple.Tree.{Simple, choice, group, interleave, s_not_allowed, s_empty, s_text, s_leaf, s_attribute, s_list, s_data, s_data_except}
+use Rattle.rng_model.specs.simple.Tree.{s_value, s_one_or_more, s_joined}
+use Rattle.rng_model.specs.matching.Document.{Attribute, a_text, an_element, Items, no_items, item_and, list_of}
+use Rattle.rng_model.specs.datatypes.Texts.{is_blank}
+use Rattle.rng_model.specs.documents.PyxTrees.{a_start}
+use Rattle.rng_model.specs.matching.Reading.{Reading}
+use Rattle.rng_matching.specs.plain.Reading.{body_of, has_name}
+use Rattle.rng_matching.specs.plain.Restricted.{MayStart}
+use Rattle.rng_matching.specs.plain.Blanks.{has_element, string_of}
+use Rattle.rng_matching.specs.plain.Derivatives.{Way, is_nullable, is_not_allowed, closed, after_text, has_text, after_attributes, after_start, item_ways}
+use Rattle.rng_matching.specs.plain.Derivatives.{started, bodies_of}
+use Rattle.rng_matching.specs.plain.Ways.{EachWay}
+use Rattle.rng_matching.specs.plain.States.{State, never, finished, after, either, is_never, is_ended, accepts, after_of, either_of, enter, start_tag, string}
+use Rattle.rng_matching.specs.plain.States.{end_tag, end_text, after_items, after_item}
+use Rattle.rng_matching.specs.plain.Events.{Matcher, settled, step}
 use Rattle.rng_matching.proofs.Tools.{both, either_left}
 use Rattle.rng_matching.proofs.Starts.{bodies_keep}
 

@@ -3,17 +3,17 @@
 -- 6.2.7). No restriction on the pattern is needed.
 use Rattle.std.proofs.Common.{◌≡◌, ℕ, List, [], ◌∷◌, ◌++◌, refl, sym, ap, ◌∙◌, subst, Bool, true, false, cond, append_assoc}
 use Rattle.std.proofs.lemmas.List.{append-nil}
-use Rattle.rng_model.specs.Names.{Name}
-use Rattle.rng_model.specs.Tree.{Simple}
-use Rattle.rng_model.specs.Document.{Attribute, Item, a_text, an_element, Items, Interleaves, AllTexts, no_texts, text_and, Padded}
-use Rattle.rng_model.specs.Document as document
-use Rattle.rng_model.specs.WellFormed.{Separate}
-use Rattle.rng_model.specs.WellFormed as w
-use Rattle.rng_model.specs.Texts.{is_blank}
-use Rattle.rng_matching.specs.Reading.{Reading}
-use Rattle.rng_matching.specs.Taking.{Takes}
-use Rattle.rng_matching.specs.Taking as t
-use Rattle.rng_matching.specs.Blanks.{Every, nil, cons, IsNotBlank, has_element, without_blanks}
+use Rattle.rng_model.specs.names.Names.{Name}
+use Rattle.rng_model.specs.simple.Tree.{Simple}
+use Rattle.rng_model.specs.matching.Document.{Attribute, Item, a_text, an_element, Items, Interleaves, AllTexts, no_texts, text_and, Padded}
+use Rattle.rng_model.specs.matching.Document as document
+use Rattle.rng_model.specs.matching.WellFormed.{Separate}
+use Rattle.rng_model.specs.matching.WellFormed as w
+use Rattle.rng_model.specs.datatypes.Texts.{is_blank}
+use Rattle.rng_model.specs.matching.Reading.{Reading}
+use Rattle.rng_matching.specs.plain.Taking.{Takes}
+use Rattle.rng_matching.specs.plain.Taking as t
+use Rattle.rng_matching.specs.plain.Blanks.{Every, nil, cons, IsNotBlank, has_element, without_blanks}
 use Rattle.rng_matching.proofs.Tools.{every_parts, every_left, every_right}
 
 -- the second list is the first with elements padded

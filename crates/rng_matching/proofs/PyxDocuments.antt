@@ -1,15 +1,15 @@
 -- A PYX document is an element tree with distinct attribute names in each tag, and without empty strings or strings side
 -- by side.
 use Rattle.std.proofs.Common.{◌≡◌, ℕ, List, [], ◌∷◌, subst, sym}
-use Rattle.rng_model.specs.Names.{Name}
-use Rattle.rng_model.specs.Document.{Attribute, an_element, list_of}
-use Rattle.rng_model.specs.WellFormed.{Separate, IsWellFormed, AreWellFormed}
-use Rattle.rng_model.specs.WellFormed as w
-use Rattle.rng_model.specs.PyxLines.{Said}
-use Rattle.rng_model.specs.PyxNamespaces.{Scope}
-use Rattle.rng_model.specs.PyxTrees.{Placed, PlacedItems, text_at, element_at, none_placed, placed_and, item_of, items_of, string_before, IsElement, IsContent}
-use Rattle.rng_model.specs.PyxTrees.{IsPyxDocument}
-use Rattle.rng_model.specs.PyxTrees as p
+use Rattle.rng_model.specs.names.Names.{Name}
+use Rattle.rng_model.specs.matching.Document.{Attribute, an_element, list_of}
+use Rattle.rng_model.specs.matching.WellFormed.{Separate, IsWellFormed, AreWellFormed}
+use Rattle.rng_model.specs.matching.WellFormed as w
+use Rattle.rng_model.specs.documents.PyxLines.{Said}
+use Rattle.rng_model.specs.documents.PyxNamespaces.{Scope}
+use Rattle.rng_model.specs.documents.PyxTrees.{Placed, PlacedItems, text_at, element_at, none_placed, placed_and, item_of, items_of, string_before, IsElement, IsContent}
+use Rattle.rng_model.specs.documents.PyxTrees.{IsPyxDocument}
+use Rattle.rng_model.specs.documents.PyxTrees as p
 
 -- the tree is an element, and well formed
 pub record IsElementTree (tree : Placed) : Type 0 where

@@ -1,18 +1,18 @@
 -- Behind an attribute that a repetition takes the repetition is left, zero times or more: with no attribute in a group (section 7.1.2) the
 -- attribute stands alone in its copy, so what else the copy may take is a copy again.
 use Rattle.std.proofs.Common.{◌≡◌, ℕ, List, [], ◌∷◌, refl, sym, subst}
-use Rattle.rng_model.specs.Lists.{Among}
-use Rattle.rng_model.specs.Tree.{Simple, s_one_or_more}
-use Rattle.rng_model.specs.Document.{Attribute, Item}
-use Rattle.rng_model.specs.Document as document
-use Rattle.rng_model.specs.WellFormed.{Distinct}
+use Rattle.rng_model.specs.names.Lists.{Among}
+use Rattle.rng_model.specs.simple.Tree.{Simple, s_one_or_more}
+use Rattle.rng_model.specs.matching.Document.{Attribute, Item}
+use Rattle.rng_model.specs.matching.Document as document
+use Rattle.rng_model.specs.matching.WellFormed.{Distinct}
 use Rattle.rng_model.proofs.Interleaving.{right_alone}
-use Rattle.rng_matching.specs.Reading.{Reading}
-use Rattle.rng_matching.specs.Taking.{Takes, Same}
-use Rattle.rng_matching.specs.Taking as t
-use Rattle.rng_matching.specs.Restricted.{HasNoneGrouped}
-use Rattle.rng_matching.specs.Derivatives.{Way, more_of}
-use Rattle.rng_matching.specs.Ways.{TakesAttribute, AreAttributeWays}
+use Rattle.rng_model.specs.matching.Reading.{Reading}
+use Rattle.rng_matching.specs.plain.Taking.{Takes, Same}
+use Rattle.rng_matching.specs.plain.Taking as t
+use Rattle.rng_matching.specs.plain.Restricted.{HasNoneGrouped}
+use Rattle.rng_matching.specs.plain.Derivatives.{Way, more_of}
+use Rattle.rng_matching.specs.plain.Ways.{TakesAttribute, AreAttributeWays}
 use Rattle.rng_matching.proofs.AttributeWays.{Remains, nothing, some, attribute_alone, repeat_alone}
 use Rattle.rng_matching.proofs.FreeForms.{attribute_among, attribute_way}
 use Rattle.rng_matching.proofs.Tools.{apart, distinct_left}

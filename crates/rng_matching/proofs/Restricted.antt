@@ -1,19 +1,19 @@
 -- What grammars keep that break none of the restrictions (RELAX NG Specification, section 7).
 use Rattle.std.proofs.Common.{◌≡◌, ◌⊎◌, inl, inr, ℕ, zero, suc, List, [], ◌∷◌, refl, sym, ap, ◌∙◌, subst, Option, Some, None, slice_get}
-use Rattle.rng_model.specs.Lists.{Among, here, there}
-use Rattle.rng_model.specs.Names.{NameClass}
-use Rattle.rng_model.specs.Tree.{Simple, Datatype, Connector, choice, group, interleave, s_not_allowed, s_empty, s_text, s_leaf, s_attribute, s_list, s_data}
-use Rattle.rng_model.specs.Tree.{s_data_except, s_value, s_one_or_more, s_joined}
-use Rattle.rng_model.specs.Table.{Grammar}
-use Rattle.rng_model.specs.Restrictions.{kind_of, StandsIn, Inside, attribute_kind, group_kind, interleave_kind, one_or_more_kind, list_kind, BarredFromList}
-use Rattle.rng_model.specs.Restrictions.{BarredFromExcept, BarredFromStart, BreaksStart, BreaksOneOrMore, BreaksList, BreaksExcept, BreaksContent, IsPart}
-use Rattle.rng_model.specs.Restrictions.{BreaksRestriction, HasContent}
-use Rattle.rng_model.specs.Restrictions.{ContentType, empty_content, complex_content, simple_content, greater, AreGroupable}
-use Rattle.rng_model.specs.Restrictions as r
-use Rattle.rng_matching.specs.Reading.{body_in}
-use Rattle.rng_matching.specs.Restricted.{HasNoAttribute, HasNoneGrouped, RepeatsWell, MayBeExcepted, MayBeListed, HasTexts, MayStart, type_of_choice}
-use Rattle.rng_matching.specs.Restricted.{type_of_both}
-use Rattle.rng_matching.specs.Restricted.{type_of_attribute, content_type, IsTyped, IsRestricted, IsRestrictedBody}
+use Rattle.rng_model.specs.names.Lists.{Among, here, there}
+use Rattle.rng_model.specs.names.Names.{NameClass}
+use Rattle.rng_model.specs.simple.Tree.{Simple, Datatype, Connector, choice, group, interleave, s_not_allowed, s_empty, s_text, s_leaf, s_attribute, s_list, s_data}
+use Rattle.rng_model.specs.simple.Tree.{s_data_except, s_value, s_one_or_more, s_joined}
+use Rattle.rng_model.specs.simple.Table.{Grammar}
+use Rattle.rng_model.specs.restrictions.Restrictions.{kind_of, StandsIn, Inside, attribute_kind, group_kind, interleave_kind, one_or_more_kind, list_kind, BarredFromList}
+use Rattle.rng_model.specs.restrictions.Restrictions.{BarredFromExcept, BarredFromStart, BreaksStart, BreaksOneOrMore, BreaksList, BreaksExcept, BreaksContent, IsPart}
+use Rattle.rng_model.specs.restrictions.Restrictions.{BreaksRestriction, HasContent}
+use Rattle.rng_model.specs.restrictions.Restrictions.{ContentType, empty_content, complex_content, simple_content, greater, AreGroupable}
+use Rattle.rng_model.specs.restrictions.Restrictions as r
+use Rattle.rng_matching.specs.plain.Reading.{body_in}
+use Rattle.rng_matching.specs.plain.Restricted.{HasNoAttribute, HasNoneGrouped, RepeatsWell, MayBeExcepted, MayBeListed, HasTexts, MayStart, type_of_choice}
+use Rattle.rng_matching.specs.plain.Restricted.{type_of_both}
+use Rattle.rng_matching.specs.plain.Restricted.{type_of_attribute, content_type, IsTyped, IsRestricted, IsRestrictedBody}
 
 -- ---- section 7.1.2
 

@@ -3,13 +3,13 @@
 -- change nothing.
 use Rattle.std.proofs.Common.{◌≡◌, ℕ, List, ◌∷◌, ◌++◌, refl, sym, ap, ◌∙◌, subst, Bool, true, false, cond, append_assoc}
 use Rattle.std.proofs.lemmas.List.{append-nil}
-use Rattle.rng_model.specs.Tree.{Simple, choice, group, interleave, s_not_allowed, s_empty, s_one_or_more, s_joined}
-use Rattle.rng_model.specs.Document.{Attribute, Item, Interleaves, done, left, right}
+use Rattle.rng_model.specs.simple.Tree.{Simple, choice, group, interleave, s_not_allowed, s_empty, s_one_or_more, s_joined}
+use Rattle.rng_model.specs.matching.Document.{Attribute, Item, Interleaves, done, left, right}
 use Rattle.rng_model.proofs.Interleaving.{left_alone, right_alone, left_is_all, right_is_all}
-use Rattle.rng_matching.specs.Reading.{Reading}
-use Rattle.rng_matching.specs.Taking.{Takes, Same}
-use Rattle.rng_matching.specs.Taking as t
-use Rattle.rng_matching.specs.Derivatives.{is_nullable, is_not_allowed, is_empty, choice_of, group_of, interleave_of, repeat_of}
+use Rattle.rng_model.specs.matching.Reading.{Reading}
+use Rattle.rng_matching.specs.plain.Taking.{Takes, Same}
+use Rattle.rng_matching.specs.plain.Taking as t
+use Rattle.rng_matching.specs.plain.Derivatives.{is_nullable, is_not_allowed, is_empty, choice_of, group_of, interleave_of, repeat_of}
 use Rattle.rng_matching.proofs.Nullable.{null_out}
 
 -- ---- interleavings, put otherwise

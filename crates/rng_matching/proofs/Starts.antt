@@ -1,16 +1,17 @@
 -- After a start tag: an element comes first exactly if the body of some leaf weakly takes its attributes and children.
 use Rattle.std.proofs.Common.{◌≡◌, ℕ, List, [], ◌∷◌, refl, Bool, true, false, cond, inl, inr, ◌⊎◌}
-use Rattle.rng_model.specs.Names.{Name}
-use Rattle.rng_model.specs.Tree.{Simple, s_not_allowed, s_empty, s_text, s_leaf, s_attribute, s_list, s_data, s_data_except, s_value, s_one_or_more, s_joined}
-use Rattle.rng_model.specs.Document.{Attribute, Item, an_element, Items, list_of}
-use Rattle.rng_model.specs.Document as document
-use Rattle.rng_matching.specs.Reading.{Reading, body_of, has_name}
-use Rattle.rng_matching.specs.Taking.{Takes, WeaklyTakes, WeaklyMatches}
-use Rattle.rng_matching.specs.Taking as t
-use Rattle.rng_matching.specs.Restricted.{IsRestricted, IsRestrictedBody}
-use Rattle.rng_matching.specs.Blanks.{IsBare}
-use Rattle.rng_matching.specs.Derivatives.{Way, item_ways, started, bodies_of, after_start}
-use Rattle.rng_matching.specs.Ways.{TakesItem, Opens, EachWay, IsItemLeaf}
+use Rattle.rng_model.specs.names.Names.{Name}
+use Rattle.rng_model.specs.simple.Tree.{Simple, s_not_allowed, s_empty, s_text, s_leaf, s_attribute, s_list, s_data, s_data_except, s_value, s_one_or_more, s_joined}
+use Rattle.rng_model.specs.matching.Document.{Attribute, Item, an_element, Items, list_of}
+use Rattle.rng_model.specs.matching.Document as document
+use Rattle.rng_model.specs.matching.Reading.{Reading}
+use Rattle.rng_matching.specs.plain.Reading.{body_of, has_name}
+use Rattle.rng_matching.specs.plain.Taking.{Takes, WeaklyTakes, WeaklyMatches}
+use Rattle.rng_matching.specs.plain.Taking as t
+use Rattle.rng_matching.specs.plain.Restricted.{IsRestricted, IsRestrictedBody}
+use Rattle.rng_matching.specs.plain.Blanks.{IsBare}
+use Rattle.rng_matching.specs.plain.Derivatives.{Way, item_ways, started, bodies_of, after_start}
+use Rattle.rng_matching.specs.plain.Ways.{TakesItem, Opens, EachWay, IsItemLeaf}
 use Rattle.rng_matching.proofs.Joint.{weakly_in, weakly_out}
 use Rattle.rng_matching.proofs.ItemWays.{item_ways-are}
 use Rattle.rng_matching.proofs.Hereditary.{IsRestricted-hereditary, item_ways-keep}

@@ -1,24 +1,24 @@
 -- The meanings of states: each event changes them as it has to. And states that are put otherwise: alternatives as a set,
 -- alternatives with one pattern inside made one, a start tag entered by other ways that open the same.
 use Rattle.std.proofs.Common.{◌≡◌, ◌↔◌, inl, inr, ℕ, List, [], ◌∷◌, sym, subst, Bool, true, false, cond, refl}
-use Rattle.rng_model.specs.Lists.{Among, here, there}
-use Rattle.rng_model.specs.Names.{Name}
-use Rattle.rng_model.specs.Tree.{Simple}
-use Rattle.rng_model.specs.Document.{Attribute, Item, an_element, list_of}
-use Rattle.rng_matching.specs.Reading.{Reading}
-use Rattle.rng_matching.specs.Taking.{Same}
-use Rattle.rng_matching.specs.Restricted.{IsRestricted, IsRestrictedBody}
-use Rattle.rng_matching.specs.Blanks.{cons, no_blanks, without_blanks, has_element}
-use Rattle.rng_matching.specs.Derivatives.{Way, after_start}
-use Rattle.rng_matching.specs.Ways.{Opens, EachWay}
-use Rattle.rng_matching.specs.States.{Contains, State, never, finished, after, either, after_of, either_of, end_tag, enter, start_tag, string, end_text}
-use Rattle.rng_matching.specs.States.{accepts, Holds}
-use Rattle.rng_matching.specs.States.{Begins, HasRestrictedBodies, IsRestrictedState}
-use Rattle.rng_model.specs.Texts.{is_blank}
-use Rattle.rng_model.specs.PyxTrees.{EventKind, a_start, a_string, an_end}
-use Rattle.rng_matching.specs.Events.{Matcher, run}
-use Rattle.rng_matching.specs.Meanings.{Meaning, IsEmpty, IsStart, IsAfterStart, IsAfterString, IsAfterEnd, IsAfterEndOfText, Settles, as_blank, as_text, Runs}
-use Rattle.rng_matching.specs.Meanings.{stays, at_start, at_string, at_end, at_end_of_text}
+use Rattle.rng_model.specs.names.Lists.{Among, here, there}
+use Rattle.rng_model.specs.names.Names.{Name}
+use Rattle.rng_model.specs.simple.Tree.{Simple}
+use Rattle.rng_model.specs.matching.Document.{Attribute, Item, an_element, list_of}
+use Rattle.rng_model.specs.matching.Reading.{Reading}
+use Rattle.rng_matching.specs.plain.Taking.{Same}
+use Rattle.rng_matching.specs.plain.Restricted.{IsRestricted, IsRestrictedBody}
+use Rattle.rng_matching.specs.plain.Blanks.{cons, no_blanks, without_blanks, has_element}
+use Rattle.rng_matching.specs.plain.Derivatives.{Way, after_start}
+use Rattle.rng_matching.specs.plain.Ways.{Opens, EachWay}
+use Rattle.rng_matching.specs.plain.States.{Contains, State, never, finished, after, either, after_of, either_of, end_tag, enter, start_tag, string, end_text}
+use Rattle.rng_matching.specs.plain.States.{accepts, Holds}
+use Rattle.rng_matching.specs.plain.States.{Begins, HasRestrictedBodies, IsRestrictedState}
+use Rattle.rng_model.specs.datatypes.Texts.{is_blank}
+use Rattle.rng_model.specs.documents.PyxTrees.{EventKind, a_start, a_string, an_end}
+use Rattle.rng_matching.specs.plain.Events.{Matcher, run}
+use Rattle.rng_matching.specs.plain.Meanings.{Meaning, IsEmpty, IsStart, IsAfterStart, IsAfterString, IsAfterEnd, IsAfterEndOfText, Settles, as_blank, as_text, Runs}
+use Rattle.rng_matching.specs.plain.Meanings.{stays, at_start, at_string, at_end, at_end_of_text}
 use Rattle.rng_matching.proofs.Starts.{start_in, start_out}
 use Rattle.rng_matching.proofs.Same.{same_back}
 use Rattle.rng_matching.proofs.States.{begins_after, begins_after_out}

@@ -1,14 +1,14 @@
 -- What states mean that are built, and what they keep.
 use Rattle.std.proofs.Common.{◌≡◌, ℕ, List, [], ◌∷◌, refl, Bool, true, false, cond, inl, inr, ◌⊎◌}
-use Rattle.rng_model.specs.Tree.{Simple, s_not_allowed}
-use Rattle.rng_model.specs.Document.{Item}
-use Rattle.rng_matching.specs.Reading.{Reading}
-use Rattle.rng_matching.specs.Taking.{Takes, WeaklyTakes}
-use Rattle.rng_matching.specs.Taking as t
-use Rattle.rng_matching.specs.Restricted.{IsRestricted}
-use Rattle.rng_matching.specs.Blanks.{has_element, without_blanks}
-use Rattle.rng_matching.specs.Derivatives.{is_not_allowed}
-use Rattle.rng_matching.specs.States.{State, never, finished, after, either, is_never, after_of, either_of, if_so, Holds, Contains, Begins, IsRestrictedState}
+use Rattle.rng_model.specs.simple.Tree.{Simple, s_not_allowed}
+use Rattle.rng_model.specs.matching.Document.{Item}
+use Rattle.rng_model.specs.matching.Reading.{Reading}
+use Rattle.rng_matching.specs.plain.Taking.{Takes, WeaklyTakes}
+use Rattle.rng_matching.specs.plain.Taking as t
+use Rattle.rng_matching.specs.plain.Restricted.{IsRestricted}
+use Rattle.rng_matching.specs.plain.Blanks.{has_element, without_blanks}
+use Rattle.rng_matching.specs.plain.Derivatives.{is_not_allowed}
+use Rattle.rng_matching.specs.plain.States.{State, never, finished, after, either, is_never, after_of, either_of, if_so, Holds, Contains, Begins, IsRestrictedState}
 
 pub none_taken : (g : Reading) (p : Simple ℕ) (ns : List Item) → is_not_allowed p ≡ true → Takes g p [] ns → ⊥
 none_taken g s_not_allowed ns e d = elim d [ ]

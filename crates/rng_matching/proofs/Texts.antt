@@ -1,18 +1,18 @@
 -- Strings: what is left after one, the pieces of a list, and a string alone (RELAX NG Specification, sections 6.2.7,
 -- 6.2.8 and 6.2.10), where sections 7.1.3 and 7.1.4 are obeyed.
 use Rattle.std.proofs.Common.{◌≡◌, ℕ, List, [], ◌∷◌, map, refl, subst, Bool, true, ◌&&◌, cond, inl, inr}
-use Rattle.rng_model.specs.Tree.{Simple, choice, group, interleave, s_not_allowed, s_empty, s_text, s_leaf, s_attribute, s_list, s_data, s_data_except}
-use Rattle.rng_model.specs.Tree.{s_value, s_one_or_more, s_joined}
-use Rattle.rng_model.specs.Document.{Item, a_text, AllTexts, no_texts, text_and}
-use Rattle.rng_model.specs.Texts.{is_blank}
-use Rattle.rng_matching.specs.Reading.{Reading}
-use Rattle.rng_matching.specs.Taking.{Takes, WeaklyTakes}
-use Rattle.rng_matching.specs.Taking as t
-use Rattle.rng_matching.specs.Restricted.{MayBeListed, HasTexts}
-use Rattle.rng_matching.specs.Blanks.{IsBare, strings_alone}
-use Rattle.rng_matching.specs.Derivatives.{is_nullable, Way, item_ways, rests_of, in_turn, takes_text, after_string, no_list, after_piece, list_has, after_text}
-use Rattle.rng_matching.specs.Derivatives.{has_text}
-use Rattle.rng_matching.specs.Ways.{TakesItem, EachWay, IsItemLeaf}
+use Rattle.rng_model.specs.simple.Tree.{Simple, choice, group, interleave, s_not_allowed, s_empty, s_text, s_leaf, s_attribute, s_list, s_data, s_data_except}
+use Rattle.rng_model.specs.simple.Tree.{s_value, s_one_or_more, s_joined}
+use Rattle.rng_model.specs.matching.Document.{Item, a_text, AllTexts, no_texts, text_and}
+use Rattle.rng_model.specs.datatypes.Texts.{is_blank}
+use Rattle.rng_model.specs.matching.Reading.{Reading}
+use Rattle.rng_matching.specs.plain.Taking.{Takes, WeaklyTakes}
+use Rattle.rng_matching.specs.plain.Taking as t
+use Rattle.rng_matching.specs.plain.Restricted.{MayBeListed, HasTexts}
+use Rattle.rng_matching.specs.plain.Blanks.{IsBare, strings_alone}
+use Rattle.rng_matching.specs.plain.Derivatives.{is_nullable, Way, item_ways, rests_of, in_turn, takes_text, after_string, no_list, after_piece, list_has, after_text}
+use Rattle.rng_matching.specs.plain.Derivatives.{has_text}
+use Rattle.rng_matching.specs.plain.Ways.{TakesItem, EachWay, IsItemLeaf}
 use Rattle.rng_matching.proofs.Tools.{both, in_both, either_left, either_right, in_either}
 use Rattle.rng_matching.proofs.Nullable.{null_in, null_out, under_in, under_out}
 use Rattle.rng_matching.proofs.Same.{choice_of-same}

@@ -1,10 +1,10 @@
 -- Small facts on tests, lists and parts of lists.
 use Rattle.std.proofs.Common.{◌≡◌, List, [], ◌∷◌, ◌++◌, refl, Bool, true, false, ◌&&◌, ◌||◌, ◌⊎◌, inl, inr, sym}
-use Rattle.rng_model.specs.Names.{Name}
-use Rattle.rng_model.specs.Document.{Attribute, Item, a_text, an_element, Interleaves, AllTexts, no_texts, text_and, SharesName}
-use Rattle.rng_model.specs.Document as document
-use Rattle.rng_model.specs.WellFormed.{HasNoName, Distinct, nothing_named, another_name, none, one_more}
-use Rattle.rng_matching.specs.Blanks.{Every, nil, cons, IsNotBlank, IsBare, strings_alone, no_blanks}
+use Rattle.rng_model.specs.names.Names.{Name}
+use Rattle.rng_model.specs.matching.Document.{Attribute, Item, a_text, an_element, Interleaves, AllTexts, no_texts, text_and, SharesName}
+use Rattle.rng_model.specs.matching.Document as document
+use Rattle.rng_model.specs.matching.WellFormed.{HasNoName, Distinct, nothing_named, another_name, none, one_more}
+use Rattle.rng_matching.specs.plain.Blanks.{Every, nil, cons, IsNotBlank, IsBare, strings_alone, no_blanks}
 
 -- ---- tests
 

@@ -1,12 +1,1 @@
-pub mod Reading
-pub mod Taking
-pub mod Restricted
-pub mod Blanks
-pub mod Derivatives
-pub mod Ways
-pub mod States
-pub mod Events
-pub mod Laws
-pub mod Meanings
-pub mod LevelStates
-pub mod LevelEvents
+pub mod plain

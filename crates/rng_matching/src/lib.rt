@@ -20,8 +20,8 @@
 //! `Examples` has documents on which wrong bodies answer wrongly.
 #![tactic(auto)]
 
-ghost use Rattle.rng_matching.specs.Laws.{AcceptsValidDocuments, NeverIsInvalid, UnknownNameIsNever, InvalidIsNever};
-ghost use Rattle.rng_matching.specs.LevelEvents.{LevelsAnswer, NoLevelsAreInvalid, NoEndIsInvalid, UnknownNameLeavesNone};
+ghost use Rattle.rng_matching.specs.plain.Laws.{AcceptsValidDocuments, NeverIsInvalid, UnknownNameIsNever, InvalidIsNever};
+ghost use Rattle.rng_matching.specs.plain.LevelEvents.{LevelsAnswer, NoLevelsAreInvalid, NoEndIsInvalid, UnknownNameLeavesNone};
 
 /// Does nothing: its contract is the laws of matching by derivatives (RELAX NG Specification, sections 6.2, 6.3 and 7).
 ///

@@ -1,15 +1,15 @@
 -- Worked examples of datatypes, which the checker computes.
 use Rattle.std.proofs.Common.{codes, pos, negsuc, ◌≡◌, refl, inl, inr, ℕ, List, [], ◌∷◌, true, false, Some, None}
 use Rattle.std.specs.Str.{chars}
-use Rattle.rng_model.specs.Blanks.{collapse, pieces}
-use Rattle.rng_model.specs.Tree.{Datatype}
-use Rattle.rng_model.specs.Facets.{no_lengths, no_bounds}
-use Rattle.rng_model.specs.Numerals.{integer_of, length_of, truth_of}
-use Rattle.rng_model.specs.Datatypes.{plain_string, plain_token, xsd_string, xsd_token, xsd_ncname, xsd_nmtoken, xsd_boolean, xsd_integer}
-use Rattle.rng_model.specs.Datatypes.{xsd_uri, Parameter, is_allowed_by, are_equal_by, string_is, boolean_is}
-use Rattle.rng_model.specs.Datatypes.{HasType, HasUnknownLibrary, HasUnknownType, HasBadParameters}
+use Rattle.rng_model.specs.datatypes.Blanks.{collapse, pieces}
+use Rattle.rng_model.specs.simple.Tree.{Datatype}
+use Rattle.rng_model.specs.datatypes.Facets.{no_lengths, no_bounds}
+use Rattle.rng_model.specs.datatypes.Numerals.{integer_of, length_of, truth_of}
+use Rattle.rng_model.specs.datatypes.Datatypes.{plain_string, plain_token, xsd_string, xsd_token, xsd_ncname, xsd_nmtoken, xsd_boolean, xsd_integer}
+use Rattle.rng_model.specs.datatypes.Datatypes.{xsd_uri, Parameter, is_allowed_by, are_equal_by, string_is, boolean_is}
+use Rattle.rng_model.specs.datatypes.Datatypes.{HasType, HasUnknownLibrary, HasUnknownType, HasBadParameters}
 use Rattle.rng_model.proofs.DatatypeTests.{library_is, differs, no_type, not_known, type_named-complete, type_of-sound}
-use Rattle.rng_model.specs.DatatypeTests.{type_of, plain_type_named, xsd_type_named, type_named, written_lengths, written_bounds}
+use Rattle.rng_model.specs.datatypes.DatatypeTests.{type_of, plain_type_named, xsd_type_named, type_named, written_lengths, written_bounds}
 
 -- 37 zeros and `7` write the number that `7` writes; `-` and 38 nines are allowed, 39 digits are not
 pub seven : are_equal_by (xsd_integer no_bounds) (codes "00000000000000000000000000000000000007") (codes "7") ≡ true

@@ -6,15 +6,15 @@ use Rattle.std.specs.Str.{bytes_eq}
 use Rattle.std.proofs.lemmas.Bool.{true≢false}
 use Rattle.std.proofs.lemmas.Option.{same_Some}
 use Rattle.std.proofs.lemmas.Slice.Eq.{bytes_eq-Decides}
-use Rattle.rng_model.specs.Tree.{Datatype}
-use Rattle.rng_model.specs.Facets.{Lengths, Bounds, no_lengths, no_bounds}
-use Rattle.rng_model.specs.Numerals.{length_of, bound_of}
-use Rattle.rng_model.specs.Datatypes.{BuiltInType, plain_string, plain_token, xsd_string, xsd_token, xsd_ncname, xsd_nmtoken, xsd_boolean, xsd_integer}
-use Rattle.rng_model.specs.Datatypes.{IsType, plain_string_is, plain_token_is, string_is, token_is, ncname_is, nmtoken_is, boolean_is, integer_is}
-use Rattle.rng_model.specs.Datatypes.{xsd_uri, Parameter, HasParameter, here, HasNoneTwice, BoundsLengths, BoundsNumbers, TakesAll, HasBoundsOf}
-use Rattle.rng_model.specs.Datatypes.{AreLengthsOf, AreBoundsOf, HasType, IsKnownDatatype, is_allowed_by, are_equal_by, IsAllowed, AreEqual}
-use Rattle.rng_model.specs.DatatypeTests.{plain_type_named, xsd_type_named, type_named, value_named, read_named, takes_lengths, takes_bounds}
-use Rattle.rng_model.specs.DatatypeTests.{written_lengths, written_bounds, if_none, with_parameters, if_named, type_of, known_allows, known_equates, text_tests}
+use Rattle.rng_model.specs.simple.Tree.{Datatype}
+use Rattle.rng_model.specs.datatypes.Facets.{Lengths, Bounds, no_lengths, no_bounds}
+use Rattle.rng_model.specs.datatypes.Numerals.{length_of, bound_of}
+use Rattle.rng_model.specs.datatypes.Datatypes.{BuiltInType, plain_string, plain_token, xsd_string, xsd_token, xsd_ncname, xsd_nmtoken, xsd_boolean, xsd_integer}
+use Rattle.rng_model.specs.datatypes.Datatypes.{IsType, plain_string_is, plain_token_is, string_is, token_is, ncname_is, nmtoken_is, boolean_is, integer_is}
+use Rattle.rng_model.specs.datatypes.Datatypes.{xsd_uri, Parameter, HasParameter, here, HasNoneTwice, BoundsLengths, BoundsNumbers, TakesAll, HasBoundsOf}
+use Rattle.rng_model.specs.datatypes.Datatypes.{AreLengthsOf, AreBoundsOf, HasType, IsKnownDatatype, is_allowed_by, are_equal_by, IsAllowed, AreEqual}
+use Rattle.rng_model.specs.datatypes.DatatypeTests.{plain_type_named, xsd_type_named, type_named, value_named, read_named, takes_lengths, takes_bounds}
+use Rattle.rng_model.specs.datatypes.DatatypeTests.{written_lengths, written_bounds, if_none, with_parameters, if_named, type_of, known_allows, known_equates, text_tests}
 use Rattle.rng_model.proofs.Parameters.{are_facets-to, are_facets-from, facet_written, written_is}
 
 -- ---- names

@@ -2,31 +2,31 @@
 use Rattle.std.proofs.Common.{◌≡◌, refl, sym, subst, ap, ◌∙◌, ◌⊎◌, inl, inr, arith, ℕ, suc, ◌<◌, List, [], ◌∷◌, Option, Some, None, codes, length, slice_get}
 use Rattle.std.proofs.Common.{Contains, zero, Bool, true, false, true≢false}
 use Rattle.std.proofs.lemmas.List.Elements.{All-nil, All-cons, All-contains, Contains-push}
-use Rattle.rng_model.specs.Lists.{Among, here, there, HasTwo, first_and, both_later}
-use Rattle.rng_model.specs.Names.{Name, NameClass, name_is}
-use Rattle.rng_model.specs.Tree as tree
-use Rattle.rng_model.specs.Tree.{Datatype, Tree, group, interleave, choice, Simple, s_not_allowed, s_empty, s_text, s_leaf, s_attribute, s_list}
-use Rattle.rng_model.specs.Tree.{s_data, s_data_except, s_value, s_one_or_more, s_joined, as_tree}
-use Rattle.rng_model.specs.Table.{Grammar}
-use Rattle.rng_model.specs.Leaves.{renamed, LeafIn}
-use Rattle.rng_model.specs.ClassSteps.{ClassStep, ClassSteps, IsSimpleClassOf}
-use Rattle.rng_model.specs.ClassSteps as class_steps
-use Rattle.rng_model.specs.Leaves as at
-use Rattle.rng_model.specs.Patterns.{Place, Pattern, text, not_allowed, element, attribute, data_of, data_except, value, ref, parent_ref, joined, no_patterns}
-use Rattle.rng_model.specs.Patterns.{IsWrittenIn}
-use Rattle.rng_model.specs.Patterns as in_pattern
-use Rattle.rng_model.specs.Schema.{Schema, Component, body, main_start, IsWrittenAt, HasComponent}
-use Rattle.rng_model.specs.Unfolding.{Leaf, Unfolds, IsTreeOf, IsBodyOf}
-use Rattle.rng_model.specs.Unfolding as u
-use Rattle.rng_model.specs.Simplification.{RuleGroup, rewriting, propagation, Step, AnyStep, Steps, no_step, step_and, IsLast, IsRewritten, IsSimpleFormOf}
-use Rattle.rng_model.specs.Simplification as steps
-use Rattle.rng_model.specs.Reached.{IsReachedByTrees, from_start, from_element, IsReachedTree, of_start, of_body, IsReachedBySimpleForms, from_simple_start}
-use Rattle.rng_model.specs.Reached.{from_simple_body}
-use Rattle.rng_model.specs.Depth.{depth, class_depth}
-use Rattle.rng_model.specs.SchemaForm.{Element, IsElementOf, SimpleForm, IsSimpleFormOfSchema, IsSameUpToNumbering, IsSimpleGrammarOf}
-use Rattle.rng_model.specs.SchemaClauses as clauses
-use Rattle.rng_model.specs.SchemaClauses.{BreaksClause, BreaksNoClause}
-use Rattle.rng_model.specs.Restrictions as restrictions
+use Rattle.rng_model.specs.names.Lists.{Among, here, there, HasTwo, first_and, both_later}
+use Rattle.rng_model.specs.names.Names.{Name, NameClass, name_is}
+use Rattle.rng_model.specs.simple.Tree as tree
+use Rattle.rng_model.specs.simple.Tree.{Datatype, Tree, group, interleave, choice, Simple, s_not_allowed, s_empty, s_text, s_leaf, s_attribute, s_list}
+use Rattle.rng_model.specs.simple.Tree.{s_data, s_data_except, s_value, s_one_or_more, s_joined, as_tree}
+use Rattle.rng_model.specs.simple.Table.{Grammar}
+use Rattle.rng_model.specs.simple.Leaves.{renamed, LeafIn}
+use Rattle.rng_model.specs.simple.ClassSteps.{ClassStep, ClassSteps, IsSimpleClassOf}
+use Rattle.rng_model.specs.simple.ClassSteps as class_steps
+use Rattle.rng_model.specs.simple.Leaves as at
+use Rattle.rng_model.specs.schema.Patterns.{Place, Pattern, text, not_allowed, element, attribute, data_of, data_except, value, ref, parent_ref, joined, no_patterns}
+use Rattle.rng_model.specs.schema.Patterns.{IsWrittenIn}
+use Rattle.rng_model.specs.schema.Patterns as in_pattern
+use Rattle.rng_model.specs.schema.Schema.{Schema, Component, body, main_start, IsWrittenAt, HasComponent}
+use Rattle.rng_model.specs.schema.Unfolding.{Leaf, Unfolds, IsTreeOf, IsBodyOf}
+use Rattle.rng_model.specs.schema.Unfolding as u
+use Rattle.rng_model.specs.simple.Simplification.{RuleGroup, rewriting, propagation, Step, AnyStep, Steps, no_step, step_and, IsLast, IsRewritten, IsSimpleFormOf}
+use Rattle.rng_model.specs.simple.Simplification as steps
+use Rattle.rng_model.specs.schema.Reached.{IsReachedByTrees, from_start, from_element, IsReachedTree, of_start, of_body, IsReachedBySimpleForms, from_simple_start}
+use Rattle.rng_model.specs.schema.Reached.{from_simple_body}
+use Rattle.rng_model.specs.schema.Depth.{depth, class_depth}
+use Rattle.rng_model.specs.simple.SchemaForm.{Element, IsElementOf, SimpleForm, IsSimpleFormOfSchema, IsSameUpToNumbering, IsSimpleGrammarOf}
+use Rattle.rng_model.specs.schema.SchemaClauses as clauses
+use Rattle.rng_model.specs.schema.SchemaClauses.{BreaksClause, BreaksNoClause}
+use Rattle.rng_model.specs.restrictions.Restrictions as restrictions
 use Rattle.rng_model.specs.declared.method.Method.TheVariants.{Plain, Choice, Interleave}
 use Rattle.rng_model.proofs.SimpleTrees.{same_simple}
 use Rattle.rng_model.proofs.Unfolding.{one_tree}

@@ -1,6 +1,6 @@
 -- Interleavings with nothing on one side.
 use Rattle.std.proofs.Common.{◌≡◌, List, [], ◌∷◌, refl, ap}
-use Rattle.rng_model.specs.Document.{Interleaves, done, left, right}
+use Rattle.rng_model.specs.matching.Document.{Interleaves, done, left, right}
 
 pub left_alone : {A : Type 0} (xs : List A) → Interleaves xs [] xs
 left_alone [] = done

@@ -6,8 +6,8 @@ use Rattle.std.proofs.lemmas.Bool.{and_parts, and_from, or_cases, or_left, or_ri
 use Rattle.std.proofs.lemmas.List.Sums.{sum_by-cons}
 use Rattle.std.proofs.lemmas.Option.{same_Some}
 use Rattle.std.proofs.lemmas.Slice.Eq.{bytes_eq-Decides}
-use Rattle.rng_model.specs.Datatypes.{Parameter, HasParameter, here, later, HasNone, HasNoneTwice, IsWritten}
-use Rattle.rng_model.specs.DatatypeTests.{is_named, stands_once, value_named, read_named}
+use Rattle.rng_model.specs.datatypes.Datatypes.{Parameter, HasParameter, here, later, HasNone, HasNoneTwice, IsWritten}
+use Rattle.rng_model.specs.datatypes.DatatypeTests.{is_named, stands_once, value_named, read_named}
 
 named_is : (name : List ℕ) (p : Parameter) → is_named name p ≡ true → p.0 ≡ name
 named_is name p e = (bytes_eq-Decides p.0 name).0 e

@@ -7,27 +7,27 @@ use Rattle.std.specs.Str.{is_utf8, chars}
 use Rattle.std.proofs.lemmas.Bool.{and_parts, leb-true}
 use Rattle.std.proofs.lemmas.List.Elements.{All-from_recursion, All-cons, All-nil}
 use Rattle.std.proofs.lemmas.Str.{IsUtf8-from_is_utf8}
-use Rattle.rng_model.specs.Lists.{HasTwice, at_first, here, later, there}
-use Rattle.rng_model.specs.Characters.{is_ncname, is_xml_char}
-use Rattle.rng_model.specs.Document.{Attribute}
-use Rattle.rng_model.specs.Lines.{Line, lines, line_limit}
-use Rattle.rng_model.specs.WellFormed.{Distinct, none, one_more, another_name, nothing_named}
-use Rattle.rng_model.specs.PyxLines.{IsNcname, IsName, alone, prefixed, StandsFor, at_end, itself, Said, WrittenName, start, attribute, text, end, instruction}
-use Rattle.rng_model.specs.PyxLines.{Says, says_start, says_attribute, says_text, says_end, says_instruction, IsGoodLine, AreGoodLines, no_lines, line_and}
-use Rattle.rng_model.specs.PyxLines.{too_long, within as within_limit}
-use Rattle.rng_model.specs.PyxNamespaces.{none_written, written_and, WrittenAttribute, nothing as parted_nothing, declaration, other, Declares}
-use Rattle.rng_model.specs.PyxNamespaces.{default_namespace}
-use Rattle.rng_model.specs.PyxNamespaces.{prefix_declared, DeclaresNothing, Declaration, IsForbidden, of_xmlns_uri, of_xmlns, of_nothing, xml_as_another}
-use Rattle.rng_model.specs.PyxNamespaces.{another_as_xml, xml_uri, xmlns_uri, xmlns, HasNamespace, declared_here, xml_beforehand, no_default}
-use Rattle.rng_model.specs.PyxNamespaces.{declared_outside, IsUndeclared, Scope}
-use Rattle.rng_model.specs.PyxNamespaces.{element_name, with_prefix, none_left, expanded_and}
-use Rattle.rng_model.specs.PyxFaults.{HasKind, nothing}
-use Rattle.rng_model.specs.PyxClauses.{BreaksHere, alone as alone_broken, no_tag, none_to_end, other_name, text_outside, second_root, attributes, elements}
-use Rattle.rng_model.specs.PyxClauses.{joined_text}
-use Rattle.rng_model.specs.PyxClauses.{BeginsOtherwise, none_open, SaysTag, no_tags, EndsWithTag, element_prefix, namespaces, expanded_twice, repeated_name}
-use Rattle.rng_model.specs.PyxClauses.{Breaks, at_line}
-use Rattle.rng_model.specs.PyxTrees as trees
-use Rattle.rng_model.specs.PyxTrees.{Placed, text_at, element_at, none_placed, placed_and, IsTag, IsElement, IsContent, IsRun, no_run, IsPyxDocument}
+use Rattle.rng_model.specs.names.Lists.{HasTwice, at_first, here, later, there}
+use Rattle.rng_model.specs.names.Characters.{is_ncname, is_xml_char}
+use Rattle.rng_model.specs.matching.Document.{Attribute}
+use Rattle.rng_model.specs.documents.Lines.{Line, lines, line_limit}
+use Rattle.rng_model.specs.matching.WellFormed.{Distinct, none, one_more, another_name, nothing_named}
+use Rattle.rng_model.specs.documents.PyxLines.{IsNcname, IsName, alone, prefixed, StandsFor, at_end, itself, Said, WrittenName, start, attribute, text, end, instruction}
+use Rattle.rng_model.specs.documents.PyxLines.{Says, says_start, says_attribute, says_text, says_end, says_instruction, IsGoodLine, AreGoodLines, no_lines, line_and}
+use Rattle.rng_model.specs.documents.PyxLines.{too_long, within as within_limit}
+use Rattle.rng_model.specs.documents.PyxNamespaces.{none_written, written_and, WrittenAttribute, nothing as parted_nothing, declaration, other, Declares}
+use Rattle.rng_model.specs.documents.PyxNamespaces.{default_namespace}
+use Rattle.rng_model.specs.documents.PyxNamespaces.{prefix_declared, DeclaresNothing, Declaration, IsForbidden, of_xmlns_uri, of_xmlns, of_nothing, xml_as_another}
+use Rattle.rng_model.specs.documents.PyxNamespaces.{another_as_xml, xml_uri, xmlns_uri, xmlns, HasNamespace, declared_here, xml_beforehand, no_default}
+use Rattle.rng_model.specs.documents.PyxNamespaces.{declared_outside, IsUndeclared, Scope}
+use Rattle.rng_model.specs.documents.PyxNamespaces.{element_name, with_prefix, none_left, expanded_and}
+use Rattle.rng_model.specs.documents.PyxFaults.{HasKind, nothing}
+use Rattle.rng_model.specs.documents.PyxClauses.{BreaksHere, alone as alone_broken, no_tag, none_to_end, other_name, text_outside, second_root, attributes, elements}
+use Rattle.rng_model.specs.documents.PyxClauses.{joined_text}
+use Rattle.rng_model.specs.documents.PyxClauses.{BeginsOtherwise, none_open, SaysTag, no_tags, EndsWithTag, element_prefix, namespaces, expanded_twice, repeated_name}
+use Rattle.rng_model.specs.documents.PyxClauses.{Breaks, at_line}
+use Rattle.rng_model.specs.documents.PyxTrees as trees
+use Rattle.rng_model.specs.documents.PyxTrees.{Placed, text_at, element_at, none_placed, placed_and, IsTag, IsElement, IsContent, IsRun, no_run, IsPyxDocument}
 
 -- ---- what a test says of each
 

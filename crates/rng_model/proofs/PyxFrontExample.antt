@@ -4,19 +4,19 @@ use Rattle.std.proofs.Common.{sym, ap, subst, arith, ◌∙◌}
 use Rattle.std.proofs.lemmas.List.{length-append}
 use Rattle.std.specs.Prelude.{All}
 use Rattle.std.specs.Str.{is_utf8, chars}
-use Rattle.rng_model.specs.Lists.{Among, HasTwice}
-use Rattle.rng_model.specs.Document.{Attribute}
-use Rattle.rng_model.specs.Lines.{Line}
-use Rattle.rng_model.specs.WellFormed.{Distinct, none}
-use Rattle.rng_model.specs.PyxFaults.{Fault, HasKind}
-use Rattle.rng_model.specs.PyxLines as lines
-use Rattle.rng_model.specs.PyxLines.{WrittenName, IsName, Said, start, says_start, Says, IsGoodLine, AreGoodLines, BreaksWithin}
-use Rattle.rng_model.specs.PyxNamespaces.{WrittenAttribute, AreWritten, none_written, AreParted, Declaration, Scope, AreExpanded, none_left}
-use Rattle.rng_model.specs.PyxNamespaces as namespaces
-use Rattle.rng_model.specs.PyxTrees.{IsRun, no_run}
-use Rattle.rng_model.specs.PyxTrees as trees
-use Rattle.rng_model.specs.PyxClauses as clauses
-use Rattle.rng_model.specs.PyxClauses.{BreaksHere, BreaksNamespaces, RepeatsName, EndsInText, EndsWithTag, AreOpenTags, Tag, Breaks, IsFront}
+use Rattle.rng_model.specs.names.Lists.{Among, HasTwice}
+use Rattle.rng_model.specs.matching.Document.{Attribute}
+use Rattle.rng_model.specs.documents.Lines.{Line}
+use Rattle.rng_model.specs.matching.WellFormed.{Distinct, none}
+use Rattle.rng_model.specs.documents.PyxFaults.{Fault, HasKind}
+use Rattle.rng_model.specs.documents.PyxLines as lines
+use Rattle.rng_model.specs.documents.PyxLines.{WrittenName, IsName, Said, start, says_start, Says, IsGoodLine, AreGoodLines, BreaksWithin}
+use Rattle.rng_model.specs.documents.PyxNamespaces.{WrittenAttribute, AreWritten, none_written, AreParted, Declaration, Scope, AreExpanded, none_left}
+use Rattle.rng_model.specs.documents.PyxNamespaces as namespaces
+use Rattle.rng_model.specs.documents.PyxTrees.{IsRun, no_run}
+use Rattle.rng_model.specs.documents.PyxTrees as trees
+use Rattle.rng_model.specs.documents.PyxClauses as clauses
+use Rattle.rng_model.specs.documents.PyxClauses.{BreaksHere, BreaksNamespaces, RepeatsName, EndsInText, EndsWithTag, AreOpenTags, Tag, Breaks, IsFront}
 use Rattle.rng_model.proofs.PyxExamples.{whole, good, is_name, a_is_a_name, first_of}
 
 abbrev the_line : Line

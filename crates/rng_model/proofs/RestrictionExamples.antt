@@ -2,15 +2,15 @@
 use Rattle.std.proofs.Common.{ℕ, List, [], ◌∷◌, codes, inl, refl}
 use Rattle.std.proofs.lemmas.Str.{IsUtf8-from_is_utf8}
 use Rattle.std.specs.Str.{chars, is_utf8}
-use Rattle.rng_model.specs.Lists.{here}
-use Rattle.rng_model.specs.Names.{Name, NameClass, any_name, name_is, Overlap}
-use Rattle.rng_model.specs.Tree as tree
-use Rattle.rng_model.specs.Tree.{Datatype, Simple, s_empty, s_text, s_leaf, s_attribute, s_list, s_data, s_data_except, s_value, s_one_or_more, s_joined}
-use Rattle.rng_model.specs.Table.{Grammar}
-use Rattle.rng_model.specs.Restrictions as restrictions
-use Rattle.rng_model.specs.Restrictions.{itself, in_left, inside_attribute, inside_list, inside_left, inside_one_or_more, unrepeated_itself, occurs_itself}
-use Rattle.rng_model.specs.Restrictions.{attribute_in_attribute, text_in_list, empty_in_except, text_in_start, any, interleaved, grouped, BreaksRestriction}
-use Rattle.rng_model.specs.Restrictions.{HasContent, of_both, of_text, of_value, AreGroupable, IsNoChoice, ContentType, complex_content, simple_content}
+use Rattle.rng_model.specs.names.Lists.{here}
+use Rattle.rng_model.specs.names.Names.{Name, NameClass, any_name, name_is, Overlap}
+use Rattle.rng_model.specs.simple.Tree as tree
+use Rattle.rng_model.specs.simple.Tree.{Datatype, Simple, s_empty, s_text, s_leaf, s_attribute, s_list, s_data, s_data_except, s_value, s_one_or_more, s_joined}
+use Rattle.rng_model.specs.simple.Table.{Grammar}
+use Rattle.rng_model.specs.restrictions.Restrictions as restrictions
+use Rattle.rng_model.specs.restrictions.Restrictions.{itself, in_left, inside_attribute, inside_list, inside_left, inside_one_or_more, unrepeated_itself, occurs_itself}
+use Rattle.rng_model.specs.restrictions.Restrictions.{attribute_in_attribute, text_in_list, empty_in_except, text_in_start, any, interleaved, grouped, BreaksRestriction}
+use Rattle.rng_model.specs.restrictions.Restrictions.{HasContent, of_both, of_text, of_value, AreGroupable, IsNoChoice, ContentType, complex_content, simple_content}
 
 abbrev plain : List ℕ → Name
 plain local = record { ns = []; local = local }

@@ -5,7 +5,7 @@ use Rattle.std.specs.Str.{bytes_eq}
 use Rattle.std.specs.Cmp.Lexicographic.{bytes_decides}
 use Rattle.std.proofs.lemmas.List.{reverse-reverse}
 use Rattle.rng_model.specs.declared.place.Place.{Place}
-use Rattle.rng_model.specs.SchemaView.{place_of, place_eq, by_place}
+use Rattle.rng_model.specs.views.SchemaView.{place_of, place_eq, by_place}
 
 -- tests that pass together have the same answer
 same_answer : (a b : Bool) → (a ≡ true → b ≡ true) → (b ≡ true → a ≡ true) → a ≡ b

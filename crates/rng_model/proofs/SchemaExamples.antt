@@ -1,15 +1,15 @@
 -- Small schemas: what their definitions are, and what these stand for.
 use Rattle.std.proofs.Common.{◌≡◌, refl, ap, sym, subst, ℕ, List, [], ◌∷◌, Option, Some, None, codes}
-use Rattle.rng_model.specs.Names.{Name, NameClass, name_is}
-use Rattle.rng_model.specs.Tree as tree
-use Rattle.rng_model.specs.Tree.{Tree, choice, group, interleave}
-use Rattle.rng_model.specs.Patterns.{Place, Pattern, element, empty, ref, parent_ref, grammar, external, joined, no_patterns, Point, an_element, a_ref}
-use Rattle.rng_model.specs.Patterns.{a_parent_ref, a_grammar}
-use Rattle.rng_model.specs.Lists.{Among}
-use Rattle.rng_model.specs.Schema.{Schema, Component, Definition, body, main_start, HasComponent}
-use Rattle.rng_model.specs.Leaves as at
-use Rattle.rng_model.specs.Unfolding.{Leaf, Aim, to_definition, aim, Unfolds, IsTreeOf, IsBodyOf}
-use Rattle.rng_model.specs.Unfolding as u
+use Rattle.rng_model.specs.names.Names.{Name, NameClass, name_is}
+use Rattle.rng_model.specs.simple.Tree as tree
+use Rattle.rng_model.specs.simple.Tree.{Tree, choice, group, interleave}
+use Rattle.rng_model.specs.schema.Patterns.{Place, Pattern, element, empty, ref, parent_ref, grammar, external, joined, no_patterns, Point, an_element, a_ref}
+use Rattle.rng_model.specs.schema.Patterns.{a_parent_ref, a_grammar}
+use Rattle.rng_model.specs.names.Lists.{Among}
+use Rattle.rng_model.specs.schema.Schema.{Schema, Component, Definition, body, main_start, HasComponent}
+use Rattle.rng_model.specs.simple.Leaves as at
+use Rattle.rng_model.specs.schema.Unfolding.{Leaf, Aim, to_definition, aim, Unfolds, IsTreeOf, IsBodyOf}
+use Rattle.rng_model.specs.schema.Unfolding as u
 use Rattle.rng_model.specs.declared.method.Method.TheVariants.{Plain, Choice, Interleave}
 use Rattle.rng_model.proofs.Unfolding.{IsStuck, none_of_stuck}
 

@@ -3,11 +3,11 @@ use Rattle.std.proofs.Common.{◌≡◌, ap, ◌∙◌, [], ◌∷◌, map, rule
 use Rattle.rng_model.specs.declared.datatype.Datatype.{Datatype}
 use Rattle.rng_model.specs.declared.schema_pattern.SchemaPattern.{SchemaPattern, the_lemmas}
 use Rattle.rng_model.specs.declared.schema_pattern.SchemaPattern.TheVariants as patterns
-use Rattle.rng_model.specs.Tree.{group, choice, interleave}
-use Rattle.rng_model.specs.Types.{datatype_of}
-use Rattle.rng_model.specs.Patterns as pattern
-use Rattle.rng_model.specs.Patterns.{members}
-use Rattle.rng_model.specs.SchemaView.{schema_pattern_of}
+use Rattle.rng_model.specs.simple.Tree.{group, choice, interleave}
+use Rattle.rng_model.specs.datatypes.DatatypeViews.{datatype_of}
+use Rattle.rng_model.specs.schema.Patterns as pattern
+use Rattle.rng_model.specs.schema.Patterns.{members}
+use Rattle.rng_model.specs.views.SchemaView.{schema_pattern_of}
 
 pub group_of : (all : Vec SchemaPattern Global) → schema_pattern_of (patterns.Group all) ≡ members group (map schema_pattern_of all.items)
 group_of all = search (rules, the_lemmas)

@@ -1,8 +1,8 @@
 -- Trees and their simple forms.
 use Rattle.std.proofs.Common.{refl, [], ◌∷◌, codes}
-use Rattle.rng_model.specs.Tree.{Datatype, Tree, choice, group, data_of, data_except, value, joined, no_trees, tree_and, not_allowed, empty, text}
-use Rattle.rng_model.specs.Simplification.{RuleGroup, rewriting, propagation, Step, IsSimpleFormOf, no_step, step_and}
-use Rattle.rng_model.specs.Simplification as steps
+use Rattle.rng_model.specs.simple.Tree.{Datatype, Tree, choice, group, data_of, data_except, value, joined, no_trees, tree_and, not_allowed, empty, text}
+use Rattle.rng_model.specs.simple.Simplification.{RuleGroup, rewriting, propagation, Step, IsSimpleFormOf, no_step, step_and}
+use Rattle.rng_model.specs.simple.Simplification as steps
 
 abbrev plain : Datatype
 plain = record { library = []; name = codes "string"; parameters = [] }

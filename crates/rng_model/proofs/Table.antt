@@ -4,11 +4,11 @@ use Rattle.std.proofs.Common.{sym, ◌∙◌, subst, inl, inr, get_or, ◌+◌, 
 use Rattle.std.proofs.lemmas.Bool.{cases_lt}
 use Rattle.std.proofs.lemmas.List.{take-append-drop, get_or_push, get_or_append_left}
 use Rattle.std.proofs.lemmas.Option.{slice_get_within, get_or_from_slice_get, slice_get-get_or}
-use Rattle.rng_model.specs.Tree as tree
-use Rattle.rng_model.specs.Tree.{group, choice, interleave, s_not_allowed}
-use Rattle.rng_model.specs.View.{class_of}
-use Rattle.rng_model.specs.Types.{datatype_of}
-use Rattle.rng_model.specs.Table.{AreChildrenBelow, Falls, IsTable, Table, tree_over, tree_at, trees}
+use Rattle.rng_model.specs.simple.Tree as tree
+use Rattle.rng_model.specs.simple.Tree.{group, choice, interleave, s_not_allowed}
+use Rattle.rng_model.specs.names.NameViews.{class_of}
+use Rattle.rng_model.specs.datatypes.DatatypeViews.{datatype_of}
+use Rattle.rng_model.specs.simple.Table.{AreChildrenBelow, Falls, IsTable, Table, tree_over, tree_at, trees}
 use Rattle.rng_model.specs.declared.simple.PatternId.{PatternId}
 use Rattle.rng_model.specs.declared.simple.Simple.{Simple}
 use Rattle.rng_model.specs.declared.simple.Simple.TheVariants as simple

@@ -1,12 +1,12 @@
 -- A pattern has at most one tree, and none where its expansion goes on for ever.
 use Rattle.std.proofs.Common.{◌≡◌, refl, ap, ◌∙◌, subst, Some, Option}
-use Rattle.rng_model.specs.Tree.{Tree, leaf, attribute, list, data_except, mixed, optional, zero_or_more, one_or_more, Trees}
-use Rattle.rng_model.specs.Patterns.{Place, Point}
-use Rattle.rng_model.specs.Schema.{Schema, Definition, body}
-use Rattle.rng_model.specs.Leaves.{LeafIn, LeafAmong}
-use Rattle.rng_model.specs.Leaves as at
-use Rattle.rng_model.specs.Unfolding.{Leaf, Aim, to_element, to_definition, aim, Unfolds, UnfoldAll, IsTreeOf}
-use Rattle.rng_model.specs.Unfolding as u
+use Rattle.rng_model.specs.simple.Tree.{Tree, leaf, attribute, list, data_except, mixed, optional, zero_or_more, one_or_more, Trees}
+use Rattle.rng_model.specs.schema.Patterns.{Place, Point}
+use Rattle.rng_model.specs.schema.Schema.{Schema, Definition, body}
+use Rattle.rng_model.specs.simple.Leaves.{LeafIn, LeafAmong}
+use Rattle.rng_model.specs.simple.Leaves as at
+use Rattle.rng_model.specs.schema.Unfolding.{Leaf, Aim, to_element, to_definition, aim, Unfolds, UnfoldAll, IsTreeOf}
+use Rattle.rng_model.specs.schema.Unfolding as u
 
 pub some_is : {A : Type 0} {x y : A} {o : Option A} → o ≡ Some x → o ≡ Some y → x ≡ y
 some_is e f = cc

@@ -3,8 +3,8 @@ use Rattle.std.proofs.Common.{◌≡◌, ℕ, List, Bool, true, false, Option, S
 use Rattle.std.specs.Bool.{beq}
 use Rattle.std.proofs.lemmas.Slice.Eq.{bytes_eq-Decides}
 use Rattle.std.proofs.lemmas.Bool.Decides.{Decides-int_eq}
-use Rattle.rng_model.specs.Values.{Value, text, truth, number, same_value, are_equal}
-use Rattle.rng_model.specs.Datatypes.{BuiltInType, value_of, is_allowed_by, are_equal_by}
+use Rattle.rng_model.specs.datatypes.Values.{Value, text, truth, number, same_value, are_equal}
+use Rattle.rng_model.specs.datatypes.Datatypes.{BuiltInType, value_of, is_allowed_by, are_equal_by}
 
 same_truth : (a b : Bool) → beq a b ≡ true → a ≡ b
 same_truth true true e = refl

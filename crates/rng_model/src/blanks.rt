@@ -2,8 +2,9 @@
 ghost use Rattle.std.specs.Prelude.{◌≡◌, drop, map, IfOk, string_bytes};
 ghost use Rattle.std.specs.List.{prefix_len};
 ghost use Rattle.std.specs.Str.{IsCharBoundary};
-ghost use Rattle.rng_model.specs.Texts.{is_blank_byte};
-ghost use Rattle.rng_model.specs.Blanks.{is_run_byte, pieces, collapse, pieces_left, HasRuns};
+ghost use Rattle.rng_model.specs.datatypes.Texts.{is_blank_byte};
+ghost use Rattle.rng_model.specs.datatypes.Blanks.{is_run_byte, pieces, collapse, HasRuns};
+ghost use Rattle.rng_model.specs.views.PiecesView.{pieces_left};
 
 use crate::fault::OutOfMemory;
 use std::alloc::Global;

@@ -1,8 +1,8 @@
 // Datatypes as a schema names them.
 ghost use Rattle.std.specs.Prelude.{◌≡◌, ◌↔◌, ℕ, List, IsTrue};
-ghost use Rattle.rng_model.specs.Tree as tree;
-ghost use Rattle.rng_model.specs.Datatypes.{BuiltInType, HasType, IsKnownDatatype, IsAllowed, AreEqual};
-ghost use Rattle.rng_model.specs.DatatypeTests.{text_tests};
+ghost use Rattle.rng_model.specs.simple.Tree as tree;
+ghost use Rattle.rng_model.specs.datatypes.Datatypes.{BuiltInType, HasType, IsKnownDatatype, IsAllowed, AreEqual};
+ghost use Rattle.rng_model.specs.datatypes.DatatypeTests.{text_tests};
 
 /// A datatype: its library's uri, its name there, and its parameters in the order in which they are written.
 ///

@@ -1,7 +1,7 @@
 // What a document is handed out as.
 ghost use Rattle.std.specs.Prelude.{List, [], ◌∷◌, ◌++◌, OnOk};
-ghost use Rattle.rng_model.specs.PyxTrees as trees;
-ghost use Rattle.rng_model.specs.EventView.{event_of};
+ghost use Rattle.rng_model.specs.documents.PyxTrees as trees;
+ghost use Rattle.rng_model.specs.documents.EventView.{event_of};
 
 use crate::document::Attr;
 use crate::fault::OutOfMemory;

@@ -1,6 +1,6 @@
 // A simple grammar in tables.
 ghost use Rattle.std.specs.Prelude.{◌≡◌, ◌<◌, length, slice_get, option_copied, IfSome};
-ghost use Rattle.rng_model.specs.Table.{IsTable, AreChildrenBelow, tree_at, tree_over};
+ghost use Rattle.rng_model.specs.simple.Table.{IsTable, AreChildrenBelow, tree_at, tree_over};
 
 use crate::name::NameClass;
 use crate::simple::{ElementId, PatternId, Simple};
@@ -10,7 +10,7 @@ use std::marker::Model;
 ///
 /// RELAX NG Specification, section 5. The start and each body are positions in the table of patterns, a child's
 /// position is smaller than its parent's, every ref is a position in the table of elements, and every choice in a
-/// name class has two members. Contracts see the tables; `Rattle.rng_model.specs.Table.grammar_of` gives the trees
+/// name class has two members. Contracts see the tables; `Rattle.rng_model.specs.simple.Table.grammar_of` gives the trees
 /// that they stand for.
 #[derive(Drop)]
 pub struct SimpleGrammar {
@@ -20,7 +20,7 @@ pub struct SimpleGrammar {
 }
 
 impl Model for SimpleGrammar {
-    ghost use Rattle.rng_model.specs.Table.{Table, IsTable};
+    ghost use Rattle.rng_model.specs.simple.Table.{Table, IsTable};
 
     ghost Value = { Table };
 

@@ -16,7 +16,9 @@ mod fault;
 mod grammar;
 mod method;
 mod name;
+mod outcome;
 mod place;
+mod pyx_fault;
 mod schema_pattern;
 mod simple;
 
@@ -31,6 +33,8 @@ pub use fault::{OutOfMemory, SchemaFault};
 pub use grammar::SimpleGrammar;
 pub use method::Method;
 pub use name::{Name, NameClass};
+pub use outcome::Outcome;
 pub use place::Place;
+pub use pyx_fault::PyxFault;
 pub use schema_pattern::SchemaPattern;
 pub use simple::{ElementId, PatternId, Simple};

@@ -1,6 +1,6 @@
 // The way to a grammar.
 ghost use Rattle.std.specs.Prelude.{◌≡◌, [], reverse, IfOk};
-ghost use Rattle.rng_model.specs.SchemaView.{place_of};
+ghost use Rattle.rng_model.specs.views.SchemaView.{place_of};
 
 use crate::fault::OutOfMemory;
 use std::alloc::Global;

@@ -3,9 +3,9 @@ use Rattle.std.proofs.Common.{◌≡◌, ℕ, ◌<◌, ◌≤◌, max, List, [],
 use Rattle.std.specs.List.{list_any}
 use Rattle.std.proofs.lemmas.List.{take_all}
 use Rattle.std.proofs.lemmas.List.Folds.{list_any_at}
-use Rattle.rng_model.specs.Names.{Name, NameClass, classes_of, some_of}
-use Rattle.rng_names.specs.Holding.{holds, some_hold}
-use Rattle.rng_names.specs.Written.{is_met, is_some_met, longest, longest_of}
+use Rattle.rng_model.specs.names.Names.{Name, NameClass, classes_of, some_of}
+use Rattle.rng_names.specs.plain.Holding.{holds, some_hold}
+use Rattle.rng_names.specs.plain.Written.{is_met, is_some_met, longest, longest_of}
 
 or-false : (b : Bool) → b ≡ (b || false)
 or-false true = refl

@@ -3,14 +3,14 @@ use Rattle.std.proofs.Common.{◌≡◌, refl, sym, subst, ap, ap₂, ◌∙◌,
 use Rattle.std.proofs.Common.{bytes_eq, ◌++◌, Bor, Vec, Global}
 use Rattle.std.specs.List.{list_any}
 use Rattle.std.proofs.Math.Bool.{or-false}
-use Rattle.rng_model.specs.Names.{Name, NameClass, NameClasses, any_name, any_except, ns_name, ns_except, name_is, one_of, no_classes, class_and}
-use Rattle.rng_model.specs.Names.{classes_of, some_of}
+use Rattle.rng_model.specs.names.Names.{Name, NameClass, NameClasses, any_name, any_except, ns_name, ns_except, name_is, one_of, no_classes, class_and}
+use Rattle.rng_model.specs.names.Names.{classes_of, some_of}
 use Rattle.std.proofs.lemmas.List.Folds.{list_any-append}
-use Rattle.rng_model.specs.View.{class_of}
+use Rattle.rng_model.specs.names.NameViews.{class_of}
 use Rattle.rng_model.specs.declared.name.NameClass as declared
-use Rattle.rng_names.specs.Alternatives.{Adds, Stands, has, hold_fresh, excepted_hold, has_alternative, some_has_alternative, is_any, is_written, is_excepted}
-use Rattle.rng_names.specs.Holding.{holds, some_hold}
-use Rattle.rng_names.specs.Written.{longest, longest_of}
+use Rattle.rng_names.specs.views.Alternatives.{Adds, Stands, has, hold_fresh, excepted_hold, has_alternative, some_has_alternative, is_any, is_written, is_excepted}
+use Rattle.rng_names.specs.plain.Holding.{holds, some_hold}
+use Rattle.rng_names.specs.plain.Written.{longest, longest_of}
 use Rattle.rng_names.specs.declared.alternatives.Alternatives.{Alternatives}
 use Rattle.rng_names.proofs.Fresh.{shorter}
 

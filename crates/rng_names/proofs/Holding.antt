@@ -2,8 +2,8 @@
 use Rattle.std.proofs.Common.{◌≡◌, ℕ, bytes_eq, List, true, refl, sym, rules, Decides}
 use Rattle.std.proofs.lemmas.Bool.Decides.{Decides-and, Decides-or, Decides-not, Decides-like}
 use Rattle.std.proofs.lemmas.Slice.Eq.{bytes_eq-Decides}
-use Rattle.rng_model.specs.Names.{Name, NameClass, NameClasses, In, InSome, any_name, any_except, ns_name, ns_except, name_is, one_of, no_classes, class_and}
-use Rattle.rng_names.specs.Holding.{holds, some_hold, same_name}
+use Rattle.rng_model.specs.names.Names.{Name, NameClass, NameClasses, In, InSome, any_name, any_except, ns_name, ns_except, name_is, one_of, no_classes, class_and}
+use Rattle.rng_names.specs.plain.Holding.{holds, some_hold, same_name}
 
 -- two names are the same by the bytes of their parts
 pub same_name-Decides : (n q : Name) → Decides (same_name n q) (q ≡ n)

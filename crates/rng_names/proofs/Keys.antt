@@ -4,7 +4,7 @@ use Rattle.std.specs.HashSet.{HashSet, contains}
 use Rattle.std.specs.List.{list_any}
 use Rattle.std.specs.Option.{option_eq}
 use Rattle.std.proofs.Math.Bool.{or-false}
-use Rattle.rng_names.specs.Alternatives.{has, is_key, same_parts, seen}
+use Rattle.rng_names.specs.views.Alternatives.{has, is_key, same_parts, seen}
 use Rattle.rng_names.specs.declared.alternatives.NameOrNs.{NameOrNs}
 use Rattle.rng_names.specs.contracts.alternatives.NameOrNsPartialEq.TheImpl as same
 

@@ -1,7 +1,7 @@
 -- A class that is one name overlaps with those that hold the name.
 use Rattle.std.proofs.Common.{◌≡◌, refl, sym, subst, Bool, IsTrue, IsFalse, Decides}
 use Rattle.std.proofs.lemmas.Bool.Decides.{not_from_Decides}
-use Rattle.rng_model.specs.Names.{Name, NameClass, In, IsPairOfTexts, Overlap, AreApart, name_is}
+use Rattle.rng_model.specs.names.Names.{Name, NameClass, In, IsPairOfTexts, Overlap, AreApart, name_is}
 
 -- the name itself lies in both
 pub plain_common : (r : Bool) (q : Name) (c d : NameClass) → IsPairOfTexts q → c ≡ name_is q → Decides r (In d q) → IsTrue r → Overlap c d

@@ -1,8 +1,8 @@
 -- Names and name classes of the code, as they are seen.
 use Rattle.std.proofs.Common.{◌≡◌, map, ap, ◌∙◌, rules, String, string_bytes, List, Vec, Box, Global}
 use Rattle.std.proofs.lemmas.Str.{IsUtf8-string_bytes}
-use Rattle.rng_model.specs.Names.{some_of, name_is, any_except, ns_except, IsPairOfTexts}
-use Rattle.rng_model.specs.View.{class_of, name_of}
+use Rattle.rng_model.specs.names.Names.{some_of, name_is, any_except, ns_except, IsPairOfTexts}
+use Rattle.rng_model.specs.names.NameViews.{class_of, name_of}
 use Rattle.rng_model.specs.declared.name.NameClass.{NameClass, Choice, Name, AnyExcept, NsExcept, the_lemmas}
 use Rattle.rng_model.specs.declared.name.Name as declared
 

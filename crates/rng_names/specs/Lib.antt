@@ -1,4 +1,2 @@
-pub mod Alternatives
-pub mod Holding
-pub mod Written
-pub mod PlainNames
+pub mod plain
+pub mod views

@@ -1,8 +1,8 @@
 // The alternatives of a name class, looked up by hashing.
 ghost use Rattle.std.specs.Prelude.{◌≡◌, ◌||◌, ℕ, List, Option, IfOk, OnOk};
-ghost use Rattle.rng_model.specs.View.{class_of};
-ghost use Rattle.rng_names.specs.Alternatives.{Adds, Stands, excepted_hold, has, has_alternative, hold, hold_fresh, same_parts, seen};
-ghost use Rattle.rng_names.specs.Holding.{pair};
+ghost use Rattle.rng_model.specs.names.NameViews.{class_of};
+ghost use Rattle.rng_names.specs.views.Alternatives.{Adds, Stands, excepted_hold, has, has_alternative, hold, hold_fresh, same_parts, seen};
+ghost use Rattle.rng_names.specs.plain.Holding.{pair};
 
 use crate::membership::holds;
 use rng_model::{NameClass, OutOfMemory};

@@ -1,11 +1,11 @@
 // Whether two name classes have a name in common.
 ghost use Rattle.std.specs.Prelude.{◌≡◌, ◌<◌, ◌&&◌, length, ◌⊎◌, IfOk, IsOk, IsTrue, IsFalse};
-ghost use Rattle.rng_model.specs.Names.{Overlap, AreApart};
-ghost use Rattle.rng_model.specs.View.{class_of};
-ghost use Rattle.rng_names.specs.Alternatives.{IsFresh, Stands};
-ghost use Rattle.rng_names.specs.Holding.{pair};
-ghost use Rattle.rng_names.specs.PlainNames.{IsPlain};
-ghost use Rattle.rng_names.specs.Written.{both_hold, is_met, longest};
+ghost use Rattle.rng_model.specs.names.Names.{Overlap, AreApart};
+ghost use Rattle.rng_model.specs.names.NameViews.{class_of};
+ghost use Rattle.rng_names.specs.views.Alternatives.{IsFresh, Stands};
+ghost use Rattle.rng_names.specs.plain.Holding.{pair};
+ghost use Rattle.rng_names.specs.views.PlainNames.{IsPlain};
+ghost use Rattle.rng_names.specs.plain.Written.{both_hold, is_met, longest};
 
 use crate::alternatives::Alternatives;
 use crate::membership::contains;

@@ -1,9 +1,9 @@
 // Whether a name class holds a name.
 ghost use Rattle.std.specs.Prelude.{◌≡◌};
 ghost use Rattle.std.specs.Bool.{Decides};
-ghost use Rattle.rng_model.specs.Names.{In};
-ghost use Rattle.rng_model.specs.View.{class_of, name_of};
-ghost use Rattle.rng_names.specs.Holding.{holds, pair};
+ghost use Rattle.rng_model.specs.names.Names.{In};
+ghost use Rattle.rng_model.specs.names.NameViews.{class_of, name_of};
+ghost use Rattle.rng_names.specs.plain.Holding.{holds, pair};
 
 use rng_model::{Name, NameClass};
 

@@ -1,8 +1,8 @@
 // The texts that are written in a name class, and a text that is none of them.
 ghost use Rattle.std.specs.Prelude.{◌≡◌, ◌<◌, length, IfOk};
 ghost use Rattle.std.specs.String.{string_bytes};
-ghost use Rattle.rng_model.specs.View.{class_of};
-ghost use Rattle.rng_names.specs.Written.{longest};
+ghost use Rattle.rng_model.specs.names.NameViews.{class_of};
+ghost use Rattle.rng_names.specs.plain.Written.{longest};
 
 use rng_model::NameClass;
 use std::alloc::{AllocError, Global};

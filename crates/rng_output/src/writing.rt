@@ -1,8 +1,8 @@
 // Writing to a device until all is written.
 ghost use Rattle.std.specs.Prelude.{◌≡◌, ◌+◌, ◌-◌, ◌^◌, ◌<◌, is_ok, OnOk, OnErr, if◌then◌else◌};
 ghost use Rattle.std.specs.Io.KnownBytes.{Appends};
-ghost use Rattle.rng_model.specs.Device.{device_inner, device_failures, device_taken};
-ghost use Rattle.rng_output.specs.Written.{AppendsBeginning};
+ghost use Rattle.rng_model.specs.devices.Device.{device_inner, device_failures, device_taken};
+ghost use Rattle.rng_model.specs.devices.Written.{AppendsBeginning};
 
 use rng_model::{Device, DeviceFault};
 use std::io::Write;

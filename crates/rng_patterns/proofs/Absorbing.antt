@@ -4,13 +4,13 @@ use Rattle.std.proofs.Common.{inr, arith, not, nat_eq, IsTrue}
 use Rattle.std.specs.HashSet.{HashSet, contains}
 use Rattle.std.specs.List.{Contains, filter}
 use Rattle.std.proofs.lemmas.List.Elements.{Contains-append_cases, Contains-append_left, Contains-append_right}
-use Rattle.rng_model.specs.Document.{Attribute, Item}
-use Rattle.rng_model.specs.Table.{Table}
-use Rattle.rng_matching.specs.Reading.{Reading}
-use Rattle.rng_matching.specs.Taking.{Takes}
-use Rattle.rng_patterns.specs.Choices.{IsAbsorbedBy, SomeTakes}
-use Rattle.rng_patterns.specs.Node.{Node}
-use Rattle.rng_patterns.specs.Trees.{tree_of}
+use Rattle.rng_model.specs.matching.Document.{Attribute, Item}
+use Rattle.rng_model.specs.simple.Table.{Table}
+use Rattle.rng_model.specs.matching.Reading.{Reading}
+use Rattle.rng_matching.specs.plain.Taking.{Takes}
+use Rattle.rng_patterns.specs.views.Choices.{IsAbsorbedBy, SomeTakes}
+use Rattle.rng_patterns.specs.views.Node.{Node}
+use Rattle.rng_patterns.specs.views.Trees.{tree_of}
 use Rattle.rng_patterns.specs.declared.pattern.PatternNumber.{PatternNumber}
 use Rattle.rng_patterns.proofs.Alternatives.{each_of}
 use Rattle.rng_patterns.proofs.Choices.{only_one}

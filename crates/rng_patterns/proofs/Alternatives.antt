@@ -1,14 +1,14 @@
 -- What a pattern has of its alternatives, and they of it.
 use Rattle.std.proofs.Common.{◌≡◌, ℕ, List, [], ◌∷◌, All, Contains, map, refl, sym, subst, ap₂, Option, Some, None, inl, inr, ⊎_elim, true≢false, arith}
 use Rattle.std.proofs.lemmas.List.Elements.{All-map, All-tail}
-use Rattle.rng_model.specs.Tree.{Simple, choice, group, interleave, s_not_allowed, s_empty, s_text, s_leaf, s_attribute, s_list, s_data, s_data_except}
-use Rattle.rng_model.specs.Tree.{s_value, s_one_or_more, s_joined}
-use Rattle.rng_model.specs.Restrictions.{ContentType, greater}
-use Rattle.rng_matching.specs.Restricted.{IsRestricted, IsTyped, content_type, type_of_choice}
+use Rattle.rng_model.specs.simple.Tree.{Simple, choice, group, interleave, s_not_allowed, s_empty, s_text, s_leaf, s_attribute, s_list, s_data, s_data_except}
+use Rattle.rng_model.specs.simple.Tree.{s_value, s_one_or_more, s_joined}
+use Rattle.rng_model.specs.restrictions.Restrictions.{ContentType, greater}
+use Rattle.rng_matching.specs.plain.Restricted.{IsRestricted, IsTyped, content_type, type_of_choice}
 use Rattle.rng_matching.proofs.Hereditary.{IsRestricted-hereditary}
-use Rattle.rng_patterns.specs.Choices.{IsAlternativeOf}
-use Rattle.rng_patterns.specs.Reduced.{HasAlternative, HasAllowedMembers, IsReducedChoice, MayBeMember}
-use Rattle.rng_patterns.specs.Trees.{choice_from, choice_over}
+use Rattle.rng_patterns.specs.views.Choices.{IsAlternativeOf}
+use Rattle.rng_patterns.specs.plain.Reduced.{HasAlternative, HasAllowedMembers, IsReducedChoice, MayBeMember}
+use Rattle.rng_patterns.specs.views.Trees.{choice_from, choice_over}
 use Rattle.rng_patterns.specs.declared.pattern.PatternNumber.{PatternNumber}
 
 -- Q goes from the sides of a choice to the whole, and back

@@ -1,7 +1,7 @@
 -- Content types: which of two is greater, and what goes together.
 use Rattle.std.proofs.Common.{◌≡◌, Option, Some, None, refl, sym, ap, ◌∙◌}
-use Rattle.rng_model.specs.Restrictions.{ContentType, empty_content, complex_content, simple_content, greater}
-use Rattle.rng_matching.specs.Restricted.{type_of_both, type_of_choice}
+use Rattle.rng_model.specs.restrictions.Restrictions.{ContentType, empty_content, complex_content, simple_content, greater}
+use Rattle.rng_matching.specs.plain.Restricted.{type_of_both, type_of_choice}
 
 pub some_is : (t u : ContentType) → Some t ≡ Some u → t ≡ u
 some_is t u e = cc

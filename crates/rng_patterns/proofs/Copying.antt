@@ -8,14 +8,14 @@ use Rattle.std.proofs.lemmas.List.{get_or_append_left}
 use Rattle.std.proofs.lemmas.List.Elements.{All-contains, All-head, All-map, All-tail}
 use Rattle.std.proofs.lemmas.Option.{slice_get-get_or, slice_get_within, get_or_from_slice_get}
 use Rattle.std.proofs.Math.Seq.{get_or-append_seam}
-use Rattle.rng_model.specs.Table.{Table}
-use Rattle.rng_model.specs.Tree.{Simple}
-use Rattle.rng_patterns.specs.Node.{Node}
-use Rattle.rng_patterns.specs.Node as node
-use Rattle.rng_patterns.specs.PatternTable.{ArePartsBelow, IsNew, IsPatternTable}
-use Rattle.rng_patterns.specs.Reduced.{AreReduced}
-use Rattle.rng_patterns.specs.Selecting.{AreClosed, AreCopied, IsMarked, given_for, node_at, parts_of, renumbered}
-use Rattle.rng_patterns.specs.Trees.{tree_of}
+use Rattle.rng_model.specs.simple.Table.{Table}
+use Rattle.rng_model.specs.simple.Tree.{Simple}
+use Rattle.rng_patterns.specs.views.Node.{Node}
+use Rattle.rng_patterns.specs.views.Node as node
+use Rattle.rng_patterns.specs.views.PatternTable.{ArePartsBelow, IsNew, IsPatternTable}
+use Rattle.rng_patterns.specs.plain.Reduced.{AreReduced}
+use Rattle.rng_patterns.specs.plain.Selecting.{AreClosed, AreCopied, IsMarked, given_for, node_at, parts_of, renumbered}
+use Rattle.rng_patterns.specs.views.Trees.{tree_of}
 use Rattle.rng_patterns.specs.declared.pattern.PatternNumber.{PatternNumber}
 use Rattle.rng_patterns.proofs.KnownFacts.{of_members}
 use Rattle.rng_patterns.proofs.Renumbering.{parts_below, renumbered_below, renumbered_reduced, renumbered_tree, renumbered_twice, same_renumbered}

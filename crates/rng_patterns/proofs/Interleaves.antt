@@ -1,18 +1,18 @@
 -- Interleaves of the same members in another nesting take the same and obey the same restrictions.
 use Rattle.std.proofs.Common.{◌≡◌, ◌⊎◌, ℕ, ◌+◌, ◌<◌, List, Some, length, slice_get, refl, sym, subst, ap, ◌∙◌, ⊎_elim, inl, arith}
-use Rattle.rng_model.specs.Tree.{Simple, interleave, s_joined}
-use Rattle.rng_model.specs.Restrictions.{ContentType, greater}
-use Rattle.rng_model.specs.Table.{Table}
-use Rattle.rng_matching.specs.Derivatives.{joined_of}
-use Rattle.rng_matching.specs.Reading.{Reading}
-use Rattle.rng_matching.specs.Restricted.{HasNoAttribute, HasTexts, MayBeListed, RepeatsWell, content_type, type_of_both}
-use Rattle.rng_matching.specs.Taking.{Same}
+use Rattle.rng_model.specs.simple.Tree.{Simple, interleave, s_joined}
+use Rattle.rng_model.specs.restrictions.Restrictions.{ContentType, greater}
+use Rattle.rng_model.specs.simple.Table.{Table}
+use Rattle.rng_matching.specs.plain.Derivatives.{joined_of}
+use Rattle.rng_model.specs.matching.Reading.{Reading}
+use Rattle.rng_matching.specs.plain.Restricted.{HasNoAttribute, HasTexts, MayBeListed, RepeatsWell, content_type, type_of_both}
+use Rattle.rng_matching.specs.plain.Taking.{Same}
 use Rattle.rng_matching.proofs.Same.{interleave_associative, interleave_commutative, same, same_back, same_interleave, same_through}
-use Rattle.rng_patterns.specs.Kept.{HasContentWithin, HasNoLists, Interleaves, IsInterleaveOf}
-use Rattle.rng_patterns.specs.Node.{Node}
-use Rattle.rng_patterns.specs.Node as node
-use Rattle.rng_patterns.specs.PatternTable.{Adds, IsPatternTable, Longer}
-use Rattle.rng_patterns.specs.Trees.{tree_of}
+use Rattle.rng_patterns.specs.plain.Kept.{HasContentWithin, HasNoLists, Interleaves, IsInterleaveOf}
+use Rattle.rng_patterns.specs.views.Node.{Node}
+use Rattle.rng_patterns.specs.views.Node as node
+use Rattle.rng_patterns.specs.views.PatternTable.{Adds, IsPatternTable, Longer}
+use Rattle.rng_patterns.specs.views.Trees.{tree_of}
 use Rattle.rng_patterns.specs.declared.pattern.PatternNumber.{PatternNumber}
 use Rattle.rng_patterns.proofs.Contents.{both_have, both_regrouped, both_swapped, both_within, greater_itself, less_together, some_is, together_greater}
 use Rattle.rng_patterns.proofs.Contents.{within_first, within_second}

@@ -4,25 +4,25 @@ use Rattle.std.proofs.Common.{List, [], ◌∷◌, ◌++◌, length, get_or, ari
 use Rattle.std.proofs.lemmas.Bool.{cases_lt}
 use Rattle.std.proofs.lemmas.List.{get_or_append_left}
 use Rattle.std.proofs.Math.Seq.{get_or-append_seam}
-use Rattle.rng_model.specs.Tree.{Simple, Connector, choice, group, interleave, s_not_allowed, s_empty}
-use Rattle.rng_model.specs.Tree.{s_one_or_more, s_joined}
-use Rattle.rng_model.specs.Restrictions.{ContentType, empty_content, greater}
-use Rattle.rng_model.specs.Table.{AreChildrenBelow, Table, tree_at, tree_over}
+use Rattle.rng_model.specs.simple.Tree.{Simple, Connector, choice, group, interleave, s_not_allowed, s_empty}
+use Rattle.rng_model.specs.simple.Tree.{s_one_or_more, s_joined}
+use Rattle.rng_model.specs.restrictions.Restrictions.{ContentType, empty_content, greater}
+use Rattle.rng_model.specs.simple.Table.{AreChildrenBelow, Table, tree_at, tree_over}
 use Rattle.rng_model.specs.declared.simple.PatternId.{PatternId}
 use Rattle.rng_model.specs.declared.simple.Simple as rows
 use Rattle.rng_model.specs.declared.simple.Simple.TheVariants as simple
-use Rattle.rng_matching.specs.Derivatives.{is_empty, is_not_allowed, joined_of, repeat_of}
-use Rattle.rng_matching.specs.Restricted.{HasNoAttribute, HasNoneGrouped, RepeatsWell, HasTexts, MayBeListed, content_type, type_of_both, type_of_choice}
-use Rattle.rng_matching.specs.Restricted.{IsTyped}
+use Rattle.rng_matching.specs.plain.Derivatives.{is_empty, is_not_allowed, joined_of, repeat_of}
+use Rattle.rng_matching.specs.plain.Restricted.{HasNoAttribute, HasNoneGrouped, RepeatsWell, HasTexts, MayBeListed, content_type, type_of_both, type_of_choice}
+use Rattle.rng_matching.specs.plain.Restricted.{IsTyped}
 use Rattle.rng_matching.proofs.Hereditary.{none_is_ungrouped}
-use Rattle.rng_patterns.specs.Kept.{AreKept, AreRestrictedAlike, HasContentWithin, HasNoLists, IsChoiceOf, IsInterleaveOf, IsMadeOver, KeepsRestrictions}
-use Rattle.rng_patterns.specs.Node.{Node}
-use Rattle.rng_patterns.specs.PatternTable.{Longer}
-use Rattle.rng_patterns.specs.Taking.{AreTaken, tree_by}
-use Rattle.rng_patterns.specs.Trees.{tree_of}
+use Rattle.rng_patterns.specs.plain.Kept.{AreKept, AreRestrictedAlike, HasContentWithin, HasNoLists, IsChoiceOf, IsInterleaveOf, IsMadeOver, KeepsRestrictions}
+use Rattle.rng_patterns.specs.views.Node.{Node}
+use Rattle.rng_patterns.specs.views.PatternTable.{Longer}
+use Rattle.rng_patterns.specs.views.Taking.{AreTaken, tree_by}
+use Rattle.rng_patterns.specs.views.Trees.{tree_of}
 use Rattle.rng_patterns.specs.declared.pattern.PatternNumber.{PatternNumber}
 use Rattle.rng_patterns.proofs.Trees.{tree_stays}
-use Rattle.rng_patterns.specs.Reduced.{HasAlternative}
+use Rattle.rng_patterns.specs.plain.Reduced.{HasAlternative}
 use Rattle.rng_patterns.proofs.Alternatives.{IsOfChoices, alternative_has, has_of_alternatives}
 use Rattle.rng_patterns.proofs.Contents.{both_have, both_members, both_within, greater_itself, less_together, some_is, together_greater, within_first}
 use Rattle.rng_patterns.proofs.Contents.{within_second}

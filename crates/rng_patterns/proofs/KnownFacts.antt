@@ -4,15 +4,15 @@ use Rattle.std.proofs.Common.{◌^◌, [], ◌∷◌, ◌++◌, map, Option, Som
 use Rattle.std.specs.List.{list_all, list_any}
 use Rattle.std.proofs.lemmas.List.{get_or-map, length-map, take_all, take_more}
 use Rattle.std.proofs.lemmas.List.Folds.{list_all_more, list_any_more}
-use Rattle.rng_model.specs.Tree as tree
-use Rattle.rng_model.specs.Table.{Table}
+use Rattle.rng_model.specs.simple.Tree as tree
+use Rattle.rng_model.specs.simple.Table.{Table}
 use Rattle.rng_model.specs.declared.simple.Simple.{Simple}
 use Rattle.rng_model.specs.declared.simple.Simple.TheVariants as simple
-use Rattle.rng_matching.specs.Derivatives.{is_nullable}
-use Rattle.rng_patterns.specs.Facts.{HasElement, IsWithin, elements_of, has_subsequences, joined_spans, members_of, no_span, one_span}
-use Rattle.rng_patterns.specs.PatternTable.{facts_of}
-use Rattle.rng_patterns.specs.Reduced.{has_attribute}
-use Rattle.rng_patterns.specs.Trees.{attribute_found, data_found, choice_over}
+use Rattle.rng_matching.specs.plain.Derivatives.{is_nullable}
+use Rattle.rng_patterns.specs.plain.Facts.{HasElement, IsWithin, elements_of, has_subsequences, joined_spans, members_of, no_span, one_span}
+use Rattle.rng_patterns.specs.views.PatternTable.{facts_of}
+use Rattle.rng_patterns.specs.plain.Reduced.{has_attribute}
+use Rattle.rng_patterns.specs.views.Trees.{attribute_found, data_found, choice_over}
 use Rattle.rng_patterns.specs.declared.pattern.Span.{Span}
 use Rattle.rng_patterns.specs.declared.pattern.Facts.{Facts}
 use Rattle.rng_patterns.specs.declared.pattern.PatternNumber.{PatternNumber}

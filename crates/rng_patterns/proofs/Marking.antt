@@ -7,10 +7,10 @@ use Rattle.std.proofs.lemmas.List.{get_or_past, get_or-set_same, get_or-set_othe
 use Rattle.std.proofs.lemmas.List.Elements.{All-append, All-cons, All-contains, All-nil, All-weaker, Contains-append_left, Contains-append_right}
 use Rattle.std.proofs.lemmas.List.Elements.{Contains-get_or}
 use Rattle.std.proofs.lemmas.Option.{get_or_from_slice_get}
-use Rattle.rng_patterns.specs.Node.{Node, node_of}
-use Rattle.rng_patterns.specs.Node as node
-use Rattle.rng_patterns.specs.PatternTable.{IsPatternTable}
-use Rattle.rng_patterns.specs.Selecting.{AreClosedFrom, IsMarked, Marks, node_at, parts_of}
+use Rattle.rng_patterns.specs.views.Node.{Node, node_of}
+use Rattle.rng_patterns.specs.views.Node as node
+use Rattle.rng_patterns.specs.views.PatternTable.{IsPatternTable}
+use Rattle.rng_patterns.specs.plain.Selecting.{AreClosedFrom, IsMarked, Marks, node_at, parts_of}
 use Rattle.rng_patterns.specs.declared.pattern.Pattern.{Pattern}
 use Rattle.rng_patterns.specs.declared.pattern.Pattern.TheVariants as pattern
 use Rattle.rng_patterns.specs.declared.pattern.PatternNumber.{PatternNumber}

@@ -4,16 +4,16 @@ use Rattle.std.proofs.Common.{inl, inr, ap, ◌∙◌, ◌==◌}
 use Rattle.std.proofs.lemmas.Bool.Decides.{Decides-eqb}
 use Rattle.std.proofs.lemmas.List.{take_more}
 use Rattle.std.proofs.lemmas.List.Elements.{Contains-append_cases}
-use Rattle.rng_model.specs.Document.{Attribute, Item}
-use Rattle.rng_model.specs.Table.{Table}
-use Rattle.rng_model.specs.Tree.{Simple, s_not_allowed}
-use Rattle.rng_matching.specs.Reading.{Reading}
-use Rattle.rng_matching.specs.Restricted.{IsRestricted, IsTyped}
-use Rattle.rng_matching.specs.Taking.{Takes}
-use Rattle.rng_patterns.specs.Choices.{IsAllowed, IsAlternativeOf, IsOnlyMember, SomeTakes}
-use Rattle.rng_patterns.specs.Node.{Node}
-use Rattle.rng_patterns.specs.Reduced.{HasAlternative, IsReducedChoice}
-use Rattle.rng_patterns.specs.Trees.{tree_of}
+use Rattle.rng_model.specs.matching.Document.{Attribute, Item}
+use Rattle.rng_model.specs.simple.Table.{Table}
+use Rattle.rng_model.specs.simple.Tree.{Simple, s_not_allowed}
+use Rattle.rng_model.specs.matching.Reading.{Reading}
+use Rattle.rng_matching.specs.plain.Restricted.{IsRestricted, IsTyped}
+use Rattle.rng_matching.specs.plain.Taking.{Takes}
+use Rattle.rng_patterns.specs.views.Choices.{IsAllowed, IsAlternativeOf, IsOnlyMember, SomeTakes}
+use Rattle.rng_patterns.specs.views.Node.{Node}
+use Rattle.rng_patterns.specs.plain.Reduced.{HasAlternative, IsReducedChoice}
+use Rattle.rng_patterns.specs.views.Trees.{tree_of}
 use Rattle.rng_patterns.specs.declared.pattern.PatternNumber.{PatternNumber}
 use Rattle.rng_patterns.proofs.Alternatives.{choice_restricted, choice_typed, each_of, no_alternatives}
 use Rattle.rng_patterns.proofs.Choices.{only_one}

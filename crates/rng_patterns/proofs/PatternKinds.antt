@@ -1,15 +1,15 @@
 -- The kind of a pattern shows in its tree.
 use Rattle.std.proofs.Common.{◌≡◌, ℕ, refl, sym, ap, ◌∙◌, Bool, true, false, List, [], ◌∷◌, Option, Some, None, slice_get, arith, subst}
-use Rattle.rng_model.specs.Tree as tree
-use Rattle.rng_model.specs.Table.{Table}
+use Rattle.rng_model.specs.simple.Tree as tree
+use Rattle.rng_model.specs.simple.Table.{Table}
 use Rattle.rng_model.specs.declared.simple.Simple.{Simple}
 use Rattle.rng_model.specs.declared.simple.Simple.TheVariants as simple
-use Rattle.rng_patterns.specs.Node.{Node, node_of}
-use Rattle.rng_patterns.specs.Node as node
-use Rattle.rng_patterns.specs.PatternTable.{ArePartsBelow, IsPatternTable}
-use Rattle.rng_matching.specs.Derivatives.{is_empty, is_not_allowed}
-use Rattle.rng_patterns.specs.Reduced.{is_choice, AreReduced, HasAllowedMembers, MayBeMember}
-use Rattle.rng_patterns.specs.Trees.{attribute_found, data_found, tree_of, tree_over}
+use Rattle.rng_patterns.specs.views.Node.{Node, node_of}
+use Rattle.rng_patterns.specs.views.Node as node
+use Rattle.rng_patterns.specs.views.PatternTable.{ArePartsBelow, IsPatternTable}
+use Rattle.rng_matching.specs.plain.Derivatives.{is_empty, is_not_allowed}
+use Rattle.rng_patterns.specs.plain.Reduced.{is_choice, AreReduced, HasAllowedMembers, MayBeMember}
+use Rattle.rng_patterns.specs.views.Trees.{attribute_found, data_found, tree_of, tree_over}
 use Rattle.rng_patterns.specs.declared.pattern.Pattern.{Pattern}
 use Rattle.rng_patterns.specs.declared.pattern.Pattern.TheVariants as pattern
 use Rattle.rng_patterns.proofs.Alternatives.{member_allowed, members_allowed}

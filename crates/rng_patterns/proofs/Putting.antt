@@ -9,13 +9,13 @@ use Rattle.std.specs.List.{position_or_len}
 use Rattle.std.specs.Map.{keys_of}
 use Rattle.std.specs.Option.{option_map}
 use Rattle.indexmap.specs.IndexMap.{insert_entry}
-use Rattle.rng_model.specs.Table.{Table}
-use Rattle.rng_model.specs.Tree.{s_not_allowed, s_empty}
-use Rattle.rng_patterns.specs.Copies.{AreUnits, IsKeptLast, IsUnit}
-use Rattle.rng_patterns.specs.Node.{node_of}
-use Rattle.rng_patterns.specs.PatternTable.{Adds, AreExact, ArePartsBelow, IsKnown, IsNew, IsPatternTable, Longer, facts_of, nodes_of}
-use Rattle.rng_patterns.specs.Reduced.{AreReduced}
-use Rattle.rng_patterns.specs.Trees.{tree_of, tree_over}
+use Rattle.rng_model.specs.simple.Table.{Table}
+use Rattle.rng_model.specs.simple.Tree.{s_not_allowed, s_empty}
+use Rattle.rng_patterns.specs.plain.Copies.{AreUnits, IsKeptLast, IsUnit}
+use Rattle.rng_patterns.specs.views.Node.{node_of}
+use Rattle.rng_patterns.specs.views.PatternTable.{Adds, AreExact, ArePartsBelow, IsKnown, IsNew, IsPatternTable, Longer, facts_of, nodes_of}
+use Rattle.rng_patterns.specs.plain.Reduced.{AreReduced}
+use Rattle.rng_patterns.specs.views.Trees.{tree_of, tree_over}
 use Rattle.rng_patterns.specs.declared.pattern.Facts.{Facts}
 use Rattle.rng_patterns.specs.declared.pattern.Pattern.{Pattern}
 use Rattle.rng_patterns.specs.declared.pattern.PatternNumber.{PatternNumber}

@@ -4,15 +4,15 @@ use Rattle.std.specs.List.Sorted.{IsStrictlyIncreasing}
 use Rattle.std.proofs.lemmas.List.{get_or-map, length-map}
 use Rattle.std.proofs.lemmas.List.Elements.{All-cons, All-head, All-map, All-nil, All-tail, Contains-get_or}
 use Rattle.std.proofs.lemmas.Option.{slice_get-get_or}
-use Rattle.rng_model.specs.Tree as tree
-use Rattle.rng_model.specs.Tree.{choice, group, interleave}
-use Rattle.rng_model.specs.Table.{Table}
-use Rattle.rng_patterns.specs.Node.{Node}
-use Rattle.rng_patterns.specs.Node as node
-use Rattle.rng_patterns.specs.PatternTable.{ArePartsBelow, IsPatternTable}
-use Rattle.rng_patterns.specs.Reduced.{AreReduced, MayBeMember, MayBeSide}
-use Rattle.rng_patterns.specs.Selecting.{node_at, parts_of, renumbered}
-use Rattle.rng_patterns.specs.Trees.{choice_from, tree_over}
+use Rattle.rng_model.specs.simple.Tree as tree
+use Rattle.rng_model.specs.simple.Tree.{choice, group, interleave}
+use Rattle.rng_model.specs.simple.Table.{Table}
+use Rattle.rng_patterns.specs.views.Node.{Node}
+use Rattle.rng_patterns.specs.views.Node as node
+use Rattle.rng_patterns.specs.views.PatternTable.{ArePartsBelow, IsPatternTable}
+use Rattle.rng_patterns.specs.plain.Reduced.{AreReduced, MayBeMember, MayBeSide}
+use Rattle.rng_patterns.specs.plain.Selecting.{node_at, parts_of, renumbered}
+use Rattle.rng_patterns.specs.views.Trees.{choice_from, tree_over}
 
 -- ---- the parts
 

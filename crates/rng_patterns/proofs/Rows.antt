@@ -6,12 +6,12 @@ use Rattle.std.proofs.lemmas.List.{get_or_append_left, get_or-map, length-map, m
 use Rattle.std.proofs.lemmas.Option.{slice_get_within, get_or_from_slice_get, slice_get-get_or, slice_get-map}
 use Rattle.std.proofs.lemmas.Bool.{cases_lt}
 use Rattle.std.proofs.Math.Seq.{get_or-append_seam}
-use Rattle.rng_model.specs.Table.{Table}
-use Rattle.rng_model.specs.Tree.{Simple, s_not_allowed}
-use Rattle.rng_patterns.specs.Node.{Node, node_of}
-use Rattle.rng_patterns.specs.Trees.{tree_over, tree_of, trees}
-use Rattle.rng_patterns.specs.PatternTable.{Adds, AreExact, ArePartsBelow, IsKnown, IsNew, IsPatternTable, Longer, facts_of, nodes_of}
-use Rattle.rng_patterns.specs.Reduced.{AreReduced}
+use Rattle.rng_model.specs.simple.Table.{Table}
+use Rattle.rng_model.specs.simple.Tree.{Simple, s_not_allowed}
+use Rattle.rng_patterns.specs.views.Node.{Node, node_of}
+use Rattle.rng_patterns.specs.views.Trees.{tree_over, tree_of, trees}
+use Rattle.rng_patterns.specs.views.PatternTable.{Adds, AreExact, ArePartsBelow, IsKnown, IsNew, IsPatternTable, Longer, facts_of, nodes_of}
+use Rattle.rng_patterns.specs.plain.Reduced.{AreReduced}
 use Rattle.rng_patterns.specs.declared.pattern.Pattern.{Pattern}
 use Rattle.rng_patterns.specs.declared.pattern.Facts.{Facts}
 use Rattle.rng_patterns.specs.declared.pattern.PatternNumber.{PatternNumber}

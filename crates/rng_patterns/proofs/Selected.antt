@@ -2,13 +2,13 @@
 use Rattle.std.proofs.Common.{◌≡◌, ℕ, zero, suc, ◌<◌, All, List, [], ◌∷◌, length, take, arith, subst, sym}
 use Rattle.std.specs.List.{AllZip}
 use Rattle.std.proofs.lemmas.List.Elements.{All-get_or, All-take, AllZip-get_or, length_all_zip}
-use Rattle.rng_model.specs.Table.{Table, tree_at}
-use Rattle.rng_matching.specs.Restricted.{IsRestricted, IsTyped}
-use Rattle.rng_matching.specs.Taking.{Same}
-use Rattle.rng_patterns.specs.Kept.{AreRestrictedAlike, HasNoLists}
-use Rattle.rng_patterns.specs.Node.{Node}
-use Rattle.rng_patterns.specs.Taking.{AreTaken, tree_by}
-use Rattle.rng_patterns.specs.Trees.{tree_of}
+use Rattle.rng_model.specs.simple.Table.{Table, tree_at}
+use Rattle.rng_matching.specs.plain.Restricted.{IsRestricted, IsTyped}
+use Rattle.rng_matching.specs.plain.Taking.{Same}
+use Rattle.rng_patterns.specs.plain.Kept.{AreRestrictedAlike, HasNoLists}
+use Rattle.rng_patterns.specs.views.Node.{Node}
+use Rattle.rng_patterns.specs.views.Taking.{AreTaken, tree_by}
+use Rattle.rng_patterns.specs.views.Trees.{tree_of}
 use Rattle.rng_patterns.specs.declared.pattern.PatternNumber.{PatternNumber}
 
 zip_take : (R : PatternNumber → PatternNumber → Type 0) (k : ℕ) (xs ys : List PatternNumber) → AllZip R xs ys → AllZip R (take k xs) (take k ys)

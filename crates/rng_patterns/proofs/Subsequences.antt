@@ -1,20 +1,20 @@
 -- What takes a sequence of items takes its subsequences.
 use Rattle.std.proofs.Common.{◌≡◌, ◌⊎◌, ℕ, List, [], ◌∷◌, ◌++◌, ◌&&◌, refl, sym, ◌∙◌, subst, true, ⊎_elim, inl, inr}
-use Rattle.rng_model.specs.Tree.{Simple, choice, group, interleave, s_not_allowed, s_empty, s_text, s_leaf, s_attribute, s_list, s_data, s_data_except}
-use Rattle.rng_model.specs.Tree.{s_value, s_one_or_more, s_joined}
-use Rattle.rng_model.specs.Document.{Attribute, Item, Items, a_text, an_element, Interleaves, AllTexts, SharesName, text_and}
-use Rattle.rng_model.specs.Document as document
-use Rattle.rng_model.specs.Names.{Name}
-use Rattle.rng_model.specs.Texts.{is_blank}
+use Rattle.rng_model.specs.simple.Tree.{Simple, choice, group, interleave, s_not_allowed, s_empty, s_text, s_leaf, s_attribute, s_list, s_data, s_data_except}
+use Rattle.rng_model.specs.simple.Tree.{s_value, s_one_or_more, s_joined}
+use Rattle.rng_model.specs.matching.Document.{Attribute, Item, Items, a_text, an_element, Interleaves, AllTexts, SharesName, text_and}
+use Rattle.rng_model.specs.matching.Document as document
+use Rattle.rng_model.specs.names.Names.{Name}
+use Rattle.rng_model.specs.datatypes.Texts.{is_blank}
 use Rattle.rng_model.proofs.Interleaving.{left_is_all, right_is_all}
-use Rattle.rng_matching.specs.Reading.{Reading}
-use Rattle.rng_matching.specs.Taking.{Takes}
-use Rattle.rng_matching.specs.Taking as t
-use Rattle.rng_matching.specs.Blanks.{IsBare, cons, strings_alone, no_blanks}
-use Rattle.rng_matching.specs.Derivatives.{is_nullable}
+use Rattle.rng_model.specs.matching.Reading.{Reading}
+use Rattle.rng_matching.specs.plain.Taking.{Takes}
+use Rattle.rng_matching.specs.plain.Taking as t
+use Rattle.rng_matching.specs.plain.Blanks.{IsBare, cons, strings_alone, no_blanks}
+use Rattle.rng_matching.specs.plain.Derivatives.{is_nullable}
 use Rattle.rng_matching.proofs.Tools.{bare_cut, bare_left, bare_right, in_both}
 use Rattle.rng_matching.proofs.Nullable.{null_out}
-use Rattle.rng_patterns.specs.Facts.{LosesFirst, has_subsequences}
+use Rattle.rng_patterns.specs.plain.Facts.{LosesFirst, has_subsequences}
 
 -- an element behind which no blank string may be
 nothing_behind : (q : Name) (xs : List Attribute) (kids : Items) (s : List ℕ) → is_blank s ≡ true → IsBare (an_element q xs kids ∷ a_text s ∷ []) → ⊥

@@ -5,14 +5,14 @@ use Rattle.std.proofs.lemmas.List.{append-nil, append_assoc}
 use Rattle.std.proofs.lemmas.List.Elements.{All-tail}
 use Rattle.std.proofs.lemmas.List.Sums.{fold-append}
 use Rattle.rng_model.proofs.NumberedTrees as numbered
-use Rattle.rng_model.specs.Tree as tree
-use Rattle.rng_model.specs.Tree.{group, interleave, choice, s_not_allowed}
-use Rattle.rng_model.specs.Table.{Table}
-use Rattle.rng_patterns.specs.Node.{Node}
-use Rattle.rng_patterns.specs.Node as node
-use Rattle.rng_patterns.specs.Trees.{choice_from, tree_over, tree_of, trees, with_tree}
-use Rattle.rng_patterns.specs.PatternTable.{ArePartsBelow, Longer}
-use Rattle.rng_patterns.specs.Reduced.{AreReduced, MayBeMember, MayBeSide}
+use Rattle.rng_model.specs.simple.Tree as tree
+use Rattle.rng_model.specs.simple.Tree.{group, interleave, choice, s_not_allowed}
+use Rattle.rng_model.specs.simple.Table.{Table}
+use Rattle.rng_patterns.specs.views.Node.{Node}
+use Rattle.rng_patterns.specs.views.Node as node
+use Rattle.rng_patterns.specs.views.Trees.{choice_from, tree_over, tree_of, trees, with_tree}
+use Rattle.rng_patterns.specs.views.PatternTable.{ArePartsBelow, Longer}
+use Rattle.rng_patterns.specs.plain.Reduced.{AreReduced, MayBeMember, MayBeSide}
 
 -- a choice reads its members alone
 choice_reads : (m : ℕ) (ms : List ℕ) (f g : ℕ → tree.Simple ℕ) (i : ℕ) → All (λ m. m < i) (m ∷ ms) → ((k : ℕ) → k < i → f k ≡ g k)

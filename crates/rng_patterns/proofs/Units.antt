@@ -1,12 +1,12 @@
 -- The units that are kept of patterns, as patterns are added.
 use Rattle.std.proofs.Common.{◌≡◌, ◌<◌, ◌-◌, ◌^◌, ◌++◌, ◌∷◌, [], ℕ, inl, inr, ⊎_elim, List, Some, arith, length, min, slice_get, subst, sym, ◌∙◌}
 use Rattle.std.proofs.lemmas.Bool.{cases_lt}
-use Rattle.rng_model.specs.Table.{Table}
-use Rattle.rng_model.specs.Tree.{Simple, group, s_joined}
-use Rattle.rng_patterns.specs.Copies.{AreCopies, AreUnits, IsKeptLast, IsUnit, both}
-use Rattle.rng_patterns.specs.Node.{Node, node_of}
-use Rattle.rng_patterns.specs.PatternTable.{Adds, IsPatternTable, Longer}
-use Rattle.rng_patterns.specs.Trees.{tree_of, tree_over}
+use Rattle.rng_model.specs.simple.Table.{Table}
+use Rattle.rng_model.specs.simple.Tree.{Simple, group, s_joined}
+use Rattle.rng_patterns.specs.plain.Copies.{AreCopies, AreUnits, IsKeptLast, IsUnit, both}
+use Rattle.rng_patterns.specs.views.Node.{Node, node_of}
+use Rattle.rng_patterns.specs.views.PatternTable.{Adds, IsPatternTable, Longer}
+use Rattle.rng_patterns.specs.views.Trees.{tree_of, tree_over}
 use Rattle.rng_patterns.specs.declared.pattern.Pattern.{Pattern}
 use Rattle.rng_patterns.specs.declared.pattern.Pattern.TheVariants as pattern
 use Rattle.rng_patterns.specs.declared.pattern.PatternNumber.{PatternNumber}

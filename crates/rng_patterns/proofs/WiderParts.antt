@@ -3,19 +3,19 @@ use Rattle.std.proofs.Common.{◌≡◌, ◌⊎◌, ◌<◌, ◌≤◌, ℕ, Lis
 use Rattle.std.proofs.Common.{inl, inr, arith}
 use Rattle.std.specs.List.{Contains, remove}
 use Rattle.std.proofs.lemmas.List.Elements.{Contains-append_cases}
-use Rattle.rng_model.specs.Tree.{Simple}
-use Rattle.rng_model.specs.Document.{Attribute, Item}
-use Rattle.rng_model.specs.Table.{Table}
+use Rattle.rng_model.specs.simple.Tree.{Simple}
+use Rattle.rng_model.specs.matching.Document.{Attribute, Item}
+use Rattle.rng_model.specs.simple.Table.{Table}
 use Rattle.rng_model.proofs.Interleaving.{left_alone, right_alone}
-use Rattle.rng_matching.specs.Reading.{Reading}
-use Rattle.rng_matching.specs.Taking.{Takes}
-use Rattle.rng_matching.specs.Taking as taking
+use Rattle.rng_model.specs.matching.Reading.{Reading}
+use Rattle.rng_matching.specs.plain.Taking.{Takes}
+use Rattle.rng_matching.specs.plain.Taking as taking
 use Rattle.rng_matching.proofs.Same.{on_group, on_interleave}
-use Rattle.rng_patterns.specs.Choices.{Covers}
-use Rattle.rng_patterns.specs.Node.{Node}
-use Rattle.rng_patterns.specs.Node as node
-use Rattle.rng_patterns.specs.PatternTable.{IsPatternTable}
-use Rattle.rng_patterns.specs.Trees.{tree_of, tree_over}
+use Rattle.rng_patterns.specs.views.Choices.{Covers}
+use Rattle.rng_patterns.specs.views.Node.{Node}
+use Rattle.rng_patterns.specs.views.Node as node
+use Rattle.rng_patterns.specs.views.PatternTable.{IsPatternTable}
+use Rattle.rng_patterns.specs.views.Trees.{tree_of, tree_over}
 use Rattle.rng_patterns.specs.declared.pattern.PatternNumber.{PatternNumber}
 use Rattle.rng_patterns.proofs.Choices.{only_one}
 use Rattle.rng_patterns.proofs.Trees.{tree_of-over_parts}

@@ -1,10 +1,2 @@
-pub mod Node
-pub mod Reduced
-pub mod Trees
-pub mod Facts
-pub mod PatternTable
-pub mod Choices
-pub mod Copies
-pub mod Taking
-pub mod Kept
-pub mod Selecting
+pub mod plain
+pub mod views

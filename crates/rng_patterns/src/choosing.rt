@@ -3,16 +3,16 @@ ghost use Rattle.std.specs.Prelude.{◌≡◌, ◌⊎◌, ◌<◌, ◌↔◌, Al
 ghost use Rattle.std.specs.HashSet.{contains};
 ghost use Rattle.std.specs.List.{Contains};
 ghost use Rattle.std.specs.List.Sorted.{IsStrictlyIncreasing};
-ghost use Rattle.rng_model.specs.Document.{Attribute, Item};
-ghost use Rattle.rng_model.specs.Table.{Table};
-ghost use Rattle.rng_model.specs.Tree.{Simple, s_not_allowed};
-ghost use Rattle.rng_matching.specs.Restricted.{IsRestricted, IsTyped};
-ghost use Rattle.rng_matching.specs.Reading.{Reading};
-ghost use Rattle.rng_matching.specs.Taking.{Takes};
-ghost use Rattle.rng_patterns.specs.Choices.{IsAbsorbedBy, IsAllowed, IsAlternativeOf, IsOnlyMember, SomeTakes};
-ghost use Rattle.rng_patterns.specs.PatternTable.{Longer};
-ghost use Rattle.rng_patterns.specs.Reduced.{HasAlternative, IsReducedChoice, MayBeMember};
-ghost use Rattle.rng_patterns.specs.Trees.{tree_of};
+ghost use Rattle.rng_model.specs.matching.Document.{Attribute, Item};
+ghost use Rattle.rng_model.specs.simple.Table.{Table};
+ghost use Rattle.rng_model.specs.simple.Tree.{Simple, s_not_allowed};
+ghost use Rattle.rng_matching.specs.plain.Restricted.{IsRestricted, IsTyped};
+ghost use Rattle.rng_model.specs.matching.Reading.{Reading};
+ghost use Rattle.rng_matching.specs.plain.Taking.{Takes};
+ghost use Rattle.rng_patterns.specs.views.Choices.{IsAbsorbedBy, IsAllowed, IsAlternativeOf, IsOnlyMember, SomeTakes};
+ghost use Rattle.rng_patterns.specs.views.PatternTable.{Longer};
+ghost use Rattle.rng_patterns.specs.plain.Reduced.{HasAlternative, IsReducedChoice, MayBeMember};
+ghost use Rattle.rng_patterns.specs.views.Trees.{tree_of};
 ghost use Rattle.rng_patterns.specs.declared.pattern.PatternNumber.{PatternNumber};
 
 use crate::pattern::{Pattern, PatternNumber};

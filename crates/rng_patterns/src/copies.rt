@@ -1,9 +1,9 @@
 // Patterns that are copies of one other, one after the other.
 ghost use Rattle.std.specs.Prelude.{◌<◌, IfOk, IfSome, IfNone, OnOk, length};
-ghost use Rattle.rng_model.specs.Table.{Table};
-ghost use Rattle.rng_patterns.specs.Copies.{IsBehindCopies, IsOfCopies, IsOpened};
-ghost use Rattle.rng_patterns.specs.PatternTable.{Longer};
-ghost use Rattle.rng_patterns.specs.Trees.{tree_of};
+ghost use Rattle.rng_model.specs.simple.Table.{Table};
+ghost use Rattle.rng_patterns.specs.plain.Copies.{IsBehindCopies, IsOfCopies, IsOpened};
+ghost use Rattle.rng_patterns.specs.views.PatternTable.{Longer};
+ghost use Rattle.rng_patterns.specs.views.Trees.{tree_of};
 
 use crate::pattern::{Pattern, PatternNumber};
 use crate::pattern_table::PatternTable;

@@ -1,12 +1,12 @@
 // Which patterns match all that others match, as far as their shape tells.
 ghost use Rattle.std.specs.Prelude.{◌≡◌, ◌<◌, [], All, IsTrue, List, length};
 ghost use Rattle.std.specs.List.{Contains};
-ghost use Rattle.rng_model.specs.Document.{Attribute, Item};
-ghost use Rattle.rng_model.specs.Table.{Table};
-ghost use Rattle.rng_matching.specs.Reading.{Reading};
-ghost use Rattle.rng_matching.specs.Taking.{Takes};
-ghost use Rattle.rng_patterns.specs.Choices.{Covers, SomeTakes};
-ghost use Rattle.rng_patterns.specs.Trees.{tree_of};
+ghost use Rattle.rng_model.specs.matching.Document.{Attribute, Item};
+ghost use Rattle.rng_model.specs.simple.Table.{Table};
+ghost use Rattle.rng_model.specs.matching.Reading.{Reading};
+ghost use Rattle.rng_matching.specs.plain.Taking.{Takes};
+ghost use Rattle.rng_patterns.specs.views.Choices.{Covers, SomeTakes};
+ghost use Rattle.rng_patterns.specs.views.Trees.{tree_of};
 ghost use Rattle.rng_patterns.specs.declared.pattern.PatternNumber.{PatternNumber};
 
 use crate::pattern::{Pattern, PatternNumber};

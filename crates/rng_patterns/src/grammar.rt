@@ -1,13 +1,13 @@
 // The patterns of a grammar, taken over into a table.
 ghost use Rattle.std.specs.Prelude.{◌≡◌, ◌⊎◌, ◌<◌, All, IfOk, Some, length, slice_get};
-ghost use Rattle.rng_model.specs.Table.{AreChildrenBelow, Table};
-ghost use Rattle.rng_matching.specs.Reading.{Reading};
-ghost use Rattle.rng_matching.specs.Taking.{Same};
-ghost use Rattle.rng_patterns.specs.Facts.{members_of};
-ghost use Rattle.rng_patterns.specs.Kept.{AreRestrictedAlike, Interleaves, IsMadeOver};
-ghost use Rattle.rng_patterns.specs.PatternTable.{Longer};
-ghost use Rattle.rng_patterns.specs.Taking.{AreTaken, taken_over, tree_by};
-ghost use Rattle.rng_patterns.specs.Trees.{tree_of};
+ghost use Rattle.rng_model.specs.simple.Table.{AreChildrenBelow, Table};
+ghost use Rattle.rng_model.specs.matching.Reading.{Reading};
+ghost use Rattle.rng_matching.specs.plain.Taking.{Same};
+ghost use Rattle.rng_patterns.specs.plain.Facts.{members_of};
+ghost use Rattle.rng_patterns.specs.plain.Kept.{AreRestrictedAlike, Interleaves, IsMadeOver};
+ghost use Rattle.rng_patterns.specs.views.PatternTable.{Longer};
+ghost use Rattle.rng_patterns.specs.views.Taking.{AreTaken, taken_over, tree_by};
+ghost use Rattle.rng_patterns.specs.views.Trees.{tree_of};
 
 use crate::pattern::{Pattern, PatternNumber};
 use crate::pattern_table::PatternTable;

@@ -1,14 +1,14 @@
 // Patterns made of others.
 ghost use Rattle.std.specs.Prelude.{◌≡◌, ◌<◌, IfOk, IfSome, IfNone, length};
-ghost use Rattle.rng_model.specs.Table.{Table};
-ghost use Rattle.rng_model.specs.Tree.{Connector, group, interleave, s_joined, s_leaf, s_one_or_more};
-ghost use Rattle.rng_matching.specs.Derivatives as tree;
-ghost use Rattle.rng_matching.specs.Derivatives.{joined_of, repeat_of};
-ghost use Rattle.rng_matching.specs.Reading.{Reading};
-ghost use Rattle.rng_matching.specs.Taking.{Same};
-ghost use Rattle.rng_patterns.specs.PatternTable.{Adds, Longer};
-ghost use Rattle.rng_patterns.specs.Reduced.{MayBeSide};
-ghost use Rattle.rng_patterns.specs.Trees.{tree_of};
+ghost use Rattle.rng_model.specs.simple.Table.{Table};
+ghost use Rattle.rng_model.specs.simple.Tree.{Connector, group, interleave, s_joined, s_leaf, s_one_or_more};
+ghost use Rattle.rng_matching.specs.plain.Derivatives as tree;
+ghost use Rattle.rng_matching.specs.plain.Derivatives.{joined_of, repeat_of};
+ghost use Rattle.rng_model.specs.matching.Reading.{Reading};
+ghost use Rattle.rng_matching.specs.plain.Taking.{Same};
+ghost use Rattle.rng_patterns.specs.views.PatternTable.{Adds, Longer};
+ghost use Rattle.rng_patterns.specs.plain.Reduced.{MayBeSide};
+ghost use Rattle.rng_patterns.specs.views.Trees.{tree_of};
 
 use crate::pattern::{Pattern, PatternNumber};
 use crate::pattern_table::PatternTable;

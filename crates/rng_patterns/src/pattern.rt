@@ -1,6 +1,6 @@
 // Patterns by number.
 ghost use Rattle.std.specs.Prelude.{◌≡◌, ◌≤◌, ℕ, IsTrue};
-ghost use Rattle.rng_patterns.specs.Facts.{IsWithin, joined_spans, one_span};
+ghost use Rattle.rng_patterns.specs.plain.Facts.{IsWithin, joined_spans, one_span};
 
 use rng_model::{ElementId, PatternId};
 

@@ -1,16 +1,16 @@
 // A table of patterns, each once.
 ghost use Rattle.std.specs.Prelude.{◌≡◌, ◌↔◌, ◌++◌, ◌∷◌, [], ℕ, IsTrue, ◌<◌, ◌≤◌, All, IfOk, IfSome, IfNone, Some, length, map, slice_get};
 ghost use Rattle.std.specs.List.{list_any, list_all};
-ghost use Rattle.rng_model.specs.Table.{Table};
-ghost use Rattle.rng_model.specs.Tree.{s_not_allowed, s_empty};
-ghost use Rattle.rng_matching.specs.Reading.{Reading};
-ghost use Rattle.rng_matching.specs.Taking.{Takes};
-ghost use Rattle.rng_patterns.specs.Copies.{AreCopies, IsKeptLast, IsUnit};
-ghost use Rattle.rng_patterns.specs.Node.{node_of};
-ghost use Rattle.rng_patterns.specs.Facts.{HasElement, IsWithin, LosesFirst};
-ghost use Rattle.rng_patterns.specs.PatternTable.{Adds, ArePartsBelow, IsNew, IsPatternTable, Longer, both_facts, facts_of, nodes_of};
-ghost use Rattle.rng_patterns.specs.Reduced.{AreReduced};
-ghost use Rattle.rng_patterns.specs.Trees.{choice_over, tree_of, tree_over};
+ghost use Rattle.rng_model.specs.simple.Table.{Table};
+ghost use Rattle.rng_model.specs.simple.Tree.{s_not_allowed, s_empty};
+ghost use Rattle.rng_model.specs.matching.Reading.{Reading};
+ghost use Rattle.rng_matching.specs.plain.Taking.{Takes};
+ghost use Rattle.rng_patterns.specs.plain.Copies.{AreCopies, IsKeptLast, IsUnit};
+ghost use Rattle.rng_patterns.specs.views.Node.{node_of};
+ghost use Rattle.rng_patterns.specs.plain.Facts.{HasElement, IsWithin, LosesFirst};
+ghost use Rattle.rng_patterns.specs.views.PatternTable.{Adds, ArePartsBelow, IsNew, IsPatternTable, Longer, both_facts, facts_of, nodes_of};
+ghost use Rattle.rng_patterns.specs.plain.Reduced.{AreReduced};
+ghost use Rattle.rng_patterns.specs.views.Trees.{choice_over, tree_of, tree_over};
 
 use crate::pattern::{Facts, Pattern, PatternNumber, Span};
 use indexmap::IndexMap;
@@ -30,13 +30,13 @@ pub struct PatternTable {
 
 impl Model for PatternTable {
     ghost use Rattle.std.specs.Prelude.{List};
-    ghost use Rattle.rng_patterns.specs.Node.{Node};
+    ghost use Rattle.rng_patterns.specs.views.Node.{Node};
 
     ghost Value = { List Node };
 
-    ghost use Rattle.rng_model.specs.Tree.{s_not_allowed, s_empty};
-    ghost use Rattle.rng_patterns.specs.Copies.{AreUnits};
-    ghost use Rattle.rng_patterns.specs.PatternTable.{nodes_of, AreExact, IsKnown, IsPatternTable};
+    ghost use Rattle.rng_model.specs.simple.Tree.{s_not_allowed, s_empty};
+    ghost use Rattle.rng_patterns.specs.plain.Copies.{AreUnits};
+    ghost use Rattle.rng_patterns.specs.views.PatternTable.{nodes_of, AreExact, IsKnown, IsPatternTable};
 
     ghost view = { λ t. nodes_of t.rows.entries };
 

@@ -1,13 +1,13 @@
 // Some patterns of a table, in a table of their own.
 ghost use Rattle.std.specs.Prelude.{◌≡◌, ◌<◌, ℕ, [], ◌∷◌, All, IfOk, length, map, take};
 ghost use Rattle.std.specs.List.{AllZip};
-ghost use Rattle.rng_model.specs.Table.{Table};
-ghost use Rattle.rng_patterns.specs.Kept.{AreRestrictedAlike};
-ghost use Rattle.rng_patterns.specs.Node.{node_of};
-ghost use Rattle.rng_patterns.specs.PatternTable.{ArePartsBelow, IsPatternTable};
-ghost use Rattle.rng_patterns.specs.Selecting.{AreClosed, AreCopied, IsMarked, Marks, given_for, node_at, parts_of, renumbered};
-ghost use Rattle.rng_patterns.specs.Taking.{AreTaken};
-ghost use Rattle.rng_patterns.specs.Trees.{tree_of};
+ghost use Rattle.rng_model.specs.simple.Table.{Table};
+ghost use Rattle.rng_patterns.specs.plain.Kept.{AreRestrictedAlike};
+ghost use Rattle.rng_patterns.specs.views.Node.{node_of};
+ghost use Rattle.rng_patterns.specs.views.PatternTable.{ArePartsBelow, IsPatternTable};
+ghost use Rattle.rng_patterns.specs.plain.Selecting.{AreClosed, AreCopied, IsMarked, Marks, given_for, node_at, parts_of, renumbered};
+ghost use Rattle.rng_patterns.specs.views.Taking.{AreTaken};
+ghost use Rattle.rng_patterns.specs.views.Trees.{tree_of};
 
 use crate::pattern::{Pattern, PatternNumber};
 use crate::pattern_table::PatternTable;

@@ -2,7 +2,7 @@
 use Rattle.std.proofs.Common.{◌≡◌, ◌∙◌, inl, inr, zero, suc, Bool, true, false, cond, List, [], ◌∷◌, ◌++◌, map, flat_map, refl, sym, ap, subst, arith}
 use Rattle.std.specs.Prelude.{Contains}
 use Rattle.std.specs.List.{AllByRecursion}
-use Rattle.rng_print.specs.Numbering.{has, with_new, and_new, first_times, place_in, IsReached, at_start, in_line, IsNumbering}
+use Rattle.rncv_model.specs.printed.Numbering.{has, with_new, and_new, first_times, place_in, IsReached, at_start, in_line, IsNumbering}
 use Rattle.rng_print.proofs.Numberings.{contains_none, contains_first, all_contained, all_append}
 
 pub map_append : {A B : Type 0} (f : A → B) (xs ys : List A) → map f (xs ++ ys) ≡ map f xs ++ map f ys

@@ -3,11 +3,11 @@ use Rattle.std.proofs.Common.{◌≡◌, ◌∙◌, ℕ, ◌+◌, ◌≤◌, ◌
 use Rattle.std.specs.List.{AllByRecursion}
 use Rattle.std.proofs.lemmas.List.{append-nil, length-map, take_all, take_more, take-append-le}
 use Rattle.std.proofs.Math.ListN.{get_or-map}
-use Rattle.rng_model.specs.Table.{Table, grammar_of}
-use Rattle.rng_print.specs.Numbering.{and_new, first_times, IsReached, at_start, in_line}
-use Rattle.rng_print.specs.PrintedText as text
-use Rattle.rng_print.specs.PrintedText.{IsItemsOf, item_of, mentions, same_item}
-use Rattle.rng_print.specs.Items.{AreItems, item_at, items_seen}
+use Rattle.rng_model.specs.simple.Table.{Table, grammar_of}
+use Rattle.rncv_model.specs.printed.Numbering.{and_new, first_times, IsReached, at_start, in_line}
+use Rattle.rncv_model.specs.printed.PrintedText as text
+use Rattle.rncv_model.specs.printed.PrintedText.{IsItemsOf, item_of, mentions, same_item}
+use Rattle.rng_print.specs.views.Items.{AreItems, item_at, items_seen}
 use Rattle.rng_print.specs.declared.items.Item.{Item}
 use Rattle.rng_print.specs.declared.items.Items.{Items}
 use Rattle.rng_print.proofs.Equal.{item_exact, item_itself}

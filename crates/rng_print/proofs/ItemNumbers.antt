@@ -5,14 +5,14 @@ use Rattle.std.specs.List.{AllByRecursion, filter_map, list_any, position_or_len
 use Rattle.std.proofs.lemmas.Bool.{eqb-true}
 use Rattle.std.proofs.lemmas.List.{append-nil}
 use Rattle.std.proofs.lemmas.List.Elements.{filter_map-append}
-use Rattle.rng_model.specs.Table.{AreToldApart, Table, tree_at}
+use Rattle.rng_model.specs.simple.Table.{AreToldApart, Table, tree_at}
 use Rattle.rng_model.specs.declared.simple.ElementId.{ElementId}
 use Rattle.rng_model.specs.declared.simple.PatternId.{PatternId}
-use Rattle.rng_print.specs.Numbering.{has, with_new, and_new, place_in}
-use Rattle.rng_print.specs.Same.{same_tree}
-use Rattle.rng_print.specs.PrintedText as text
-use Rattle.rng_print.specs.PrintedText.{same_item, element_in, pattern_in, item_name}
-use Rattle.rng_print.specs.Items.{AreIndexed, AreItems, IsInside, element_of, item_at, items_seen, numbered_name, pattern_of, same_number}
+use Rattle.rncv_model.specs.printed.Numbering.{has, with_new, and_new, place_in}
+use Rattle.rncv_model.specs.printed.Same.{same_tree}
+use Rattle.rncv_model.specs.printed.PrintedText as text
+use Rattle.rncv_model.specs.printed.PrintedText.{same_item, element_in, pattern_in, item_name}
+use Rattle.rng_print.specs.views.Items.{AreIndexed, AreItems, IsInside, element_of, item_at, items_seen, numbered_name, pattern_of, same_number}
 use Rattle.rng_print.specs.declared.items.Item.{Item}
 use Rattle.rng_print.specs.declared.items.Item.TheVariants as variants
 use Rattle.rng_print.specs.declared.items.Items.{Items}

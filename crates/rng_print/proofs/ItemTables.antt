@@ -3,15 +3,15 @@ use Rattle.std.proofs.Common.{◌≡◌, ◌∙◌, ℕ, ◌<◌, length, map, s
 use Rattle.std.specs.Prelude.{slice_get, option_map}
 use Rattle.std.specs.Option.{unwrap_or}
 use Rattle.std.proofs.lemmas.Option.{slice_get-map, unwrap_or-slice_get}
-use Rattle.rng_model.specs.Names as names
-use Rattle.rng_model.specs.Names.{any_name}
-use Rattle.rng_model.specs.Tree as tree
-use Rattle.rng_model.specs.View.{class_of}
-use Rattle.rng_model.specs.Table.{Table, IsTable, IsLeafListed, IsPaired, IsClassPaired, grammar_of, tree_at}
+use Rattle.rng_model.specs.names.Names as names
+use Rattle.rng_model.specs.names.Names.{any_name}
+use Rattle.rng_model.specs.simple.Tree as tree
+use Rattle.rng_model.specs.names.NameViews.{class_of}
+use Rattle.rng_model.specs.simple.Table.{Table, IsTable, IsLeafListed, IsPaired, IsClassPaired, grammar_of, tree_at}
 use Rattle.rng_model.specs.declared.name.NameClass.{NameClass}
 use Rattle.rng_model.specs.declared.simple.PatternId.{PatternId}
 use Rattle.rng_model.specs.declared.simple.Simple.{Simple}
-use Rattle.rng_print.specs.PrintedText.{element_at}
+use Rattle.rncv_model.specs.printed.PrintedText.{element_at}
 use Rattle.rng_print.proofs.Lookups.{all_at}
 
 module _ (t : Table) (h : IsTable t) where

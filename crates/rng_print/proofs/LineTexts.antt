@@ -1,6 +1,6 @@
 -- Lines, one behind another.
 use Rattle.std.proofs.Common.{◌≡◌, ◌∙◌, ℕ, ◌+◌, ◌≤◌, ◌<◌, List, [], ◌∷◌, ◌++◌, length, map, take, flat_map, get_or, sym, ap, append_assoc, codes}
-use Rattle.rng_print.specs.PrintedText.{line}
+use Rattle.rncv_model.specs.printed.PrintedText.{line}
 use Rattle.std.proofs.lemmas.List.{flat_map_more, map-append, take_all, take_more}
 
 module _ {A B : Type 0} (f : B → List ℕ) (v : A → B) (old : List ℕ) where

@@ -3,8 +3,8 @@ use Rattle.std.proofs.Common.{◌≡◌, ◌∙◌, ℕ, suc, ◌+◌, ◌≤◌
 use Rattle.std.proofs.Common.{ap, append_assoc, codes, drop-cons}
 use Rattle.std.specs.Prelude.{◌==◌}
 use Rattle.std.proofs.lemmas.Bool.{eqb-true}
-use Rattle.rng_print.specs.PrintedText.{delimiter, with_character, runs_of, escaped, more_runs, joined_runs, literal}
-use Rattle.rng_print.specs.Literals.{byte_text, open_text}
+use Rattle.rncv_model.specs.printed.PrintedText.{delimiter, with_character, runs_of, escaped, more_runs, joined_runs, literal}
+use Rattle.rng_print.specs.plain.Literals.{byte_text, open_text}
 use Rattle.rng_print.proofs.Equal.{number_itself}
 
 -- what is written of these runs where a run between these is open

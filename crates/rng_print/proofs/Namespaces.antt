@@ -5,12 +5,12 @@ use Rattle.std.specs.List.{AllByRecursion, position_or_len}
 use Rattle.std.proofs.lemmas.List.{append-nil, take_more}
 use Rattle.std.proofs.lemmas.Grind.{flat_map-append}
 use Rattle.indexmap.specs.IndexSet.{insert_key}
-use Rattle.rng_model.specs.Names as names
-use Rattle.rng_model.specs.Names.{classes_of, some_of}
-use Rattle.rng_model.specs.View.{class_of}
+use Rattle.rng_model.specs.names.Names as names
+use Rattle.rng_model.specs.names.Names.{classes_of, some_of}
+use Rattle.rng_model.specs.names.NameViews.{class_of}
 use Rattle.rng_model.specs.declared.name.NameClass.{NameClass, Choice, the_lemmas}
-use Rattle.rng_print.specs.Numbering.{and_new, with_new}
-use Rattle.rng_print.specs.PrintedText.{namespaces_in, namespaces_among}
+use Rattle.rncv_model.specs.printed.Numbering.{and_new, with_new}
+use Rattle.rncv_model.specs.printed.PrintedText.{namespaces_in, namespaces_among}
 use Rattle.rng_print.proofs.Carried.{with_map}
 use Rattle.rng_print.proofs.Equal.{bytes_exact, bytes_itself}
 use Rattle.rng_print.proofs.Numberings.{and_append}

@@ -5,7 +5,7 @@ use Rattle.std.specs.Prelude.{◌||◌, Contains, slice_get}
 use Rattle.std.specs.List.{AllByRecursion}
 use Rattle.std.proofs.lemmas.Bool.{or_cases}
 use Rattle.std.proofs.lemmas.List.{append-nil}
-use Rattle.rng_print.specs.Numbering.{has, with_new, and_new, first_times, IsReached, at_start, in_line, IsNumbering, numbered_from, numbered}
+use Rattle.rncv_model.specs.printed.Numbering.{has, with_new, and_new, first_times, IsReached, at_start, in_line, IsNumbering, numbered_from, numbered}
 use Rattle.rng_print.proofs.Booleans.{false_true}
 
 -- ---- lists

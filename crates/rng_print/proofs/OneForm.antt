@@ -5,16 +5,16 @@ use Rattle.std.proofs.Math.Dec.{ltb}
 use Rattle.std.proofs.lemmas.Bool.{ltb-true, lt-ltb}
 use Rattle.std.proofs.lemmas.List.Elements.{All-contains}
 use Rattle.std.proofs.lemmas.Option.{slice_get-get_or}
-use Rattle.rng_model.specs.Names.{NameClass, any_name}
-use Rattle.rng_model.specs.Leaves.{AreLeavesBelow, renamed}
-use Rattle.rng_model.specs.Schema.{Schema}
-use Rattle.rng_model.specs.SchemaForm.{Element, SimpleForm, IsElementOf, IsOnlySimpleGrammarOf, IsSameUpToNumbering, IsSimpleFormOfSchema}
-use Rattle.rng_model.specs.Table.{Grammar}
-use Rattle.rng_model.specs.Tree.{Simple, s_not_allowed, as_tree}
-use Rattle.rng_model.specs.Unfolding.{Leaf}
-use Rattle.rng_print.specs.PrintedText.{element_at}
-use Rattle.rng_print.specs.Renumbered.{renumbered, AreSameUpToNumbering}
-use Rattle.rng_print.specs.SchemaText.{IsPrintedForm}
+use Rattle.rng_model.specs.names.Names.{NameClass, any_name}
+use Rattle.rng_model.specs.simple.Leaves.{AreLeavesBelow, renamed}
+use Rattle.rng_model.specs.schema.Schema.{Schema}
+use Rattle.rng_model.specs.simple.SchemaForm.{Element, SimpleForm, IsElementOf, IsOnlySimpleGrammarOf, IsSameUpToNumbering, IsSimpleFormOfSchema}
+use Rattle.rng_model.specs.simple.Table.{Grammar}
+use Rattle.rng_model.specs.simple.Tree.{Simple, s_not_allowed, as_tree}
+use Rattle.rng_model.specs.schema.Unfolding.{Leaf}
+use Rattle.rncv_model.specs.printed.PrintedText.{element_at}
+use Rattle.rng_print.specs.plain.Renumbered.{renumbered, AreSameUpToNumbering}
+use Rattle.rncv_model.specs.printed.SchemaText.{IsPrintedForm}
 use Rattle.rng_print.proofs.Booleans.{false_true}
 use Rattle.rng_print.proofs.SameText.{same_text}
 use Rattle.rng_print.proofs.Shapes.{is_below, paired_tree}

@@ -2,11 +2,11 @@
 use Rattle.std.proofs.Common.{◌≡◌, ◌∙◌, ℕ, zero, suc, ◌≤◌, true, List, [], ◌∷◌, ◌++◌, length, flat_map, refl, sym, ap}
 use Rattle.std.specs.Prelude.{Contains}
 use Rattle.std.specs.List.{AllByRecursion, slice_index_or}
-use Rattle.rng_model.specs.Names.{NameClass, any_name}
-use Rattle.rng_model.specs.Tree.{Simple, s_not_allowed, s_empty, s_text, s_leaf, s_attribute, s_list, s_data, s_data_except, s_value, s_one_or_more, s_joined}
-use Rattle.rng_model.specs.Table.{Grammar}
-use Rattle.rng_print.specs.Numbering.{has, IsReached, at_start, in_line, numbered}
-use Rattle.rng_print.specs.PrintedText.{Item, element, pattern, same_item, item_of, element_at, parts_of, mentions, IsItemsOf, text_of, IsPrinted}
+use Rattle.rng_model.specs.names.Names.{NameClass, any_name}
+use Rattle.rng_model.specs.simple.Tree.{Simple, s_not_allowed, s_empty, s_text, s_leaf, s_attribute, s_list, s_data, s_data_except, s_value, s_one_or_more, s_joined}
+use Rattle.rng_model.specs.simple.Table.{Grammar}
+use Rattle.rncv_model.specs.printed.Numbering.{has, IsReached, at_start, in_line, numbered}
+use Rattle.rncv_model.specs.printed.PrintedText.{Item, element, pattern, same_item, item_of, element_at, parts_of, mentions, IsItemsOf, text_of, IsPrinted}
 use Rattle.rng_print.proofs.Equal.{item_exact, item_itself}
 use Rattle.rng_print.proofs.Numberings.{one_numbering, numbering_found, numbering_there, has_contained, all_each, all_contained}
 

@@ -4,15 +4,15 @@ use Rattle.std.specs.Prelude.{◌==◌, decimal}
 use Rattle.std.specs.List.{AllByRecursion, filter_map}
 use Rattle.std.specs.Str.{bytes_eq}
 use Rattle.std.proofs.lemmas.Bool.{eqb-true, false_from_ne_true}
-use Rattle.rng_model.specs.Names.{NameClass}
-use Rattle.rng_model.specs.Tree.{Simple, s_not_allowed, s_empty, s_text, s_leaf, s_attribute, s_list, s_data, s_data_except, s_value, s_one_or_more, s_joined}
-use Rattle.rng_model.specs.Table.{Grammar}
-use Rattle.rng_print.specs.Numbering.{place_in, first_times}
-use Rattle.rng_print.specs.Same.{same_tree}
-use Rattle.rng_print.specs.PrintedText.{Item, element, pattern, same_item, item_of, element_at, parts_of, mentions, IsItemsOf, element_in, pattern_in}
-use Rattle.rng_print.specs.PrintedText.{item_name, namespaces_of, namespaces, reference, pattern_text, element_text, item_text, item_line, namespace_line, line}
-use Rattle.rng_print.specs.PrintedText.{lines, text_of, IsPrinted, datatype_text, class_text, connector_text, namespaces_in}
-use Rattle.rng_print.specs.Renumbered.{renumbered, IsBelow, AreSameUpToNumbering}
+use Rattle.rng_model.specs.names.Names.{NameClass}
+use Rattle.rng_model.specs.simple.Tree.{Simple, s_not_allowed, s_empty, s_text, s_leaf, s_attribute, s_list, s_data, s_data_except, s_value, s_one_or_more, s_joined}
+use Rattle.rng_model.specs.simple.Table.{Grammar}
+use Rattle.rncv_model.specs.printed.Numbering.{place_in, first_times}
+use Rattle.rncv_model.specs.printed.Same.{same_tree}
+use Rattle.rncv_model.specs.printed.PrintedText.{Item, element, pattern, same_item, item_of, element_at, parts_of, mentions, IsItemsOf, element_in, pattern_in}
+use Rattle.rncv_model.specs.printed.PrintedText.{item_name, namespaces_of, namespaces, reference, pattern_text, element_text, item_text, item_line, namespace_line, line}
+use Rattle.rncv_model.specs.printed.PrintedText.{lines, text_of, IsPrinted, datatype_text, class_text, connector_text, namespaces_in}
+use Rattle.rng_print.specs.plain.Renumbered.{renumbered, IsBelow, AreSameUpToNumbering}
 use Rattle.rng_print.proofs.Numberings.{all_append}
 use Rattle.rng_print.proofs.Booleans.{false_true}
 use Rattle.rng_print.proofs.Equal.{number_itself, tree_exact, tree_itself, item_exact, item_itself}

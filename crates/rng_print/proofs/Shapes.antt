@@ -2,11 +2,11 @@
 use Rattle.std.proofs.Common.{◌≡◌, ◌∙◌, ℕ, ◌<◌, List, [], ◌∷◌, ◌++◌, map, refl, sym, ap, append_assoc}
 use Rattle.std.specs.List.{AllByRecursion}
 use Rattle.std.proofs.lemmas.List.{map-append}
-use Rattle.rng_model.specs.Leaves.{LeafIn, here, of_attribute, of_list, of_except, of_one_or_more, of_first, of_second, AreLeavesBelow, renamed}
-use Rattle.rng_model.specs.Tree.{Tree, as_tree, not_allowed, empty, text, leaf, attribute, list, data_of, data_except, value, mixed, optional, zero_or_more}
-use Rattle.rng_model.specs.Tree.{one_or_more, joined}
-use Rattle.rng_model.specs.Tree.{Simple, s_not_allowed, s_empty, s_text, s_leaf, s_attribute, s_list, s_data, s_data_except, s_value, s_one_or_more, s_joined}
-use Rattle.rng_print.specs.Renumbered.{renumbered, IsBelow}
+use Rattle.rng_model.specs.simple.Leaves.{LeafIn, here, of_attribute, of_list, of_except, of_one_or_more, of_first, of_second, AreLeavesBelow, renamed}
+use Rattle.rng_model.specs.simple.Tree.{Tree, as_tree, not_allowed, empty, text, leaf, attribute, list, data_of, data_except, value, mixed, optional, zero_or_more}
+use Rattle.rng_model.specs.simple.Tree.{one_or_more, joined}
+use Rattle.rng_model.specs.simple.Tree.{Simple, s_not_allowed, s_empty, s_text, s_leaf, s_attribute, s_list, s_data, s_data_except, s_value, s_one_or_more, s_joined}
+use Rattle.rng_print.specs.plain.Renumbered.{renumbered, IsBelow}
 use Rattle.rng_print.proofs.Numberings.{all_append}
 
 -- ---- shape and leaves

@@ -3,12 +3,12 @@ use Rattle.std.proofs.Common.{◌≡◌, ℕ, List, [], ◌∷◌, ◌++◌, ref
 use Rattle.std.specs.Prelude.{decimal}
 use Rattle.std.proofs.Common.{arith}
 use Rattle.std.proofs.lemmas.Fmt.{decimal_digit}
-use Rattle.rng_model.specs.Names.{NameClass, any_except, ns_except, name_is, one_of, no_classes}
-use Rattle.rng_model.specs.Tree.{Datatype, choice, group, Simple, s_not_allowed, s_empty, s_text, s_leaf, s_attribute, s_data, s_data_except, s_value}
-use Rattle.rng_model.specs.Tree.{s_one_or_more, s_joined}
-use Rattle.rng_model.specs.Table.{Grammar}
-use Rattle.rng_print.specs.Numbering.{numbered, numbered_from}
-use Rattle.rng_print.specs.PrintedText.{Item, element, same_item, item_of, mentions, text_of, literal, class_text}
+use Rattle.rng_model.specs.names.Names.{NameClass, any_except, ns_except, name_is, one_of, no_classes}
+use Rattle.rng_model.specs.simple.Tree.{Datatype, choice, group, Simple, s_not_allowed, s_empty, s_text, s_leaf, s_attribute, s_data, s_data_except, s_value}
+use Rattle.rng_model.specs.simple.Tree.{s_one_or_more, s_joined}
+use Rattle.rng_model.specs.simple.Table.{Grammar}
+use Rattle.rncv_model.specs.printed.Numbering.{numbered, numbered_from}
+use Rattle.rncv_model.specs.printed.PrintedText.{Item, element, same_item, item_of, mentions, text_of, literal, class_text}
 
 -- the items as the steps give them
 abbrev items_by : ℕ → Grammar → List Item

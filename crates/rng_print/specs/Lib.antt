@@ -1,11 +1,2 @@
-pub mod Numbering
-pub mod Same
-pub mod PrintedText
-pub mod Renumbered
-pub mod Literals
-pub mod Prefixes
-pub mod Parts
-pub mod Items
-pub mod Lines
-pub mod SchemaText
-pub mod Printing
+pub mod plain
+pub mod views

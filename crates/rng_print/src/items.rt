@@ -1,10 +1,10 @@
 // What has a line of its own, in the order in which it is first written.
 ghost use Rattle.std.specs.Prelude.{◌≡◌, ◌<◌, ◌++◌, decimal, IfSome, OnOk, IfOk, length, map, option_to_list};
-ghost use Rattle.rng_model.specs.Table.{AreToldApart, IsTable, grammar_of, tree_at};
+ghost use Rattle.rng_model.specs.simple.Table.{AreToldApart, IsTable, grammar_of, tree_at};
 ghost use Rattle.rng_print.specs.declared.items.Item.TheVariants as items;
-ghost use Rattle.rng_print.specs.Numbering.{and_new, with_new};
-ghost use Rattle.rng_print.specs.PrintedText.{IsItemsOf, item_of, mentions, parts_of, same_item};
-ghost use Rattle.rng_print.specs.Items.{AreIndexed, AreItems, IsInside, item_at, items_seen, numbered_name, same_number};
+ghost use Rattle.rncv_model.specs.printed.Numbering.{and_new, with_new};
+ghost use Rattle.rncv_model.specs.printed.PrintedText.{IsItemsOf, item_of, mentions, parts_of, same_item};
+ghost use Rattle.rng_print.specs.views.Items.{AreIndexed, AreItems, IsInside, item_at, items_seen, numbered_name, same_number};
 
 use indexmap::IndexSet;
 use rng_model::{ElementId, OutOfMemory, PatternId, Simple, SimpleGrammar};

@@ -1,10 +1,10 @@
 // What is promised of printed texts themselves.
 ghost use Rattle.std.specs.Prelude.{◌≡◌, ℕ, List};
-ghost use Rattle.rng_model.specs.Schema.{Schema};
-ghost use Rattle.rng_model.specs.Table.{Grammar};
-ghost use Rattle.rng_print.specs.PrintedText.{IsPrinted};
-ghost use Rattle.rng_print.specs.Renumbered.{AreSameUpToNumbering};
-ghost use Rattle.rng_print.specs.SchemaText.{IsPrintedForm};
+ghost use Rattle.rng_model.specs.schema.Schema.{Schema};
+ghost use Rattle.rng_model.specs.simple.Table.{Grammar};
+ghost use Rattle.rncv_model.specs.printed.PrintedText.{IsPrinted};
+ghost use Rattle.rng_print.specs.plain.Renumbered.{AreSameUpToNumbering};
+ghost use Rattle.rncv_model.specs.printed.SchemaText.{IsPrintedForm};
 
 /// The laws of the definition of printed texts. It does nothing: its contract is what it is for.
 ///

@@ -1,7 +1,7 @@
 //! The text of a simple grammar: a line for the start, for each element and for each pattern that has parts, and before them
 //! one for each namespace.
 //!
-//! What is printed is the text that the definition gives (`specs/PrintedText.antt`), and each grammar has one, whatever the
+//! What is printed is the text that the definition gives (`rncv_model/specs/printed/PrintedText.antt`), and each grammar has one, whatever the
 //! numbers of its elements (RELAX NG Specification, section 5; Compact Syntax, "Syntax").
 #![tactic(auto)]
 
@@ -15,4 +15,5 @@ mod prefixes;
 mod printing;
 
 pub use laws::printing_laws;
-pub use printing::{PrintFault, print, printed_text};
+pub use printing::{print, printed_text};
+pub use rncv_model::PrintFault;

@@ -1,11 +1,11 @@
 // The lines of a printed grammar.
 ghost use Rattle.std.specs.Prelude.{◌≡◌, ◌<◌, ◌++◌, OnOk, codes, flat_map, length};
-ghost use Rattle.rng_model.specs.Table.{IsPaired, grammar_of, tree_at};
-ghost use Rattle.rng_model.specs.View.{class_of};
-ghost use Rattle.rng_print.specs.PrintedText.{class_text, item_line, item_text, line, namespace_line, pattern_text, reference};
-ghost use Rattle.rng_print.specs.Items.{AreItems, IsInside, item_at, items_seen};
-ghost use Rattle.rng_print.specs.Lines.{braced_text};
-ghost use Rattle.rng_print.specs.Prefixes.{namespaces_seen};
+ghost use Rattle.rng_model.specs.simple.Table.{IsPaired, grammar_of, tree_at};
+ghost use Rattle.rng_model.specs.names.NameViews.{class_of};
+ghost use Rattle.rncv_model.specs.printed.PrintedText.{class_text, item_line, item_text, line, namespace_line, pattern_text, reference};
+ghost use Rattle.rng_print.specs.views.Items.{AreItems, IsInside, item_at, items_seen};
+ghost use Rattle.rng_print.specs.plain.Lines.{braced_text};
+ghost use Rattle.rng_print.specs.views.Prefixes.{namespaces_seen};
 
 use crate::datatype::{write_datatype, write_value};
 use crate::items::{Item, Items};

@@ -1,7 +1,7 @@
 // Literals: texts between quotes.
 ghost use Rattle.std.specs.Prelude.{◌≡◌, ◌++◌, OnOk, IfOk, if◌then◌else◌};
-ghost use Rattle.rng_print.specs.PrintedText.{delimiter, escaped, literal};
-ghost use Rattle.rng_print.specs.Literals.{byte_text};
+ghost use Rattle.rncv_model.specs.printed.PrintedText.{delimiter, escaped, literal};
+ghost use Rattle.rng_print.specs.plain.Literals.{byte_text};
 
 use rng_model::OutOfMemory;
 

@@ -1,10 +1,10 @@
 // Name classes.
 ghost use Rattle.std.specs.Prelude.{◌≡◌, ◌++◌, ◌||◌, [], OnOk, if◌then◌else◌};
-ghost use Rattle.rng_model.specs.Names as names;
-ghost use Rattle.rng_model.specs.Table.{IsPaired};
-ghost use Rattle.rng_model.specs.View.{class_of, name_of};
-ghost use Rattle.rng_print.specs.PrintedText.{class_text, is_choice, is_except};
-ghost use Rattle.rng_print.specs.Prefixes.{namespaces_seen};
+ghost use Rattle.rng_model.specs.names.Names as names;
+ghost use Rattle.rng_model.specs.simple.Table.{IsPaired};
+ghost use Rattle.rng_model.specs.names.NameViews.{class_of, name_of};
+ghost use Rattle.rncv_model.specs.printed.PrintedText.{class_text, is_choice, is_except};
+ghost use Rattle.rng_print.specs.views.Prefixes.{namespaces_seen};
 
 use crate::prefixes::Prefixes;
 use rng_model::{Name, NameClass, OutOfMemory};

@@ -2,12 +2,12 @@
 ghost use Rattle.std.specs.Prelude.{◌≡◌, ◌++◌, [], OnOk, IfOk, List, map};
 ghost use Rattle.std.specs.List.{AllByRecursion};
 ghost use Rattle.std.specs.Str.{bytes_eq};
-ghost use Rattle.rng_model.specs.Table.{grammar_of};
-ghost use Rattle.rng_model.specs.View.{class_of};
-ghost use Rattle.rng_print.specs.Numbering.{and_new, with_new};
-ghost use Rattle.rng_print.specs.PrintedText.{namespaces, namespaces_in, namespaces_of, prefix_of};
-ghost use Rattle.rng_print.specs.Items.{IsInside, item_at};
-ghost use Rattle.rng_print.specs.Prefixes.{namespaces_seen};
+ghost use Rattle.rng_model.specs.simple.Table.{grammar_of};
+ghost use Rattle.rng_model.specs.names.NameViews.{class_of};
+ghost use Rattle.rncv_model.specs.printed.Numbering.{and_new, with_new};
+ghost use Rattle.rncv_model.specs.printed.PrintedText.{namespaces, namespaces_in, namespaces_of, prefix_of};
+ghost use Rattle.rng_print.specs.views.Items.{IsInside, item_at};
+ghost use Rattle.rng_print.specs.views.Prefixes.{namespaces_seen};
 
 use crate::items::{Item, write_numbered};
 use indexmap::IndexSet;

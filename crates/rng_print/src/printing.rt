@@ -1,26 +1,18 @@
 // The printed text of a simple grammar, made and written.
 ghost use Rattle.std.specs.Prelude.{◌≡◌, ◌-◌, ◌^◌, ◌<◌, IfOk, OnOk, IsErrOf};
-ghost use Rattle.rng_model.specs.Device.{device_inner, device_failures, device_taken};
-ghost use Rattle.rng_model.specs.Table.{AreToldApart, grammar_of};
-ghost use Rattle.rng_print.specs.PrintedText.{IsPrinted};
-ghost use Rattle.rng_print.specs.Printing.{AppendsPrinted, AppendsPrintedBeginning};
+ghost use Rattle.rng_model.specs.devices.Device.{device_inner, device_failures, device_taken};
+ghost use Rattle.rng_model.specs.simple.Table.{AreToldApart, grammar_of};
+ghost use Rattle.rncv_model.specs.printed.PrintedText.{IsPrinted};
+ghost use Rattle.rncv_model.specs.printed.Printing.{AppendsPrinted, AppendsPrintedBeginning};
 
 use crate::items::Items;
 use crate::lines::Lines;
 use crate::prefixes::Prefixes;
+use rncv_model::PrintFault;
 use rng_model::{Device, OutOfMemory, SimpleGrammar};
 use rng_output::write_whole;
 use std::alloc::Global;
 use std::io::Write;
-
-/// Why a grammar was not printed.
-#[derive(Clone, Copy, Debug, PartialEq, Eq)]
-pub enum PrintFault {
-    /// A write failed, and the device counted it.
-    Write,
-    /// There was no memory for the text.
-    Memory,
-}
 
 /// The text of a grammar in which equal patterns have one number: a schema in the compact syntax that has this simple form.
 ///

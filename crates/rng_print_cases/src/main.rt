@@ -8,7 +8,7 @@
 #![tactic(auto)]
 
 ghost use Rattle.std.specs.Prelude.{IfOk};
-ghost use Rattle.rng_model.specs.Table.{AreToldApart};
+ghost use Rattle.rng_model.specs.simple.Table.{AreToldApart};
 
 mod files;
 mod writers;

@@ -1,5 +1,5 @@
 // What a grammar is printed to.
-ghost use Rattle.rng_model.specs.Table.{AreToldApart};
+ghost use Rattle.rng_model.specs.simple.Table.{AreToldApart};
 
 use rng_model::{Device, SimpleGrammar};
 use rng_print::{PrintFault, print};

@@ -5,15 +5,15 @@ use Rattle.std.specs.List.{list_all, AllByRecursion}
 use Rattle.std.specs.Str.{all_scalars, IsUtf8, chars}
 use Rattle.std.proofs.lemmas.Bool.{and_parts, or_cases, lt-ltb, le-ltb, le-leb, leb-true}
 use Rattle.std.proofs.lemmas.Str.{chars-encodes}
-use Rattle.rng_model.specs.Characters.{is_xml_char, is_ncname}
-use Rattle.rnc_text.specs.Characters.{number_of, numbers_of, bytes_of}
-use Rattle.rnc_text.specs.Cut.{IsNext, Cuts}
-use Rattle.rnc_text.specs.Cut as cut
-use Rattle.rnc_text.specs.Decoding.{Begins, Decodes, IsDecoded}
-use Rattle.rnc_text.specs.Decoding as decoding
-use Rattle.rnc_text.specs.Tokens.{Piece, characters_in, IsPiece, IsNcname}
-use Rattle.rnc_text.specs.declared.character.Character.{Character}
-use Rattle.rnc_printed.specs.Printable.{IsText, IsName}
+use Rattle.rng_model.specs.names.Characters.{is_xml_char, is_ncname}
+use Rattle.rnc_model.specs.characters.Characters.{number_of, numbers_of, bytes_of}
+use Rattle.rnc_model.specs.tokens.Cut.{IsNext, Cuts}
+use Rattle.rnc_model.specs.tokens.Cut as cut
+use Rattle.rnc_model.specs.characters.Decoding.{Begins, Decodes, IsDecoded}
+use Rattle.rnc_model.specs.characters.Decoding as decoding
+use Rattle.rnc_model.specs.tokens.Tokens.{Piece, characters_in, IsPiece, IsNcname}
+use Rattle.rnc_model.specs.declared.character.Character.{Character}
+use Rattle.rnc_printed.specs.plain.Printable.{IsText, IsName}
 
 pub false_true : {P : Type 0} → false ≡ true → P
 false_true e = absurd (cc)

@@ -1,11 +1,11 @@
 -- A step of simplification in a name class keeps its names, and the parentheses with which it is printed.
 use Rattle.std.proofs.Common.{◌≡◌, refl, sym, subst, ap, ℕ, ◌≤◌, max, ◌||◌, arith}
-use Rattle.rng_model.specs.Names.{NameClass, NameClasses}
-use Rattle.rng_model.specs.ClassSteps as step
-use Rattle.rng_model.specs.ClassSteps.{ClassStep, ClassesStep, ClassSteps, IsSimpleClassOf}
-use Rattle.rng_print.specs.PrintedText.{is_choice, is_except}
-use Rattle.rnc_syntax.specs.Sentence.{nesting_limit}
-use Rattle.rnc_printed.specs.Printable.{HasNames, HaveNames, one_more_if, parentheses, parentheses_among, IsPrintableClass}
+use Rattle.rng_model.specs.names.Names.{NameClass, NameClasses}
+use Rattle.rng_model.specs.simple.ClassSteps as step
+use Rattle.rng_model.specs.simple.ClassSteps.{ClassStep, ClassesStep, ClassSteps, IsSimpleClassOf}
+use Rattle.rncv_model.specs.printed.PrintedText.{is_choice, is_except}
+use Rattle.rnc_model.specs.grammar.Sentence.{nesting_limit}
+use Rattle.rnc_printed.specs.plain.Printable.{HasNames, HaveNames, one_more_if, parentheses, parentheses_among, IsPrintableClass}
 
 -- ---- names
 

@@ -3,25 +3,25 @@ use Rattle.std.proofs.Common.{◌≡◌, ◌∙◌, refl, sym, subst, ℕ, Bool,
 use Rattle.std.specs.Prelude.{filter}
 use Rattle.std.specs.List.{AllByRecursion}
 use Rattle.std.specs.Str.{bytes_eq}
-use Rattle.rng_model.specs.Lists.{Among, here, there}
-use Rattle.rng_model.specs.Patterns.{Place, Pattern, members, patterns_of}
-use Rattle.rng_model.specs.Schema.{Schema}
-use Rattle.rng_model.specs.SchemaClauses.{BreaksNoClause, in_schema, in_datatype}
-use Rattle.rng_model.specs.SchemaForm.{IsSimpleGrammarOf}
-use Rattle.rng_model.specs.Table.{Grammar}
-use Rattle.rng_model.specs.Tree.{Connector, choice, group, interleave}
-use Rattle.rnc_grammar.specs.FileTree as tree
-use Rattle.rnc_grammar.specs.FileTree.{FileTree, Namespace, inherited, given, grammar_file, pattern_file, grammar_of, whole_grammar}
-use Rattle.rng_load.specs.LoadedSchema.{AreSchema}
-use Rattle.rng_load.specs.Loading.{TakenFiles, tree_in, IsTaken, AreTaken, are_taken, IsTheFilesVerdict}
-use Rattle.rng_load.specs.Loading as loading
-use Rattle.rng_load.specs.Places as places
-use Rattle.rng_load.specs.Places.{uri_in, Way, Nested, Gathered, is_overridden, grammar_or_start, main_grammar, Reads, ReadAll, Gathers, HasGrammar, IsSchemaOf}
-use Rattle.rng_load.specs.SchemaFile.{Name, NamedFile}
-use Rattle.rnc_printed.specs.Printable.{IsText, IsPrintable}
-use Rattle.rng_printable.specs.WellSpelledFiles as spelled
-use Rattle.rng_printable.specs.WellSpelledFiles.{IsTextNamespace, AreWellSpelledComponents, AreWellSpelledPatterns, IsWellSpelledFile}
-use Rattle.rng_printable.specs.WellSpelledSchemas.{IsWellSpelledPattern, AreWellSpelledPatterns as AreWellSpelled, IsWellSpelledComponent, IsWellSpelledSchema}
+use Rattle.rng_model.specs.names.Lists.{Among, here, there}
+use Rattle.rng_model.specs.schema.Patterns.{Place, Pattern, members, patterns_of}
+use Rattle.rng_model.specs.schema.Schema.{Schema}
+use Rattle.rng_model.specs.schema.SchemaClauses.{BreaksNoClause, in_schema, in_datatype}
+use Rattle.rng_model.specs.simple.SchemaForm.{IsSimpleGrammarOf}
+use Rattle.rng_model.specs.simple.Table.{Grammar}
+use Rattle.rng_model.specs.simple.Tree.{Connector, choice, group, interleave}
+use Rattle.rnc_model.specs.declarations.FileTree as tree
+use Rattle.rnc_model.specs.declarations.FileTree.{FileTree, Namespace, inherited, given, grammar_file, pattern_file, grammar_of, whole_grammar}
+use Rattle.rnc_model.specs.loading.LoadedSchema.{AreSchema}
+use Rattle.rnc_model.specs.loading.Loading.{TakenFiles, tree_in, IsTaken, AreTaken, are_taken, IsTheFilesVerdict}
+use Rattle.rnc_model.specs.loading.Loading as loading
+use Rattle.rnc_model.specs.loading.Places as places
+use Rattle.rnc_model.specs.loading.Places.{uri_in, Way, Nested, Gathered, is_overridden, grammar_or_start, main_grammar, Reads, ReadAll, Gathers, HasGrammar, IsSchemaOf}
+use Rattle.rnc_model.specs.loading.SchemaFile.{Name, NamedFile}
+use Rattle.rnc_printed.specs.plain.Printable.{IsText, IsPrintable}
+use Rattle.rng_printable.specs.plain.WellSpelledFiles as spelled
+use Rattle.rng_printable.specs.plain.WellSpelledFiles.{IsTextNamespace, AreWellSpelledComponents, AreWellSpelledPatterns, IsWellSpelledFile}
+use Rattle.rng_printable.specs.plain.WellSpelledSchemas.{IsWellSpelledPattern, AreWellSpelledPatterns as AreWellSpelled, IsWellSpelledComponent, IsWellSpelledSchema}
 use Rattle.rng_printable.proofs.FileTrees.{uri_text, empty_text, schema_file_spelled}
 use Rattle.rng_printable.proofs.Forms.{grammar_printable}
 use Rattle.rng_printable.proofs.Trees.{none_is_not_some, some_is}

@@ -6,26 +6,26 @@ use Rattle.std.specs.List.{AllByRecursion}
 use Rattle.std.specs.Char.{encode_utf8}
 use Rattle.std.specs.Str.{bytes_eq, is_utf8, chars}
 use Rattle.std.proofs.lemmas.Str.{IsUtf8-from_is_utf8}
-use Rattle.rng_model.specs.Names as names
-use Rattle.rng_model.specs.Names.{classes_of, some_of}
-use Rattle.rng_model.specs.Datatypes.{xsd_uri}
-use Rattle.rng_model.specs.PyxNamespaces.{xml_uri}
-use Rattle.rng_print.specs.PrintedText.{is_choice, is_except}
-use Rattle.rnc_syntax.specs.Syntax as syntax
-use Rattle.rnc_grammar.specs.Declarations.{◌>>=◌, option_none_else, option_or, Scope, nothing_declared, uri_of, may_stand_for, may_stand_for_types, with_one}
-use Rattle.rnc_grammar.specs.Declarations.{with_prefix, with_default, with_datatypes, declare, declare_all, default_of, namespace_in, library_in, name_in}
-use Rattle.rnc_grammar.specs.Declarations.{class_in, classes_in, type_in, handed_on, mention_in, pattern_in, patterns_in, component_in, components_in, body_in}
-use Rattle.rnc_grammar.specs.Declarations.{file_tree}
-use Rattle.rnc_grammar.specs.FileTree as tree
-use Rattle.rnc_grammar.specs.FileTree.{FileTree, Namespace, inherited, given}
-use Rattle.rnc_syntax.specs.Lexeme.{lexemes}
-use Rattle.rng_load.specs.Places as places
-use Rattle.rng_load.specs.Places.{uri_in}
-use Rattle.rng_load.specs.SchemaFile.{IsSchemaFile}
-use Rattle.rnc_syntax.specs.Sentence.{nesting_limit}
-use Rattle.rnc_printed.specs.Printable.{IsText, IsName, HasNames, HaveNames, one_more_if, parentheses, parentheses_among}
-use Rattle.rng_printable.specs.WellSpelledFiles.{IsTextNamespace, IsWellSpelledType, IsWellSpelledMention, IsWellSpelledClass, IsWellSpelledPattern}
-use Rattle.rng_printable.specs.WellSpelledFiles.{AreWellSpelledPatterns, IsWellSpelledComponent, AreWellSpelledComponents, IsWellSpelledFile}
+use Rattle.rng_model.specs.names.Names as names
+use Rattle.rng_model.specs.names.Names.{classes_of, some_of}
+use Rattle.rng_model.specs.datatypes.Datatypes.{xsd_uri}
+use Rattle.rng_model.specs.documents.PyxNamespaces.{xml_uri}
+use Rattle.rncv_model.specs.printed.PrintedText.{is_choice, is_except}
+use Rattle.rnc_model.specs.grammar.Syntax as syntax
+use Rattle.rnc_model.specs.declarations.Declarations.{◌>>=◌, option_none_else, option_or, Scope, nothing_declared, uri_of, may_stand_for, may_stand_for_types, with_one}
+use Rattle.rnc_model.specs.declarations.Declarations.{with_prefix, with_default, with_datatypes, declare, declare_all, default_of, namespace_in, library_in, name_in}
+use Rattle.rnc_model.specs.declarations.Declarations.{class_in, classes_in, type_in, handed_on, mention_in, pattern_in, patterns_in, component_in, components_in, body_in}
+use Rattle.rnc_model.specs.declarations.Declarations.{file_tree}
+use Rattle.rnc_model.specs.declarations.FileTree as tree
+use Rattle.rnc_model.specs.declarations.FileTree.{FileTree, Namespace, inherited, given}
+use Rattle.rnc_model.specs.tokens.Lexeme.{lexemes}
+use Rattle.rnc_model.specs.loading.Places as places
+use Rattle.rnc_model.specs.loading.Places.{uri_in}
+use Rattle.rnc_model.specs.loading.SchemaFile.{IsSchemaFile}
+use Rattle.rnc_model.specs.grammar.Sentence.{nesting_limit}
+use Rattle.rnc_printed.specs.plain.Printable.{IsText, IsName, HasNames, HaveNames, one_more_if, parentheses, parentheses_among}
+use Rattle.rng_printable.specs.plain.WellSpelledFiles.{IsTextNamespace, IsWellSpelledType, IsWellSpelledMention, IsWellSpelledClass, IsWellSpelledPattern}
+use Rattle.rng_printable.specs.plain.WellSpelledFiles.{AreWellSpelledPatterns, IsWellSpelledComponent, AreWellSpelledComponents, IsWellSpelledFile}
 use Rattle.rng_printable.proofs.Rooms.{IsWellSpelledName, fits}
 use Rattle.rng_printable.proofs.SyntaxTrees.{IsSpelledName, IsSpelledClass, AreSpelledClasses, around, around_all, inside, IsSpelledPattern, AreSpelledPatterns}
 use Rattle.rng_printable.proofs.SyntaxTrees.{IsSpelledComponent, AreSpelledComponents, IsSpelledUri, IsSpelledDeclaration, IsSpelledBody, IsSpelledFile, file}

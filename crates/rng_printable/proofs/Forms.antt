@@ -5,25 +5,25 @@ use Rattle.std.specs.List.{AllByRecursion}
 use Rattle.std.specs.Str.{bytes_eq}
 use Rattle.std.proofs.lemmas.List.Elements.{All-contains}
 use Rattle.std.proofs.lemmas.Slice.Eq.{bytes_eq-Decides}
-use Rattle.rng_model.specs.Lists.{Among, here, there}
-use Rattle.rng_model.specs.Names.{NameClass}
-use Rattle.rng_model.specs.Tree.{Datatype, Tree, Trees, Simple}
-use Rattle.rng_model.specs.Datatypes.{BuiltInType, IsType, xsd_uri}
-use Rattle.rng_model.specs.Datatypes as types
-use Rattle.rng_model.specs.Table.{Grammar}
-use Rattle.rng_model.specs.Patterns as written
-use Rattle.rng_model.specs.Patterns.{Place, Position, Pattern, Patterns, no_patterns, pattern_and, Point, an_element, a_ref, a_parent_ref, a_grammar}
-use Rattle.rng_model.specs.Patterns.{pattern_tree, pattern_trees, without_parameters, IsWrittenIn, itself, in_element, in_attribute, in_list, in_except}
-use Rattle.rng_model.specs.Patterns.{in_mixed, in_optional, in_zero_or_more, in_one_or_more, in_first, in_second, in_another, in_external}
-use Rattle.rng_model.specs.Patterns.{IsWrittenAmong, in_this, in_later}
-use Rattle.rng_model.specs.Schema.{Schema, Component, Definition, main_start, body, body_among, connector_of, same_name, trees_named, HasComponent, IsWrittenAt}
-use Rattle.rng_model.specs.SchemaClauses.{BreaksDatatype, of_data, of_data_except, of_value}
-use Rattle.rng_model.specs.SchemaForm.{IsElementOf, IsSimpleFormOfSchema, IsSameUpToNumbering, IsSimpleGrammarOf, SimpleForm}
-use Rattle.rng_model.specs.Unfolding as unfolding_of
-use Rattle.rng_model.specs.Unfolding.{Leaf, to_element, outside, aim, Unfolds, UnfoldAll, IsTreeOf, IsBodyOf}
-use Rattle.rng_model.specs.Reached.{IsReachedBySimpleForms, from_simple_start, from_simple_body}
-use Rattle.rnc_printed.specs.Printable.{IsName, IsPrintableClass, CanBeNamed, IsPrintableTree, IsPrintable}
-use Rattle.rng_printable.specs.WellSpelledSchemas.{IsWellSpelledPattern, AreWellSpelledPatterns, IsWellSpelledSchema}
+use Rattle.rng_model.specs.names.Lists.{Among, here, there}
+use Rattle.rng_model.specs.names.Names.{NameClass}
+use Rattle.rng_model.specs.simple.Tree.{Datatype, Tree, Trees, Simple}
+use Rattle.rng_model.specs.datatypes.Datatypes.{BuiltInType, IsType, xsd_uri}
+use Rattle.rng_model.specs.datatypes.Datatypes as types
+use Rattle.rng_model.specs.simple.Table.{Grammar}
+use Rattle.rng_model.specs.schema.Patterns as written
+use Rattle.rng_model.specs.schema.Patterns.{Place, Position, Pattern, Patterns, no_patterns, pattern_and, Point, an_element, a_ref, a_parent_ref, a_grammar}
+use Rattle.rng_model.specs.schema.Patterns.{pattern_tree, pattern_trees, without_parameters, IsWrittenIn, itself, in_element, in_attribute, in_list, in_except}
+use Rattle.rng_model.specs.schema.Patterns.{in_mixed, in_optional, in_zero_or_more, in_one_or_more, in_first, in_second, in_another, in_external}
+use Rattle.rng_model.specs.schema.Patterns.{IsWrittenAmong, in_this, in_later}
+use Rattle.rng_model.specs.schema.Schema.{Schema, Component, Definition, main_start, body, body_among, connector_of, same_name, trees_named, HasComponent, IsWrittenAt}
+use Rattle.rng_model.specs.schema.SchemaClauses.{BreaksDatatype, of_data, of_data_except, of_value}
+use Rattle.rng_model.specs.simple.SchemaForm.{IsElementOf, IsSimpleFormOfSchema, IsSameUpToNumbering, IsSimpleGrammarOf, SimpleForm}
+use Rattle.rng_model.specs.schema.Unfolding as unfolding_of
+use Rattle.rng_model.specs.schema.Unfolding.{Leaf, to_element, outside, aim, Unfolds, UnfoldAll, IsTreeOf, IsBodyOf}
+use Rattle.rng_model.specs.schema.Reached.{IsReachedBySimpleForms, from_simple_start, from_simple_body}
+use Rattle.rnc_printed.specs.plain.Printable.{IsName, IsPrintableClass, CanBeNamed, IsPrintableTree, IsPrintable}
+use Rattle.rng_printable.specs.plain.WellSpelledSchemas.{IsWellSpelledPattern, AreWellSpelledPatterns, IsWellSpelledSchema}
 use Rattle.rng_printable.proofs.Classes.{simple_printable}
 use Rattle.rng_printable.proofs.Trees.{IsGoodTree, AreGoodTrees, AreAllGood, leaf_of, steps_good, nested_good, simple_good, none_is_not_some}
 

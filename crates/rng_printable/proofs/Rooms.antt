@@ -4,18 +4,18 @@ use Rattle.std.proofs.Common.{List, [], ◌∷◌, ◌++◌, Some}
 use Rattle.std.specs.Prelude.{take}
 use Rattle.std.specs.List.{AllByRecursion, count_by}
 use Rattle.std.proofs.lemmas.List.Sums.{sum_by-cons}
-use Rattle.rng_model.specs.Tree.{Connector}
+use Rattle.rng_model.specs.simple.Tree.{Connector}
 use Rattle.rng_model.specs.declared.method.Method.{Method}
-use Rattle.rnc_text.specs.declared.token.Keyword.{Keyword}
-use Rattle.rnc_text.specs.declared.token.Keyword.TheVariants as keywords
-use Rattle.rnc_text.specs.declared.token.Sign.{Sign}
-use Rattle.rnc_text.specs.declared.token.Sign.TheVariants.{Equal, BarEqual, AndEqual, Comma, Bar, And, OpenBrace, CloseBrace}
-use Rattle.rnc_text.specs.declared.token.Sign.TheVariants.{OpenParenthesis, CloseParenthesis}
-use Rattle.rnc_syntax.specs.Grammar.{word_of, type_of, method_of, connector_of, is_bracket}
-use Rattle.rnc_syntax.specs.Lexeme.{Lexeme, Spelling, keyword, identifier, cname, ns_name, segment, sign}
-use Rattle.rnc_syntax.specs.Sentence.{is_opening, is_closing, NestsWithin}
-use Rattle.rnc_syntax.specs.Syntax.{DatatypeName, string_type, token_type, prefixed_type}
-use Rattle.rnc_printed.specs.Printable.{IsText, IsName}
+use Rattle.rnc_model.specs.declared.token.Keyword.{Keyword}
+use Rattle.rnc_model.specs.declared.token.Keyword.TheVariants as keywords
+use Rattle.rnc_model.specs.declared.token.Sign.{Sign}
+use Rattle.rnc_model.specs.declared.token.Sign.TheVariants.{Equal, BarEqual, AndEqual, Comma, Bar, And, OpenBrace, CloseBrace}
+use Rattle.rnc_model.specs.declared.token.Sign.TheVariants.{OpenParenthesis, CloseParenthesis}
+use Rattle.rnc_model.specs.grammar.Grammar.{word_of, type_of, method_of, connector_of, is_bracket}
+use Rattle.rnc_model.specs.tokens.Lexeme.{Lexeme, Spelling, keyword, identifier, cname, ns_name, segment, sign}
+use Rattle.rnc_model.specs.grammar.Sentence.{is_opening, is_closing, NestsWithin}
+use Rattle.rnc_model.specs.grammar.Syntax.{DatatypeName, string_type, token_type, prefixed_type}
+use Rattle.rnc_printed.specs.plain.Printable.{IsText, IsName}
 use Rattle.rng_printable.proofs.Trees.{none_is_not_some, some_is}
 use Rattle.rng_printable.proofs.Characters.{false_true}
 

@@ -4,19 +4,19 @@ use Rattle.std.specs.List.{AllByRecursion, list_all}
 use Rattle.std.specs.Str.{chars}
 use Rattle.std.proofs.lemmas.Bool.{and_parts}
 use Rattle.std.proofs.lemmas.Str.{IsUtf8-append, chars-append}
-use Rattle.rng_model.specs.Characters.{is_xml_char}
-use Rattle.rng_model.specs.Tree.{Connector}
-use Rattle.rnc_text.specs.declared.token.Sign.{Sign}
-use Rattle.rnc_text.specs.declared.token.Sign.TheVariants.{Equal, Bar, Question, Star, Plus, Minus, OpenBracket, CloseBracket, Tilde}
-use Rattle.rnc_syntax.specs.Grammar as grammar
-use Rattle.rnc_syntax.specs.Grammar.{IsAnnotationContent, MayBeAnnotation, IsLiteral, AreParameters, MayBeParameters, MayInherit, IsClass, AreMoreClasses}
-use Rattle.rnc_syntax.specs.Grammar.{IsBasic, IsBareBasic, Setting, IsPattern, AreMore, IsParticle, IsPrimary, IsBarePrimary, IsBraced, AreComponents}
-use Rattle.rnc_syntax.specs.Grammar.{connector_of, IsComponent, IsBareComponent, MayOverride, IsUri, IsDeclaration, AreDeclarations, IsBody, IsFile}
-use Rattle.rnc_syntax.specs.Lexeme.{Lexeme}
-use Rattle.rnc_syntax.specs.Syntax as syntax
-use Rattle.rnc_syntax.specs.Syntax.{Name, NameClass, NameClasses, Pattern, Patterns, Component, Components, Uri, Declaration, Body, File}
-use Rattle.rnc_syntax.specs.Sentence.{nesting_limit}
-use Rattle.rnc_printed.specs.Printable.{IsText, IsName, IsPrintableParameter}
+use Rattle.rng_model.specs.names.Characters.{is_xml_char}
+use Rattle.rng_model.specs.simple.Tree.{Connector}
+use Rattle.rnc_model.specs.declared.token.Sign.{Sign}
+use Rattle.rnc_model.specs.declared.token.Sign.TheVariants.{Equal, Bar, Question, Star, Plus, Minus, OpenBracket, CloseBracket, Tilde}
+use Rattle.rnc_model.specs.grammar.Grammar as grammar
+use Rattle.rnc_model.specs.grammar.Grammar.{IsAnnotationContent, MayBeAnnotation, IsLiteral, AreParameters, MayBeParameters, MayInherit, IsClass, AreMoreClasses}
+use Rattle.rnc_model.specs.grammar.Grammar.{IsBasic, IsBareBasic, Setting, IsPattern, AreMore, IsParticle, IsPrimary, IsBarePrimary, IsBraced, AreComponents}
+use Rattle.rnc_model.specs.grammar.Grammar.{connector_of, IsComponent, IsBareComponent, MayOverride, IsUri, IsDeclaration, AreDeclarations, IsBody, IsFile}
+use Rattle.rnc_model.specs.tokens.Lexeme.{Lexeme}
+use Rattle.rnc_model.specs.grammar.Syntax as syntax
+use Rattle.rnc_model.specs.grammar.Syntax.{Name, NameClass, NameClasses, Pattern, Patterns, Component, Components, Uri, Declaration, Body, File}
+use Rattle.rnc_model.specs.grammar.Sentence.{nesting_limit}
+use Rattle.rnc_printed.specs.plain.Printable.{IsText, IsName, IsPrintableParameter}
 use Rattle.rng_printable.proofs.Rooms.{Keeps, both, in_braces, in_parentheses, at, nothing, so, past_keyword, past_identifier, past_name, past_ns}
 use Rattle.rng_printable.proofs.Rooms.{past_segment, past_word, IsWellSpelledName, past_type, past_method, past_connector, past_sign, past_other}
 

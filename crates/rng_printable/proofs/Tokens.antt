@@ -4,17 +4,17 @@ use Rattle.std.specs.Prelude.{encode_utf8_all}
 use Rattle.std.specs.List.{AllByRecursion}
 use Rattle.std.proofs.lemmas.List.{map-append}
 use Rattle.std.proofs.lemmas.Str.{encodes-append, encode_ascii}
-use Rattle.rnc_text.specs.Characters.{number_of, numbers_of, bytes_of}
-use Rattle.rnc_text.specs.Cut.{Token, tokens_at, HasTokens}
-use Rattle.rnc_text.specs.Decoding.{IsDecoded}
-use Rattle.rnc_text.specs.Tokens.{Piece, gap, token, characters_in, keyword_or_identifier, keyword_of, word_kind, IsNcname, three, IsPiece}
-use Rattle.rnc_text.specs.Tokens as tokens
-use Rattle.rnc_text.specs.declared.character.Character.{Character}
-use Rattle.rnc_text.specs.declared.character.Character.TheVariants.{Ordinary}
-use Rattle.rnc_text.specs.declared.token.Keyword.{Keyword}
-use Rattle.rnc_text.specs.declared.token.TokenKind.{TokenKind}
-use Rattle.rnc_syntax.specs.Lexeme.{lexeme_at, numbered, lexemes, prefix_in, local_in}
-use Rattle.rnc_printed.specs.Printable.{IsName}
+use Rattle.rnc_model.specs.characters.Characters.{number_of, numbers_of, bytes_of}
+use Rattle.rnc_model.specs.tokens.Cut.{Token, tokens_at, HasTokens}
+use Rattle.rnc_model.specs.characters.Decoding.{IsDecoded}
+use Rattle.rnc_model.specs.tokens.Tokens.{Piece, gap, token, characters_in, keyword_or_identifier, keyword_of, word_kind, IsNcname, three, IsPiece}
+use Rattle.rnc_model.specs.tokens.Tokens as tokens
+use Rattle.rnc_model.specs.declared.character.Character.{Character}
+use Rattle.rnc_model.specs.declared.character.Character.TheVariants.{Ordinary}
+use Rattle.rnc_model.specs.declared.token.Keyword.{Keyword}
+use Rattle.rnc_model.specs.declared.token.TokenKind.{TokenKind}
+use Rattle.rnc_model.specs.tokens.Lexeme.{lexeme_at, numbered, lexemes, prefix_in, local_in}
+use Rattle.rnc_printed.specs.plain.Printable.{IsName}
 use Rattle.rnc_printed.proofs.Colons.{ncname_no_colon, before_colon}
 use Rattle.rng_printable.proofs.Characters.{AreChars, decoded_chars, chars_parts, chars_behind, text_of, name_of, IsCharPiece, cut_pieces}
 use Rattle.rng_printable.proofs.Rooms.{IsWellSpelled}

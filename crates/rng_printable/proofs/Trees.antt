@@ -1,15 +1,15 @@
 -- Trees all of which is printable: the steps of simplification and the joining of bodies keep them so.
 use Rattle.std.proofs.Common.{◌≡◌, subst, ℕ, List, [], ◌∷◌, Some, None}
-use Rattle.rng_model.specs.Tree.{Connector, Tree, not_allowed, empty, text, leaf, attribute, list, data_of, data_except, value, mixed, optional}
-use Rattle.rng_model.specs.Tree.{zero_or_more, one_or_more, joined, Trees, no_trees, tree_and, as_tree}
-use Rattle.rng_model.specs.Tree.{Simple, s_not_allowed, s_empty, s_text, s_leaf, s_attribute, s_list, s_data, s_data_except, s_value}
-use Rattle.rng_model.specs.Tree.{s_one_or_more, s_joined}
-use Rattle.rng_model.specs.Leaves.{renamed, LeafIn, LeafAmong}
-use Rattle.rng_model.specs.Leaves as at
-use Rattle.rng_model.specs.Schema.{nested, nested_from}
-use Rattle.rng_model.specs.Simplification as step
-use Rattle.rng_model.specs.Simplification.{RuleGroup, Step, StepAmong, AnyStep, Steps}
-use Rattle.rnc_printed.specs.Printable.{IsText, IsPrintableClass, IsPrintableType, IsPrintableTree}
+use Rattle.rng_model.specs.simple.Tree.{Connector, Tree, not_allowed, empty, text, leaf, attribute, list, data_of, data_except, value, mixed, optional}
+use Rattle.rng_model.specs.simple.Tree.{zero_or_more, one_or_more, joined, Trees, no_trees, tree_and, as_tree}
+use Rattle.rng_model.specs.simple.Tree.{Simple, s_not_allowed, s_empty, s_text, s_leaf, s_attribute, s_list, s_data, s_data_except, s_value}
+use Rattle.rng_model.specs.simple.Tree.{s_one_or_more, s_joined}
+use Rattle.rng_model.specs.simple.Leaves.{renamed, LeafIn, LeafAmong}
+use Rattle.rng_model.specs.simple.Leaves as at
+use Rattle.rng_model.specs.schema.Schema.{nested, nested_from}
+use Rattle.rng_model.specs.simple.Simplification as step
+use Rattle.rng_model.specs.simple.Simplification.{RuleGroup, Step, StepAmong, AnyStep, Steps}
+use Rattle.rnc_printed.specs.plain.Printable.{IsText, IsPrintableClass, IsPrintableType, IsPrintableTree}
 use Rattle.rng_printable.proofs.Classes.{step_printable}
 
 pub none_is_not_some : {A : Type 0} {x : A} → None ≡ Some x → ⊥

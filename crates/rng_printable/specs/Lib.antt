@@ -1,2 +1,1 @@
-pub mod WellSpelledSchemas
-pub mod WellSpelledFiles
+pub mod plain

@@ -1,16 +1,16 @@
 // What is promised of the simple grammars of schemas.
 ghost use Rattle.std.specs.Prelude.{ℕ, List};
-ghost use Rattle.rng_load.specs.LoadedSchema.{AreSchema};
-ghost use Rattle.rng_load.specs.Loading.{TakenFiles, are_taken, IsTheFilesVerdict};
-ghost use Rattle.rng_load.specs.SchemaFile.{Name, NamedFile, IsSchemaFile};
-ghost use Rattle.rng_model.specs.Schema.{Schema};
-ghost use Rattle.rng_model.specs.SchemaClauses.{BreaksDatatype, BreaksNoClause};
-ghost use Rattle.rng_model.specs.SchemaForm.{IsSimpleGrammarOf};
-ghost use Rattle.rng_model.specs.Table.{Grammar};
-ghost use Rattle.rnc_grammar.specs.FileTree.{FileTree};
-ghost use Rattle.rnc_printed.specs.Printable.{IsPrintable};
-ghost use Rattle.rng_printable.specs.WellSpelledFiles.{IsWellSpelledFile};
-ghost use Rattle.rng_printable.specs.WellSpelledSchemas.{IsWellSpelledSchema};
+ghost use Rattle.rnc_model.specs.loading.LoadedSchema.{AreSchema};
+ghost use Rattle.rnc_model.specs.loading.Loading.{TakenFiles, are_taken, IsTheFilesVerdict};
+ghost use Rattle.rnc_model.specs.loading.SchemaFile.{Name, NamedFile, IsSchemaFile};
+ghost use Rattle.rng_model.specs.schema.Schema.{Schema};
+ghost use Rattle.rng_model.specs.schema.SchemaClauses.{BreaksDatatype, BreaksNoClause};
+ghost use Rattle.rng_model.specs.simple.SchemaForm.{IsSimpleGrammarOf};
+ghost use Rattle.rng_model.specs.simple.Table.{Grammar};
+ghost use Rattle.rnc_model.specs.declarations.FileTree.{FileTree};
+ghost use Rattle.rnc_printed.specs.plain.Printable.{IsPrintable};
+ghost use Rattle.rng_printable.specs.plain.WellSpelledFiles.{IsWellSpelledFile};
+ghost use Rattle.rng_printable.specs.plain.WellSpelledSchemas.{IsWellSpelledSchema};
 
 /// The laws of printable grammars. It does nothing: its contract is what it is for.
 ///

@@ -1,18 +1,18 @@
 -- The answer of `simple` for what it printed is what it printed.
 use Rattle.std.proofs.Common.{◌≡◌, ap, subst, ℕ, List, Option}
-use Rattle.rng_load.specs.LoadedSchema.{AreSchema}
-use Rattle.rng_load.specs.Loading.{are_taken}
-use Rattle.rng_load.specs.SchemaFile.{Name, NamedFile}
-use Rattle.rng_model.specs.Schema.{Schema}
-use Rattle.rng_reprinted.specs.HandedIn.{IsHandedInAgain, IsPrintedFile, lines_alone, text_alone}
-use Rattle.rng_reprinted.specs.LinesSchema.{IsReprintedAs}
+use Rattle.rnc_model.specs.loading.LoadedSchema.{AreSchema}
+use Rattle.rnc_model.specs.loading.Loading.{are_taken}
+use Rattle.rnc_model.specs.loading.SchemaFile.{Name, NamedFile}
+use Rattle.rng_model.specs.schema.Schema.{Schema}
+use Rattle.rng_reprinted.specs.plain.HandedIn.{IsHandedInAgain, IsPrintedFile, lines_alone, text_alone}
+use Rattle.rng_reprinted.specs.plain.LinesSchema.{IsReprintedAs}
 use Rattle.rng_reprinted.proofs.LinesKept.{reprinted_text, same_text_again}
 use Rattle.rng_reprinted.proofs.LinesLoaded.{printed_alone}
 use Rattle.rng_reprinted.proofs.LinesTaken.{lines_taken, lines_are_schema}
-use Rattle.rng_run.specs.Answer.{Answer, printed}
-use Rattle.rng_run.specs.Run as run
-use Rattle.rng_run.specs.Run.{IsTold, IsAnswerBy, IsAnswerTo, IsAnswer}
-use Rattle.rng_run.specs.declared.running.Command.TheVariants.{Valid, Check, Simple}
+use Rattle.rncv_model.specs.answers.Answer.{Answer, printed}
+use Rattle.rncv_model.specs.answers.Run as run
+use Rattle.rncv_model.specs.answers.Run.{IsTold, IsAnswerBy, IsAnswerTo, IsAnswer}
+use Rattle.rncv_model.specs.declared.command.Command.TheVariants.{Valid, Check, Simple}
 
 pub not_check : {A : Type 0} → Simple ≡ Check → A
 not_check e = cc

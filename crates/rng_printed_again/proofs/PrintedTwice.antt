@@ -1,17 +1,17 @@
 -- What `simple` answers for what it printed is what it printed, where printed texts are read back.
 use Rattle.std.proofs.Common.{◌≡◌, refl, subst, ℕ, ◌≤◌, List, Option, length}
-use Rattle.rng_load.specs.LoadedSchema.{AreSchema}
-use Rattle.rng_load.specs.Loading.{TakenFiles, FilesVerdict, file_breaks, together_break, are_taken, IsTheFilesVerdict}
-use Rattle.rng_load.specs.SchemaFile.{Name, NamedFile, IsSchemaFile, size_limit}
-use Rattle.rng_model.specs.Schema.{Schema}
-use Rattle.rng_model.specs.SchemaClauses.{BreaksNoClause}
-use Rattle.rng_print.specs.SchemaText.{IsPrintedForm}
-use Rattle.rng_reprinted.specs.HandedIn.{IsPrintedFile, text_alone}
-use Rattle.rnc_printed.specs.LinesTree.{lines_tree}
-use Rattle.rng_run.specs.Answer.{Answer, refused, refused_file, printed}
-use Rattle.rng_run.specs.Run as run
-use Rattle.rng_run.specs.Run.{IsTold, IsAnswerBy, IsAnswerTo, IsAnswer}
-use Rattle.rng_run.specs.declared.running.Command.TheVariants.{Simple}
+use Rattle.rnc_model.specs.loading.LoadedSchema.{AreSchema}
+use Rattle.rnc_model.specs.loading.Loading.{TakenFiles, FilesVerdict, file_breaks, together_break, are_taken, IsTheFilesVerdict}
+use Rattle.rnc_model.specs.loading.SchemaFile.{Name, NamedFile, IsSchemaFile, size_limit}
+use Rattle.rng_model.specs.schema.Schema.{Schema}
+use Rattle.rng_model.specs.schema.SchemaClauses.{BreaksNoClause}
+use Rattle.rncv_model.specs.printed.SchemaText.{IsPrintedForm}
+use Rattle.rng_reprinted.specs.plain.HandedIn.{IsPrintedFile, text_alone}
+use Rattle.rnc_printed.specs.plain.LinesTree.{lines_tree}
+use Rattle.rncv_model.specs.answers.Answer.{Answer, refused, refused_file, printed}
+use Rattle.rncv_model.specs.answers.Run as run
+use Rattle.rncv_model.specs.answers.Run.{IsTold, IsAnswerBy, IsAnswerTo, IsAnswer}
+use Rattle.rncv_model.specs.declared.command.Command.TheVariants.{Simple}
 use Rattle.rng_printed_again.proofs.PrintedAgain.{not_check, not_valid, answer_alone}
 
 -- what is told of a schema of which this text is printed

@@ -1,11 +1,11 @@
 // What is promised of answers for printed texts.
 ghost use Rattle.std.specs.Prelude.{◌≡◌, ◌≤◌, ℕ, List, Option, length};
-ghost use Rattle.rng_load.specs.SchemaFile.{Name, NamedFile, size_limit};
-ghost use Rattle.rng_model.specs.Schema.{Schema};
-ghost use Rattle.rng_reprinted.specs.HandedIn.{IsHandedInAgain, IsPrintedFile, text_alone};
-ghost use Rattle.rng_run.specs.Answer.{Answer, printed};
-ghost use Rattle.rng_run.specs.Run.{IsAnswer};
-ghost use Rattle.rng_run.specs.declared.running.Command.TheVariants.{Simple};
+ghost use Rattle.rnc_model.specs.loading.SchemaFile.{Name, NamedFile, size_limit};
+ghost use Rattle.rng_model.specs.schema.Schema.{Schema};
+ghost use Rattle.rng_reprinted.specs.plain.HandedIn.{IsHandedInAgain, IsPrintedFile, text_alone};
+ghost use Rattle.rncv_model.specs.answers.Answer.{Answer, printed};
+ghost use Rattle.rncv_model.specs.answers.Run.{IsAnswer};
+ghost use Rattle.rncv_model.specs.declared.command.Command.TheVariants.{Simple};
 
 use rnc_printed::reading_back_laws;
 use rng_printable::printable_laws;

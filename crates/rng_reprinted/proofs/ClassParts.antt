@@ -1,10 +1,10 @@
 -- The parts of a name class that are no choices are, but for nesting, those of the class with its members nested in twos; so the rules on name
 -- classes are broken by both or by neither.
 use Rattle.std.proofs.Common.{◌≡◌, ◌⊎◌, inl, inr, refl, sym, subst, List, ℕ}
-use Rattle.rng_model.specs.Names.{NameClass, any_name, any_except, ns_name, ns_except, name_is, one_of, NameClasses, no_classes, class_and}
-use Rattle.rng_model.specs.SchemaClauses as clause
-use Rattle.rng_model.specs.SchemaClauses.{IsPartOf, IsPartOfOne, IsAny, IsNamespace, IsOfDeclarations, BreaksClassExcept}
-use Rattle.rng_graph.specs.InTwos.{nested, nested_after}
+use Rattle.rng_model.specs.names.Names.{NameClass, any_name, any_except, ns_name, ns_except, name_is, one_of, NameClasses, no_classes, class_and}
+use Rattle.rng_model.specs.schema.SchemaClauses as clause
+use Rattle.rng_model.specs.schema.SchemaClauses.{IsPartOf, IsPartOfOne, IsAny, IsNamespace, IsOfDeclarations, BreaksClassExcept}
+use Rattle.rng_graph.specs.plain.InTwos.{nested, nested_after}
 
 -- no choice
 abbrev pub IsSingle : NameClass → Type 0

@@ -1,13 +1,13 @@
 -- A name class with its first members taken apart nests to the same class, and so does each of a tree.
 use Rattle.std.proofs.Common.{◌≡◌, ◌∙◌, refl, ap, ap₂, List, ◌∷◌, ◌++◌}
-use Rattle.rng_model.specs.Names.{NameClass, any_name, any_except, ns_name, ns_except, name_is, one_of, NameClasses, no_classes, class_and, classes_of, some_of}
-use Rattle.rng_model.specs.Tree.{Simple, s_not_allowed, s_empty, s_text, s_leaf, s_attribute, s_list, s_data, s_data_except, s_value, s_one_or_more, s_joined}
-use Rattle.rng_model.specs.Tree.{as_tree}
-use Rattle.rng_model.specs.Leaves.{LeafIn}
-use Rattle.rng_model.specs.Leaves as at
-use Rattle.rng_graph.specs.InTwos.{nested, nested_after, in_twos}
-use Rattle.rng_simple.specs.SimpleOf.{sort_of, attribute_by, list_by, except_by, join, some_of as repeated, simple_of, join_all}
-use Rattle.rng_reprinted.specs.LinesSchema.{list_of, members_in, flattened, all_flattened}
+use Rattle.rng_model.specs.names.Names.{NameClass, any_name, any_except, ns_name, ns_except, name_is, one_of, NameClasses, no_classes, class_and, classes_of, some_of}
+use Rattle.rng_model.specs.simple.Tree.{Simple, s_not_allowed, s_empty, s_text, s_leaf, s_attribute, s_list, s_data, s_data_except, s_value, s_one_or_more, s_joined}
+use Rattle.rng_model.specs.simple.Tree.{as_tree}
+use Rattle.rng_model.specs.simple.Leaves.{LeafIn}
+use Rattle.rng_model.specs.simple.Leaves as at
+use Rattle.rng_graph.specs.plain.InTwos.{nested, nested_after, in_twos}
+use Rattle.rng_simple.specs.plain.SimpleOf.{sort_of, attribute_by, list_by, except_by, join, some_of as repeated, simple_of, join_all}
+use Rattle.rng_reprinted.specs.plain.LinesSchema.{list_of, members_in, flattened, all_flattened}
 
 -- one class more behind members, and others
 after_members : (e : NameClass) (cs : NameClasses) (x : NameClass) (xs : List NameClass)

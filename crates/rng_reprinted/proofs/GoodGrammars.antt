@@ -2,30 +2,30 @@
 use Rattle.std.proofs.Common.{◌≡◌, ◌∙◌, refl, sym, ap, subst, ℕ, ◌<◌, ◌≤◌, List, [], length, Some, slice_get, arith}
 use Rattle.std.proofs.lemmas.List.Elements.{All-contains}
 use Rattle.std.proofs.lemmas.Option.{slice_get-get_or}
-use Rattle.rng_model.specs.Names.{NameClass, any_name}
-use Rattle.rng_model.specs.ClassSteps.{ClassStep, IsSimpleClassOf}
-use Rattle.rng_model.specs.Tree.{Datatype, Tree, as_tree}
-use Rattle.rng_model.specs.Tree.{Simple, s_not_allowed, s_empty, s_text, s_leaf, s_attribute, s_list, s_data, s_data_except, s_value, s_one_or_more, s_joined}
-use Rattle.rng_model.specs.Table.{Grammar}
-use Rattle.rng_model.specs.Datatypes.{IsKnownDatatype, IsAllowed}
-use Rattle.rng_model.specs.Depth.{depth, class_depth, depth_limit}
-use Rattle.rng_model.specs.Leaves.{LeafIn, renamed, AreLeavesBelow}
-use Rattle.rng_model.specs.Leaves as at
-use Rattle.rng_model.specs.Patterns as written
-use Rattle.rng_model.specs.Patterns.{Place, Pattern, without_parameters}
-use Rattle.rng_model.specs.Schema.{Schema, IsWrittenAt}
-use Rattle.rng_model.specs.SchemaForm.{Element, SimpleForm, IsElementOf, IsSimpleFormOfSchema, IsSameUpToNumbering}
-use Rattle.rng_model.specs.SchemaClauses as clause
-use Rattle.rng_model.specs.SchemaClauses.{BreaksNoClause}
-use Rattle.rng_model.specs.Simplification.{RuleGroup, Step, IsSimpleFormOf}
-use Rattle.rng_model.specs.Reached.{IsReachedTree, of_start, of_body, IsReachedByTrees, IsReachedBySimpleForms}
-use Rattle.rng_model.specs.Unfolding.{Leaf}
-use Rattle.rng_print.specs.PrintedText.{element_at}
-use Rattle.rng_graph.specs.InTwos.{nested, in_twos}
+use Rattle.rng_model.specs.names.Names.{NameClass, any_name}
+use Rattle.rng_model.specs.simple.ClassSteps.{ClassStep, IsSimpleClassOf}
+use Rattle.rng_model.specs.simple.Tree.{Datatype, Tree, as_tree}
+use Rattle.rng_model.specs.simple.Tree.{Simple, s_not_allowed, s_empty, s_text, s_leaf, s_attribute, s_list, s_data, s_data_except, s_value, s_one_or_more, s_joined}
+use Rattle.rng_model.specs.simple.Table.{Grammar}
+use Rattle.rng_model.specs.datatypes.Datatypes.{IsKnownDatatype, IsAllowed}
+use Rattle.rng_model.specs.schema.Depth.{depth, class_depth, depth_limit}
+use Rattle.rng_model.specs.simple.Leaves.{LeafIn, renamed, AreLeavesBelow}
+use Rattle.rng_model.specs.simple.Leaves as at
+use Rattle.rng_model.specs.schema.Patterns as written
+use Rattle.rng_model.specs.schema.Patterns.{Place, Pattern, without_parameters}
+use Rattle.rng_model.specs.schema.Schema.{Schema, IsWrittenAt}
+use Rattle.rng_model.specs.simple.SchemaForm.{Element, SimpleForm, IsElementOf, IsSimpleFormOfSchema, IsSameUpToNumbering}
+use Rattle.rng_model.specs.schema.SchemaClauses as clause
+use Rattle.rng_model.specs.schema.SchemaClauses.{BreaksNoClause}
+use Rattle.rng_model.specs.simple.Simplification.{RuleGroup, Step, IsSimpleFormOf}
+use Rattle.rng_model.specs.schema.Reached.{IsReachedTree, of_start, of_body, IsReachedByTrees, IsReachedBySimpleForms}
+use Rattle.rng_model.specs.schema.Unfolding.{Leaf}
+use Rattle.rncv_model.specs.printed.PrintedText.{element_at}
+use Rattle.rng_graph.specs.plain.InTwos.{nested, in_twos}
 use Rattle.rng_graph.proofs.InTwos.{is_rewritten}
 use Rattle.rng_graph.proofs.SimpleClass.{class_keeps, is_only_simple_class}
-use Rattle.rng_simple.specs.Renamed.{simple_renamed}
-use Rattle.rng_simple.specs.SimpleOf.{simple_of}
+use Rattle.rng_simple.specs.plain.Renamed.{simple_renamed}
+use Rattle.rng_simple.specs.plain.SimpleOf.{simple_of}
 use Rattle.rng_simple.proofs.Renamed.{as_tree_renamed}
 use Rattle.rng_simple.proofs.SimpleForms.{is_only_simple_form}
 use Rattle.rng_simple.proofs.SimpleLeaves.{simply_is_reached}

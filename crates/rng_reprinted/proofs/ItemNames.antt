@@ -3,13 +3,13 @@ use Rattle.std.proofs.Common.{◌≡◌, ◌∙◌, refl, sym, ap, subst, inl, i
 use Rattle.std.specs.Prelude.{◌==◌, decimal}
 use Rattle.std.specs.List.{filter_map, cons_option}
 use Rattle.std.proofs.lemmas.Bool.{or_cases, eqb-true}
-use Rattle.rng_print.specs.Numbering.{has, place_in}
-use Rattle.rng_print.specs.Same.{same_tree}
-use Rattle.rng_print.specs.PrintedText.{Item, element, pattern, same_item, element_in, pattern_in, item_name}
+use Rattle.rncv_model.specs.printed.Numbering.{has, place_in}
+use Rattle.rncv_model.specs.printed.Same.{same_tree}
+use Rattle.rncv_model.specs.printed.PrintedText.{Item, element, pattern, same_item, element_in, pattern_in, item_name}
 use Rattle.rng_print.proofs.Booleans.{false_true}
 use Rattle.rng_print.proofs.Equal.{item_exact, tree_exact, tree_itself, number_itself}
 use Rattle.rng_print.proofs.Numberings.{or_first, or_second}
-use Rattle.rng_model.specs.Lists.{Among}
+use Rattle.rng_model.specs.names.Lists.{Among}
 use Rattle.rnc_printed.proofs.Digits.{one_number, place_le, kept_le, one_place, tail_is}
 use Rattle.rng_reprinted.proofs.Listed.{among_has}
 

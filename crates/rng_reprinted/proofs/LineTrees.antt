@@ -1,18 +1,18 @@
 -- What is written for a pattern stands for the pattern's tree, its elements named by their lines.
 use Rattle.std.proofs.Common.{◌≡◌, refl, sym, ap, subst, ℕ, ◌<◌, ◌^◌, List, [], ◌∷◌, length}
-use Rattle.rng_model.specs.Lists.{Among, here}
-use Rattle.rng_model.specs.Tree.{Datatype, Tree, leaf, value, as_tree}
-use Rattle.rng_model.specs.Tree.{Simple, s_not_allowed, s_empty, s_text, s_leaf, s_attribute, s_list, s_data, s_data_except, s_value, s_one_or_more, s_joined}
-use Rattle.rng_model.specs.Table.{Grammar}
-use Rattle.rng_model.specs.Leaves.{LeafIn}
-use Rattle.rng_model.specs.Leaves as at
-use Rattle.rng_model.specs.Patterns.{Position, Point, a_ref, pattern_tree, without_parameters}
-use Rattle.rng_model.specs.Schema.{Schema, main_start}
-use Rattle.rng_model.specs.Unfolding as u
-use Rattle.rng_model.specs.Unfolding.{Leaf, Unfolds, IsTreeOf, IsBodyOf}
-use Rattle.rng_print.specs.PrintedText.{Item, element, pattern, item_of, item_name, element_at, parts_of, IsItemsOf}
-use Rattle.rng_simple.specs.Renamed.{simple_renamed}
-use Rattle.rng_reprinted.specs.LinesSchema.{flattened, reference_pattern, item_pattern, IsSchemaOfLines}
+use Rattle.rng_model.specs.names.Lists.{Among, here}
+use Rattle.rng_model.specs.simple.Tree.{Datatype, Tree, leaf, value, as_tree}
+use Rattle.rng_model.specs.simple.Tree.{Simple, s_not_allowed, s_empty, s_text, s_leaf, s_attribute, s_list, s_data, s_data_except, s_value, s_one_or_more, s_joined}
+use Rattle.rng_model.specs.simple.Table.{Grammar}
+use Rattle.rng_model.specs.simple.Leaves.{LeafIn}
+use Rattle.rng_model.specs.simple.Leaves as at
+use Rattle.rng_model.specs.schema.Patterns.{Position, Point, a_ref, pattern_tree, without_parameters}
+use Rattle.rng_model.specs.schema.Schema.{Schema, main_start}
+use Rattle.rng_model.specs.schema.Unfolding as u
+use Rattle.rng_model.specs.schema.Unfolding.{Leaf, Unfolds, IsTreeOf, IsBodyOf}
+use Rattle.rncv_model.specs.printed.PrintedText.{Item, element, pattern, item_of, item_name, element_at, parts_of, IsItemsOf}
+use Rattle.rng_simple.specs.plain.Renamed.{simple_renamed}
+use Rattle.rng_reprinted.specs.plain.LinesSchema.{flattened, reference_pattern, item_pattern, IsSchemaOfLines}
 use Rattle.rng_reprinted.proofs.Listed.{AreAmong, among_left, among_right, start_among, line_among}
 use Rattle.rng_reprinted.proofs.Flattened.{with_flattened}
 use Rattle.rng_reprinted.proofs.LinesFound.{line_number, item_found, start_found}

@@ -5,33 +5,33 @@ use Rattle.std.specs.Prelude.{not}
 use Rattle.std.specs.List.{slice_index_or}
 use Rattle.std.proofs.lemmas.List.Elements.{All-contains}
 use Rattle.std.proofs.lemmas.Option.{slice_get-get_or}
-use Rattle.rng_model.specs.Lists.{Among}
-use Rattle.rng_model.specs.Names.{NameClass, any_name}
-use Rattle.rng_model.specs.ClassSteps.{ClassStep, IsSimpleClassOf}
-use Rattle.rng_model.specs.Tree.{Tree, as_tree}
-use Rattle.rng_model.specs.Tree.{Simple, s_not_allowed, s_empty, s_text, s_leaf, s_attribute, s_list, s_data, s_data_except, s_value, s_one_or_more, s_joined}
-use Rattle.rng_model.specs.Table.{Grammar}
-use Rattle.rng_model.specs.Leaves.{LeafIn, renamed, AreLeavesBelow}
-use Rattle.rng_model.specs.Leaves as at
-use Rattle.rng_model.specs.Patterns.{Position}
-use Rattle.rng_model.specs.Schema.{Schema, main_start}
-use Rattle.rng_model.specs.SchemaForm.{SimpleForm, IsElementOf, IsSimpleFormOfSchema, IsSameUpToNumbering}
-use Rattle.rng_model.specs.Simplification.{RuleGroup, Step, IsSimpleFormOf}
-use Rattle.rng_model.specs.Reached.{IsReachedBySimpleForms, from_simple_start, from_simple_body}
-use Rattle.rng_model.specs.Unfolding.{Leaf, IsTreeOf, IsBodyOf}
+use Rattle.rng_model.specs.names.Lists.{Among}
+use Rattle.rng_model.specs.names.Names.{NameClass, any_name}
+use Rattle.rng_model.specs.simple.ClassSteps.{ClassStep, IsSimpleClassOf}
+use Rattle.rng_model.specs.simple.Tree.{Tree, as_tree}
+use Rattle.rng_model.specs.simple.Tree.{Simple, s_not_allowed, s_empty, s_text, s_leaf, s_attribute, s_list, s_data, s_data_except, s_value, s_one_or_more, s_joined}
+use Rattle.rng_model.specs.simple.Table.{Grammar}
+use Rattle.rng_model.specs.simple.Leaves.{LeafIn, renamed, AreLeavesBelow}
+use Rattle.rng_model.specs.simple.Leaves as at
+use Rattle.rng_model.specs.schema.Patterns.{Position}
+use Rattle.rng_model.specs.schema.Schema.{Schema, main_start}
+use Rattle.rng_model.specs.simple.SchemaForm.{SimpleForm, IsElementOf, IsSimpleFormOfSchema, IsSameUpToNumbering}
+use Rattle.rng_model.specs.simple.Simplification.{RuleGroup, Step, IsSimpleFormOf}
+use Rattle.rng_model.specs.schema.Reached.{IsReachedBySimpleForms, from_simple_start, from_simple_body}
+use Rattle.rng_model.specs.schema.Unfolding.{Leaf, IsTreeOf, IsBodyOf}
 use Rattle.rng_model.proofs.Unfolding.{one_tree}
-use Rattle.rng_print.specs.Numbering.{place_in}
-use Rattle.rng_print.specs.PrintedText.{Item, element, pattern, same_item, element_at, IsItemsOf}
+use Rattle.rncv_model.specs.printed.Numbering.{place_in}
+use Rattle.rncv_model.specs.printed.PrintedText.{Item, element, pattern, same_item, element_at, IsItemsOf}
 use Rattle.rng_print.proofs.Equal.{item_exact}
 use Rattle.rng_graph.proofs.SimpleClass.{has_simple_class, class_unchanged}
-use Rattle.rng_simple.specs.Renamed.{simple_renamed}
-use Rattle.rng_simple.specs.SimpleOf.{simple_of}
+use Rattle.rng_simple.specs.plain.Renamed.{simple_renamed}
+use Rattle.rng_simple.specs.plain.SimpleOf.{simple_of}
 use Rattle.rng_simple.proofs.NoStep.{unchanged}
 use Rattle.rng_simple.proofs.NumberedSchema.{same_form, one_of_definition}
 use Rattle.rng_simple.proofs.Renamed.{as_tree_renamed, Origin, origin}
 use Rattle.rng_simple.proofs.RenamedTwice.{renamed_twice, renamed_itself}
 use Rattle.rng_simple.proofs.SimpleForms.{has_simple_form}
-use Rattle.rng_reprinted.specs.LinesSchema.{flattened, IsSchemaOfLines}
+use Rattle.rng_reprinted.specs.plain.LinesSchema.{flattened, IsSchemaOfLines}
 use Rattle.rng_reprinted.proofs.FineTrees.{leaf_of}
 use Rattle.rng_reprinted.proofs.Flattened.{nested_flattened, simple_flattened}
 use Rattle.rng_reprinted.proofs.GoodGrammars.{IsAttributeClass, IsGoodData, IsGoodValue, IsGoodTree, IsGoodGrammar, IsLastSimple}

@@ -1,17 +1,17 @@
 -- A name finds its line.
 use Rattle.std.proofs.Common.{◌≡◌, ◌∙◌, refl, sym, ap, subst, ℕ, ◌+◌, ◌<◌, ◌^◌, Bool, true, false, List, [], ◌∷◌, ◌++◌, length, map, Option, Some, None, arith}
 use Rattle.std.specs.Str.{bytes_eq}
-use Rattle.rng_model.specs.Lists.{Among, here, there}
-use Rattle.rng_model.specs.Tree.{Tree, Connector}
-use Rattle.rng_model.specs.Table.{Grammar}
-use Rattle.rng_model.specs.Patterns.{Point, pattern_tree}
-use Rattle.rng_model.specs.Schema.{Schema, Component, Definition, main_start, same_name, trees_named, connector_of, nested, body_among, body}
-use Rattle.rng_print.specs.Numbering.{has, place_in}
-use Rattle.rng_print.specs.PrintedText.{Item, same_item, item_name, IsItemsOf}
+use Rattle.rng_model.specs.names.Lists.{Among, here, there}
+use Rattle.rng_model.specs.simple.Tree.{Tree, Connector}
+use Rattle.rng_model.specs.simple.Table.{Grammar}
+use Rattle.rng_model.specs.schema.Patterns.{Point, pattern_tree}
+use Rattle.rng_model.specs.schema.Schema.{Schema, Component, Definition, main_start, same_name, trees_named, connector_of, nested, body_among, body}
+use Rattle.rncv_model.specs.printed.Numbering.{has, place_in}
+use Rattle.rncv_model.specs.printed.PrintedText.{Item, same_item, item_name, IsItemsOf}
 use Rattle.rng_print.proofs.Booleans.{false_true}
 use Rattle.rng_print.proofs.Equal.{item_exact, item_itself, bytes_exact, bytes_itself}
 use Rattle.rng_print.proofs.Numberings.{AreNew, has_left, has_right, or_first}
-use Rattle.rng_reprinted.specs.LinesSchema.{reference_pattern, item_pattern, item_line, lines_components, IsSchemaOfLines}
+use Rattle.rng_reprinted.specs.plain.LinesSchema.{reference_pattern, item_pattern, item_line, lines_components, IsSchemaOfLines}
 use Rattle.rng_reprinted.proofs.Listed.{each_once}
 use Rattle.rng_reprinted.proofs.ItemNames.{names_apart}
 

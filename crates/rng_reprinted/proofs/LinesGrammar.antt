@@ -2,17 +2,17 @@
 use Rattle.std.proofs.Common.{◌≡◌, ◌∙◌, refl, sym, ap, subst, ℕ, zero, suc, ◌+◌, ◌<◌, ◌^◌, List, [], ◌∷◌, length, get_or, arith}
 use Rattle.std.specs.Prelude.{Contains}
 use Rattle.std.proofs.lemmas.Option.{slice_get_within, get_or_from_slice_get}
-use Rattle.rng_model.specs.Names.{NameClass, any_name}
-use Rattle.rng_model.specs.Tree.{Simple, s_not_allowed, as_tree}
-use Rattle.rng_model.specs.Table.{Grammar}
-use Rattle.rng_model.specs.Leaves.{renamed, AreLeavesBelow}
-use Rattle.rng_model.specs.Schema.{Schema}
-use Rattle.rng_model.specs.SchemaForm.{Element, SimpleForm, IsElementOf, IsSimpleFormOfSchema, IsSameUpToNumbering, IsSimpleGrammarOf}
-use Rattle.rng_model.specs.Simplification.{IsSimpleFormOf}
-use Rattle.rng_model.specs.Unfolding.{Leaf}
-use Rattle.rng_print.specs.PrintedText.{Item, element_at, IsItemsOf}
+use Rattle.rng_model.specs.names.Names.{NameClass, any_name}
+use Rattle.rng_model.specs.simple.Tree.{Simple, s_not_allowed, as_tree}
+use Rattle.rng_model.specs.simple.Table.{Grammar}
+use Rattle.rng_model.specs.simple.Leaves.{renamed, AreLeavesBelow}
+use Rattle.rng_model.specs.schema.Schema.{Schema}
+use Rattle.rng_model.specs.simple.SchemaForm.{Element, SimpleForm, IsElementOf, IsSimpleFormOfSchema, IsSameUpToNumbering, IsSimpleGrammarOf}
+use Rattle.rng_model.specs.simple.Simplification.{IsSimpleFormOf}
+use Rattle.rng_model.specs.schema.Unfolding.{Leaf}
+use Rattle.rncv_model.specs.printed.PrintedText.{Item, element_at, IsItemsOf}
 use Rattle.rng_simple.proofs.Renamed.{as_tree_renamed}
-use Rattle.rng_reprinted.specs.LinesSchema.{IsSchemaOfLines}
+use Rattle.rng_reprinted.specs.plain.LinesSchema.{IsSchemaOfLines}
 use Rattle.rng_reprinted.proofs.GoodGrammars.{IsGoodGrammar}
 use Rattle.rng_reprinted.proofs.LineTrees.{leaf_at, placed, line_tree_of}
 use Rattle.rng_reprinted.proofs.LinesForm.{HasLine, number_at, number_back, below_of, class_is_form}

@@ -1,29 +1,29 @@
 -- The schema of the lines breaks no clause.
 use Rattle.std.proofs.Common.{◌≡◌, ◌∙◌, sym, ap, subst, ℕ, ◌<◌, ◌≤◌, ◌^◌, List, length, arith}
-use Rattle.rng_model.specs.Lists.{Among}
-use Rattle.rng_model.specs.ClassSteps.{IsSimpleClassOf}
-use Rattle.rng_model.specs.Tree.{Tree, Simple, as_tree}
-use Rattle.rng_model.specs.Table.{Grammar}
-use Rattle.rng_model.specs.Depth.{depth, class_depth, depth_limit}
-use Rattle.rng_model.specs.Leaves.{LeafIn}
-use Rattle.rng_model.specs.Reached.{IsReachedByTrees, IsReachedTree, from_start, from_element, of_start, of_body}
-use Rattle.rng_model.specs.Schema.{Schema, main_start}
-use Rattle.rng_model.specs.SchemaClauses as clause
-use Rattle.rng_model.specs.SchemaClauses.{BreaksExpansion, BreaksDepth, BreaksSchemaClause, BreaksClause, BreaksNoClause}
-use Rattle.rng_model.specs.SchemaForm.{SimpleForm, IsSimpleFormOfSchema, IsSameUpToNumbering, IsSimpleGrammarOf, IsOnlySimpleGrammarOf}
-use Rattle.rng_model.specs.Simplification.{rewriting, IsRewritten, no_step}
-use Rattle.rng_model.specs.Unfolding.{Leaf, IsTreeOf, IsBodyOf}
+use Rattle.rng_model.specs.names.Lists.{Among}
+use Rattle.rng_model.specs.simple.ClassSteps.{IsSimpleClassOf}
+use Rattle.rng_model.specs.simple.Tree.{Tree, Simple, as_tree}
+use Rattle.rng_model.specs.simple.Table.{Grammar}
+use Rattle.rng_model.specs.schema.Depth.{depth, class_depth, depth_limit}
+use Rattle.rng_model.specs.simple.Leaves.{LeafIn}
+use Rattle.rng_model.specs.schema.Reached.{IsReachedByTrees, IsReachedTree, from_start, from_element, of_start, of_body}
+use Rattle.rng_model.specs.schema.Schema.{Schema, main_start}
+use Rattle.rng_model.specs.schema.SchemaClauses as clause
+use Rattle.rng_model.specs.schema.SchemaClauses.{BreaksExpansion, BreaksDepth, BreaksSchemaClause, BreaksClause, BreaksNoClause}
+use Rattle.rng_model.specs.simple.SchemaForm.{SimpleForm, IsSimpleFormOfSchema, IsSameUpToNumbering, IsSimpleGrammarOf, IsOnlySimpleGrammarOf}
+use Rattle.rng_model.specs.simple.Simplification.{rewriting, IsRewritten, no_step}
+use Rattle.rng_model.specs.schema.Unfolding.{Leaf, IsTreeOf, IsBodyOf}
 use Rattle.rng_model.proofs.Unfolding.{one_tree}
-use Rattle.rng_print.specs.PrintedText.{Item, element, element_at, IsItemsOf}
-use Rattle.rng_print.specs.Renumbered.{AreSameUpToNumbering}
+use Rattle.rncv_model.specs.printed.PrintedText.{Item, element, element_at, IsItemsOf}
+use Rattle.rng_print.specs.plain.Renumbered.{AreSameUpToNumbering}
 use Rattle.rng_print.proofs.OneForm.{one_form, same_numbering}
-use Rattle.rng_graph.specs.InTwos.{in_twos}
+use Rattle.rng_graph.specs.plain.InTwos.{in_twos}
 use Rattle.rng_graph.proofs.InTwos.{rewritten_is}
 use Rattle.rng_simple.proofs.NumberedSchema.{one_of_definition, same_class, only_simple_grammar}
 use Rattle.rng_simple.proofs.Renamed.{origin}
 use Rattle.rng_simple.proofs.SameRestrictions.{same_restrictions}
-use Rattle.rng_reprinted.specs.LinesSchema.{IsSchemaOfLines, IsReprinted, IsReprintedAs}
-use Rattle.rng_print.specs.SchemaText.{IsPrintedForm}
+use Rattle.rng_reprinted.specs.plain.LinesSchema.{IsSchemaOfLines, IsReprinted, IsReprintedAs}
+use Rattle.rncv_model.specs.printed.SchemaText.{IsPrintedForm}
 use Rattle.rnc_printed.proofs.FewItems.{items_few}
 use Rattle.rng_reprinted.proofs.Flattened.{leaves_flattened, twos_flattened}
 use Rattle.rng_reprinted.proofs.GoodGrammars.{IsGoodTree, IsGoodBody, IsGoodGrammar, good_grammar}

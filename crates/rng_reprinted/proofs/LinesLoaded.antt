@@ -1,20 +1,21 @@
 -- What is answered where the file of the lines is handed in as the main one.
 use Rattle.std.proofs.Common.{◌≡◌, refl, subst, inl, inr, ℕ, ◌≤◌, List, [], ◌∷◌, length, arith, Result, Ok, Err}
 use Rattle.std.specs.Prelude.{MatchResult}
-use Rattle.rng_model.specs.Lists.{here, HasTwo, first_and, both_later}
-use Rattle.rng_model.specs.Schema.{Schema}
-use Rattle.rng_model.specs.Table.{Grammar}
+use Rattle.rng_model.specs.names.Lists.{here, HasTwo, first_and, both_later}
+use Rattle.rng_model.specs.schema.Schema.{Schema}
+use Rattle.rng_model.specs.simple.Table.{Grammar}
 use Rattle.rng_model.specs.declared.fault.SchemaFault.{SchemaFault}
 use Rattle.rng_model.specs.declared.fault.SchemaFault.TheVariants as faults
-use Rattle.rng_load.specs.LoadedSchema.{AreSchema, IsLoaded}
-use Rattle.rng_load.specs.Loading.{TakenFiles, file_breaks, together_break, are_taken}
-use Rattle.rng_load.specs.PlacedGrammars.{schema_of}
-use Rattle.rng_load.specs.SchemaFile.{Name, NamedFile, HasTree, BreaksLimit, size_limit}
+use Rattle.rnc_model.specs.loading.LoadedSchema.{AreSchema}
+use Rattle.rng_load.specs.views.Loaded.{IsLoaded}
+use Rattle.rnc_model.specs.loading.Loading.{TakenFiles, file_breaks, together_break, are_taken}
+use Rattle.rng_load.specs.views.PlacedGrammars.{schema_of}
+use Rattle.rnc_model.specs.loading.SchemaFile.{Name, NamedFile, HasTree, BreaksLimit, size_limit}
 use Rattle.rng_load.specs.declared.schema.Schema as loaded
-use Rattle.rng_print.specs.PrintedText.{Item}
-use Rattle.rng_reprinted.specs.HandedIn.{lines_alone, IsHandedInAgain, IsAgain, IsPrintedFile, text_alone}
-use Rattle.rng_reprinted.specs.LinesSchema.{IsSchemaOfLines}
-use Rattle.rnc_printed.specs.LinesTree.{lines_tree}
+use Rattle.rncv_model.specs.printed.PrintedText.{Item}
+use Rattle.rng_reprinted.specs.plain.HandedIn.{lines_alone, IsHandedInAgain, IsAgain, IsPrintedFile, text_alone}
+use Rattle.rng_reprinted.specs.plain.LinesSchema.{IsSchemaOfLines}
+use Rattle.rnc_printed.specs.plain.LinesTree.{lines_tree}
 use Rattle.rng_reprinted.proofs.LinesKept.{reprinted_text}
 use Rattle.rng_reprinted.proofs.LinesTaken.{lines_taken, lines_are_schema}
 

@@ -4,25 +4,25 @@ use Rattle.std.proofs.Common.{length, Option, Some, None, slice_get, arith}
 use Rattle.std.specs.List.{fold}
 use Rattle.std.proofs.lemmas.Option.{slice_get_within}
 use Rattle.std.specs.Str.{bytes_eq}
-use Rattle.rng_model.specs.Lists.{Among, here, there, HasTwice, at_first}
-use Rattle.rng_model.specs.Tree.{Simple, s_not_allowed, s_empty, s_text, s_leaf, s_attribute, s_list, s_data, s_data_except, s_value, s_one_or_more, s_joined}
-use Rattle.rng_model.specs.Table.{Grammar}
-use Rattle.rng_model.specs.Schema.{Schema}
-use Rattle.rng_print.specs.PrintedText.{Item, element, pattern, element_at}
+use Rattle.rng_model.specs.names.Lists.{Among, here, there, HasTwice, at_first}
+use Rattle.rng_model.specs.simple.Tree.{Simple, s_not_allowed, s_empty, s_text, s_leaf, s_attribute, s_list, s_data, s_data_except, s_value, s_one_or_more, s_joined}
+use Rattle.rng_model.specs.simple.Table.{Grammar}
+use Rattle.rng_model.specs.schema.Schema.{Schema}
+use Rattle.rncv_model.specs.printed.PrintedText.{Item, element, pattern, element_at}
 use Rattle.rng_print.proofs.Equal.{bytes_itself}
-use Rattle.rnc_grammar.specs.FileTree as tree
-use Rattle.rnc_grammar.specs.FileTree.{FileTree}
-use Rattle.rnc_grammar.specs.Mentions.{MentionedFile, mention_of, mentions_of, mentions_of_pattern, mentions_of_component, mentions_of_components}
-use Rattle.rng_load.specs.MentionPaths.{Path, Mentions, directly, through, IsPath, path_ends, path_goes_on, BreaksMentions, path_limit}
-use Rattle.rng_load.specs.Loading.{TakenFiles, with_name, hrefs_of, tree_in, hrefs_if, hrefs_in, none_yet, one_more, AreTaken, BreaksIncludes, BreaksTogether}
-use Rattle.rng_load.specs.Loading.{mentions_break, includes_break, are_taken, IsFilesVerdict}
-use Rattle.rng_load.specs.LoadedSchema.{AreSchema}
-use Rattle.rng_load.specs.Places.{IsSchemaOf}
-use Rattle.rng_load.specs.SchemaFile.{Name, NamedFile, HasTree}
-use Rattle.rng_reprinted.specs.LinesSchema.{IsSchemaOfLines, schema_of_lines}
-use Rattle.rng_reprinted.specs.HandedIn.{lines_alone}
-use Rattle.rnc_printed.specs.LinesTree as lines
-use Rattle.rnc_printed.specs.LinesTree.{lines_tree}
+use Rattle.rnc_model.specs.declarations.FileTree as tree
+use Rattle.rnc_model.specs.declarations.FileTree.{FileTree}
+use Rattle.rnc_model.specs.loading.Mentions.{MentionedFile, mention_of, mentions_of, mentions_of_pattern, mentions_of_component, mentions_of_components}
+use Rattle.rnc_model.specs.loading.MentionPaths.{Path, Mentions, directly, through, IsPath, path_ends, path_goes_on, BreaksMentions, path_limit}
+use Rattle.rnc_model.specs.loading.Loading.{TakenFiles, with_name, hrefs_of, tree_in, hrefs_if, hrefs_in, none_yet, one_more, AreTaken, BreaksIncludes, BreaksTogether}
+use Rattle.rnc_model.specs.loading.Loading.{mentions_break, includes_break, are_taken, IsFilesVerdict}
+use Rattle.rnc_model.specs.loading.LoadedSchema.{AreSchema}
+use Rattle.rnc_model.specs.loading.Places.{IsSchemaOf}
+use Rattle.rnc_model.specs.loading.SchemaFile.{Name, NamedFile, HasTree}
+use Rattle.rng_reprinted.specs.plain.LinesSchema.{IsSchemaOfLines, schema_of_lines}
+use Rattle.rng_reprinted.specs.plain.HandedIn.{lines_alone}
+use Rattle.rnc_printed.specs.plain.LinesTree as lines
+use Rattle.rnc_printed.specs.plain.LinesTree.{lines_tree}
 use Rattle.rng_reprinted.proofs.ReadLines.{lines_read, lines_are_read}
 
 -- ---- the lines mention no file

@@ -1,18 +1,18 @@
 -- What is written in the lines of a printed grammar.
 use Rattle.std.proofs.Common.{◌≡◌, ◌∙◌, refl, sym, ap, subst, ℕ, ◌<◌, ◌^◌, List, [], ◌∷◌, ◌++◌, length, map, Option, Some, None}
-use Rattle.rng_model.specs.Lists.{Among, here, there, HasTwo, first_and, both_later}
-use Rattle.rng_model.specs.Names.{NameClass}
-use Rattle.rng_model.specs.Datatypes.{IsAllowed}
-use Rattle.rng_model.specs.Tree.{Simple, s_not_allowed, s_empty, s_text, s_leaf, s_attribute, s_list, s_data, s_data_except, s_value, s_one_or_more, s_joined}
-use Rattle.rng_model.specs.Table.{Grammar}
-use Rattle.rng_model.specs.Patterns as written
-use Rattle.rng_model.specs.Patterns.{Place, Pattern, IsWrittenIn, without_parameters}
-use Rattle.rng_model.specs.Schema.{Schema, Component, HasComponent, IsWrittenAt}
-use Rattle.rng_model.specs.SchemaClauses as clause
-use Rattle.rng_model.specs.SchemaClauses.{BreaksNameClass, BreaksDatatype, BreaksCombination, HasNoStart, BreaksRef}
+use Rattle.rng_model.specs.names.Lists.{Among, here, there, HasTwo, first_and, both_later}
+use Rattle.rng_model.specs.names.Names.{NameClass}
+use Rattle.rng_model.specs.datatypes.Datatypes.{IsAllowed}
+use Rattle.rng_model.specs.simple.Tree.{Simple, s_not_allowed, s_empty, s_text, s_leaf, s_attribute, s_list, s_data, s_data_except, s_value, s_one_or_more, s_joined}
+use Rattle.rng_model.specs.simple.Table.{Grammar}
+use Rattle.rng_model.specs.schema.Patterns as written
+use Rattle.rng_model.specs.schema.Patterns.{Place, Pattern, IsWrittenIn, without_parameters}
+use Rattle.rng_model.specs.schema.Schema.{Schema, Component, HasComponent, IsWrittenAt}
+use Rattle.rng_model.specs.schema.SchemaClauses as clause
+use Rattle.rng_model.specs.schema.SchemaClauses.{BreaksNameClass, BreaksDatatype, BreaksCombination, HasNoStart, BreaksRef}
 use Rattle.rng_model.specs.declared.method.Method.TheVariants as methods
-use Rattle.rng_print.specs.PrintedText.{Item, element, pattern, item_of, item_name, element_at, parts_of, mentions, IsItemsOf}
-use Rattle.rng_reprinted.specs.LinesSchema.{flattened, reference_pattern, item_pattern, start_line, item_line, lines_components, IsSchemaOfLines}
+use Rattle.rncv_model.specs.printed.PrintedText.{Item, element, pattern, item_of, item_name, element_at, parts_of, mentions, IsItemsOf}
+use Rattle.rng_reprinted.specs.plain.LinesSchema.{flattened, reference_pattern, item_pattern, start_line, item_line, lines_components, IsSchemaOfLines}
 use Rattle.rng_reprinted.proofs.ClassParts.{IsGoodClass, IsFreeOfDeclarations, good_nested, good_from_nested, free_from_nested}
 use Rattle.rng_reprinted.proofs.Flattened.{nested_flattened}
 use Rattle.rng_reprinted.proofs.GoodGrammars.{IsGoodData, IsGoodTree, IsGoodGrammar}

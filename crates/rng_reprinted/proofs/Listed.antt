@@ -3,10 +3,10 @@ use Rattle.std.proofs.Common.{◌≡◌, sym, subst, inl, inr, zero, suc, true, 
 use Rattle.std.specs.Prelude.{Contains}
 use Rattle.std.specs.List.{AllByRecursion}
 use Rattle.std.proofs.lemmas.Bool.{or_cases}
-use Rattle.rng_model.specs.Lists.{Among, here, there}
-use Rattle.rng_model.specs.Table.{Grammar}
-use Rattle.rng_print.specs.Numbering.{has, IsReached, at_start, in_line}
-use Rattle.rng_print.specs.PrintedText.{Item, same_item, item_of, mentions, IsItemsOf}
+use Rattle.rng_model.specs.names.Lists.{Among, here, there}
+use Rattle.rng_model.specs.simple.Table.{Grammar}
+use Rattle.rncv_model.specs.printed.Numbering.{has, IsReached, at_start, in_line}
+use Rattle.rncv_model.specs.printed.PrintedText.{Item, same_item, item_of, mentions, IsItemsOf}
 use Rattle.rng_print.proofs.Booleans.{false_true}
 use Rattle.rng_print.proofs.Equal.{item_exact, item_itself}
 use Rattle.rng_print.proofs.Numberings.{AreNew, numbering_new, and_has_right, or_first, or_second}

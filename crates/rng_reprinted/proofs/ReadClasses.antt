@@ -1,13 +1,13 @@
 -- The name classes of the lines, read with their namespaces, are the classes of the grammar with their first members taken apart.
 use Rattle.std.proofs.Common.{◌≡◌, ◌∙◌, refl, sym, ap, ap₂, List, [], ◌∷◌, ◌++◌, map, ℕ}
 use Rattle.std.proofs.lemmas.List.{map-append}
-use Rattle.rng_model.specs.Names as names
-use Rattle.rng_model.specs.Names.{some_of}
-use Rattle.rnc_grammar.specs.FileTree as tree
-use Rattle.rnc_grammar.specs.FileTree.{Namespace}
-use Rattle.rng_load.specs.Places.{uri_in, name_in, class_in, classes_in}
-use Rattle.rng_reprinted.specs.LinesSchema.{list_of, members_in, flattened, all_flattened}
-use Rattle.rnc_printed.specs.LinesTree as lines
+use Rattle.rng_model.specs.names.Names as names
+use Rattle.rng_model.specs.names.Names.{some_of}
+use Rattle.rnc_model.specs.declarations.FileTree as tree
+use Rattle.rnc_model.specs.declarations.FileTree.{Namespace}
+use Rattle.rnc_model.specs.loading.Places.{uri_in, name_in, class_in, classes_in}
+use Rattle.rng_reprinted.specs.plain.LinesSchema.{list_of, members_in, flattened, all_flattened}
+use Rattle.rnc_printed.specs.plain.LinesTree as lines
 
 classes_map : (cs : List tree.NameClass) → classes_in [] (tree.classes_of cs) ≡ map (class_in []) cs
 classes_map [] = refl

@@ -1,22 +1,22 @@
 -- The file of the lines, read as a schema, is the schema of the lines.
 use Rattle.std.proofs.Common.{◌≡◌, ◌∙◌, refl, sym, ap, subst, ℕ, ◌+◌, List, [], ◌∷◌, map, Option, Some, None}
-use Rattle.rng_model.specs.Lists.{Among, here, there}
-use Rattle.rng_model.specs.Tree.{Connector, choice, group, interleave}
-use Rattle.rng_model.specs.Tree.{Simple, s_not_allowed, s_empty, s_text, s_leaf, s_attribute, s_list, s_data, s_data_except, s_value, s_one_or_more, s_joined}
-use Rattle.rng_model.specs.Table.{Grammar}
-use Rattle.rng_model.specs.Patterns as written
-use Rattle.rng_model.specs.Patterns.{Place, Pattern, members, no_patterns}
-use Rattle.rng_model.specs.Schema.{Schema, Component}
-use Rattle.rng_print.specs.PrintedText.{Item, element, pattern, element_at}
-use Rattle.rnc_grammar.specs.FileTree as tree
-use Rattle.rnc_grammar.specs.FileTree.{FileTree, inherited, given}
-use Rattle.rng_load.specs.Places as p
-use Rattle.rng_load.specs.Places.{Way, Nested, Gathered, Reads, Gathers, HasGrammar, IsSchemaOf}
+use Rattle.rng_model.specs.names.Lists.{Among, here, there}
+use Rattle.rng_model.specs.simple.Tree.{Connector, choice, group, interleave}
+use Rattle.rng_model.specs.simple.Tree.{Simple, s_not_allowed, s_empty, s_text, s_leaf, s_attribute, s_list, s_data, s_data_except, s_value, s_one_or_more, s_joined}
+use Rattle.rng_model.specs.simple.Table.{Grammar}
+use Rattle.rng_model.specs.schema.Patterns as written
+use Rattle.rng_model.specs.schema.Patterns.{Place, Pattern, members, no_patterns}
+use Rattle.rng_model.specs.schema.Schema.{Schema, Component}
+use Rattle.rncv_model.specs.printed.PrintedText.{Item, element, pattern, element_at}
+use Rattle.rnc_model.specs.declarations.FileTree as tree
+use Rattle.rnc_model.specs.declarations.FileTree.{FileTree, inherited, given}
+use Rattle.rnc_model.specs.loading.Places as p
+use Rattle.rnc_model.specs.loading.Places.{Way, Nested, Gathered, Reads, Gathers, HasGrammar, IsSchemaOf}
 use Rattle.rng_load.proofs.OneSchema.{one_gathering}
-use Rattle.rng_reprinted.specs.LinesSchema.{reference_pattern, item_pattern, start_line, item_line, lines_components, components_at, schema_of_lines}
-use Rattle.rng_reprinted.specs.LinesSchema.{IsSchemaOfLines}
-use Rattle.rnc_printed.specs.LinesTree as lines
-use Rattle.rnc_printed.specs.LinesTree.{lines_tree}
+use Rattle.rng_reprinted.specs.plain.LinesSchema.{reference_pattern, item_pattern, start_line, item_line, lines_components, components_at, schema_of_lines}
+use Rattle.rng_reprinted.specs.plain.LinesSchema.{IsSchemaOfLines}
+use Rattle.rnc_printed.specs.plain.LinesTree as lines
+use Rattle.rnc_printed.specs.plain.LinesTree.{lines_tree}
 use Rattle.rng_reprinted.proofs.ReadClasses.{class_read}
 
 none_is_some : {A B : Type 0} {x : A} → ◌≡◌ {A = Option A} None (Some x) → B

@@ -1,10 +1,10 @@
 -- A step of simplification asks nothing of the names of leaves, so one from a tree is one from the tree with other names.
 use Rattle.std.proofs.Common.{◌≡◌, refl}
-use Rattle.rng_model.specs.Tree.{Tree, not_allowed, empty, text, leaf, attribute, list, data_of, data_except, value, mixed, optional}
-use Rattle.rng_model.specs.Tree.{zero_or_more, one_or_more, joined, Trees}
-use Rattle.rng_model.specs.Leaves.{renamed, all_renamed}
-use Rattle.rng_model.specs.Simplification as step
-use Rattle.rng_model.specs.Simplification.{RuleGroup, Step, StepAmong, HasNotAllowed}
+use Rattle.rng_model.specs.simple.Tree.{Tree, not_allowed, empty, text, leaf, attribute, list, data_of, data_except, value, mixed, optional}
+use Rattle.rng_model.specs.simple.Tree.{zero_or_more, one_or_more, joined, Trees}
+use Rattle.rng_model.specs.simple.Leaves.{renamed, all_renamed}
+use Rattle.rng_model.specs.simple.Simplification as step
+use Rattle.rng_model.specs.simple.Simplification.{RuleGroup, Step, StepAmong, HasNotAllowed}
 
 module _ {K L : Type 0} (f : K → L) where
   not_empty : (a : Tree K) → (a ≡ empty → ⊥) → renamed f a ≡ empty → ⊥

@@ -1,15 +1,15 @@
 -- A simple form is no deeper than the tree with 4.12 to 4.15 applied.
 use Rattle.std.proofs.Common.{◌≡◌, refl, ap, ap₂, ℕ, ◌+◌, ◌≤◌, arith}
 use Rattle.std.specs.Prelude.{max}
-use Rattle.rng_model.specs.Names.{NameClass}
-use Rattle.rng_model.specs.Tree.{Tree, Trees, Connector, choice, group, interleave, not_allowed, empty, text, leaf, attribute, list, data_of, data_except}
-use Rattle.rng_model.specs.Tree.{value, mixed, optional, zero_or_more, one_or_more, joined, no_trees, tree_and, Datatype}
-use Rattle.rng_model.specs.Tree.{Simple, s_not_allowed, s_empty, s_text, s_leaf, s_attribute, s_list, s_data, s_data_except, s_value, s_one_or_more, s_joined}
-use Rattle.rng_model.specs.Depth.{depth, class_depth}
-use Rattle.rng_graph.specs.InTwos.{nested, in_twos, more_in_twos}
-use Rattle.rng_simple.specs.SimpleOf.{Sort, nothing, blank, proper, sort_of, attribute_by, list_by, except_by, one_or_more_by, choice_by, both_by, join}
-use Rattle.rng_simple.specs.SimpleOf.{some_of, simple_of, join_all}
-use Rattle.rng_simple.specs.Renamed.{simple_renamed}
+use Rattle.rng_model.specs.names.Names.{NameClass}
+use Rattle.rng_model.specs.simple.Tree.{Tree, Trees, Connector, choice, group, interleave, not_allowed, empty, text, leaf, attribute, list, data_of, data_except}
+use Rattle.rng_model.specs.simple.Tree.{value, mixed, optional, zero_or_more, one_or_more, joined, no_trees, tree_and, Datatype}
+use Rattle.rng_model.specs.simple.Tree.{Simple, s_not_allowed, s_empty, s_text, s_leaf, s_attribute, s_list, s_data, s_data_except, s_value, s_one_or_more, s_joined}
+use Rattle.rng_model.specs.schema.Depth.{depth, class_depth}
+use Rattle.rng_graph.specs.plain.InTwos.{nested, in_twos, more_in_twos}
+use Rattle.rng_simple.specs.plain.SimpleOf.{Sort, nothing, blank, proper, sort_of, attribute_by, list_by, except_by, one_or_more_by, choice_by, both_by, join}
+use Rattle.rng_simple.specs.plain.SimpleOf.{some_of, simple_of, join_all}
+use Rattle.rng_simple.specs.plain.Renamed.{simple_renamed}
 
 module _ {L : Type 0} where
   positive : (s : Simple L) → 1 ≤ depth s

@@ -1,2 +1,1 @@
-pub mod LinesSchema
-pub mod HandedIn
+pub mod plain

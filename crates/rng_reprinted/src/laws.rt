@@ -1,20 +1,21 @@
 // What is promised of the schemas that printed texts are.
 ghost use Rattle.std.specs.Prelude.{◌≡◌, ℕ, List, Result};
-ghost use Rattle.rng_model.specs.Schema.{Schema};
-ghost use Rattle.rng_model.specs.SchemaClauses.{BreaksNoClause};
-ghost use Rattle.rng_model.specs.SchemaForm.{IsOnlySimpleGrammarOf, IsSimpleGrammarOf};
-ghost use Rattle.rng_model.specs.Table.{Grammar};
+ghost use Rattle.rng_model.specs.schema.Schema.{Schema};
+ghost use Rattle.rng_model.specs.schema.SchemaClauses.{BreaksNoClause};
+ghost use Rattle.rng_model.specs.simple.SchemaForm.{IsOnlySimpleGrammarOf, IsSimpleGrammarOf};
+ghost use Rattle.rng_model.specs.simple.Table.{Grammar};
 ghost use Rattle.rng_model.specs.declared.fault.SchemaFault.{SchemaFault};
-ghost use Rattle.rng_load.specs.LoadedSchema.{AreSchema, IsLoaded};
-ghost use Rattle.rng_load.specs.Loading.{are_taken, IsFilesVerdict};
-ghost use Rattle.rng_load.specs.SchemaFile.{HasTree, Name, NamedFile};
+ghost use Rattle.rnc_model.specs.loading.LoadedSchema.{AreSchema};
+ghost use Rattle.rng_load.specs.views.Loaded.{IsLoaded};
+ghost use Rattle.rnc_model.specs.loading.Loading.{are_taken, IsFilesVerdict};
+ghost use Rattle.rnc_model.specs.loading.SchemaFile.{HasTree, Name, NamedFile};
 ghost use Rattle.rng_load.specs.declared.schema.Schema as loaded;
-ghost use Rattle.rng_print.specs.PrintedText.{Item};
-ghost use Rattle.rng_print.specs.Renumbered.{AreSameUpToNumbering};
-ghost use Rattle.rng_print.specs.SchemaText.{IsPrintedForm};
-ghost use Rattle.rng_reprinted.specs.HandedIn.{IsAgain, IsHandedInAgain, IsPrintedFile, lines_alone, text_alone};
-ghost use Rattle.rng_reprinted.specs.LinesSchema.{IsReprinted, IsReprintedAs, IsSchemaOfLines, schema_of_lines};
-ghost use Rattle.rnc_printed.specs.LinesTree.{lines_tree};
+ghost use Rattle.rncv_model.specs.printed.PrintedText.{Item};
+ghost use Rattle.rng_print.specs.plain.Renumbered.{AreSameUpToNumbering};
+ghost use Rattle.rncv_model.specs.printed.SchemaText.{IsPrintedForm};
+ghost use Rattle.rng_reprinted.specs.plain.HandedIn.{IsAgain, IsHandedInAgain, IsPrintedFile, lines_alone, text_alone};
+ghost use Rattle.rng_reprinted.specs.plain.LinesSchema.{IsReprinted, IsReprintedAs, IsSchemaOfLines, schema_of_lines};
+ghost use Rattle.rnc_printed.specs.plain.LinesTree.{lines_tree};
 
 /// The laws of the schema of the lines of a printed grammar. It does nothing: its contract is what it is for.
 ///

@@ -4,12 +4,12 @@ use Rattle.std.proofs.lemmas.List.{take_more, map_push}
 use Rattle.std.proofs.lemmas.List.Elements.{All-map}
 use Rattle.std.proofs.lemmas.List.Sums.{fold_push}
 use Rattle.std.proofs.lemmas.Option.{slice_get_within, get_or_from_slice_get}
-use Rattle.rng_model.specs.Table.{Table, IsTable, grammar_of, tree_at}
-use Rattle.rng_model.specs.Tree.{Simple}
-use Rattle.rng_model.specs.View.{class_of}
+use Rattle.rng_model.specs.simple.Table.{Table, IsTable, grammar_of, tree_at}
+use Rattle.rng_model.specs.simple.Tree.{Simple}
+use Rattle.rng_model.specs.names.NameViews.{class_of}
 use Rattle.rng_model.specs.declared.simple.PatternId.{PatternId}
-use Rattle.rng_rules.specs.Broken.{body_broken, either_broken, start_broken, parts_broken, grammar_broken}
-use Rattle.rng_rules.specs.Facts.{HasFacts, facts_of, nothing_held}
+use Rattle.rng_rules.specs.plain.Broken.{body_broken, either_broken, start_broken, parts_broken, grammar_broken}
+use Rattle.rng_rules.specs.plain.Facts.{HasFacts, facts_of, nothing_held}
 use Rattle.rng_rules.specs.declared.broken.Broken.{Broken}
 use Rattle.rng_rules.specs.declared.facts.Facts.{Facts}
 use Rattle.rng_rules.proofs.FactsOver.{fact_at}

@@ -2,15 +2,15 @@
 use Rattle.std.proofs.Common.{◌≡◌, ℕ, ◌≤◌, ◌+◌, Bool, true, false, ap, arith, Decides, ⊎_elim, subst}
 use Rattle.std.proofs.lemmas.Bool.Decides.{Decides-like, Decides-at, not_from_Decides}
 use Rattle.std.proofs.lemmas.Bool.{cases_lt}
-use Rattle.rng_model.specs.Lists.{Among}
-use Rattle.rng_model.specs.Names.{NameClass}
-use Rattle.rng_model.specs.Table.{Grammar}
-use Rattle.rng_model.specs.Tree.{Simple}
-use Rattle.rng_model.specs.Restrictions as model
-use Rattle.rng_model.specs.Restrictions.{IsPart, BreaksRestriction, IsLeastRestriction, BreaksAttribute, BreaksOneOrMore, BreaksList, BreaksExcept, BreaksStart, BreaksContent}
-use Rattle.rng_model.specs.Restrictions.{BreaksWildcard, BreaksText, BreaksAttributeNames, BreaksElementNames, ClassIn}
-use Rattle.rng_rules.specs.Broken.{IsIntactBelow, grammar_broken}
-use Rattle.rng_rules.specs.Restricted.{IsRestricted}
+use Rattle.rng_model.specs.names.Lists.{Among}
+use Rattle.rng_model.specs.names.Names.{NameClass}
+use Rattle.rng_model.specs.simple.Table.{Grammar}
+use Rattle.rng_model.specs.simple.Tree.{Simple}
+use Rattle.rng_model.specs.restrictions.Restrictions as model
+use Rattle.rng_model.specs.restrictions.Restrictions.{IsPart, BreaksRestriction, IsLeastRestriction, BreaksAttribute, BreaksOneOrMore, BreaksList, BreaksExcept, BreaksStart, BreaksContent}
+use Rattle.rng_model.specs.restrictions.Restrictions.{BreaksWildcard, BreaksText, BreaksAttributeNames, BreaksElementNames, ClassIn}
+use Rattle.rng_rules.specs.plain.Broken.{IsIntactBelow, grammar_broken}
+use Rattle.rng_model.specs.restrictions.Restricted.{IsRestricted}
 use Rattle.rng_rules.specs.declared.broken.Broken.{Broken}
 use Rattle.rng_rules.proofs.Parts as parts
 

@@ -1,17 +1,17 @@
 -- The facts of a pattern decide the clauses of one pattern.
 use Rattle.std.proofs.Common.{◌≡◌, Bool, false, ◌⊎◌, inl, inr, refl, sym, ◌∙◌, ap, Decides, true≢false}
 use Rattle.std.proofs.lemmas.Bool.Decides.{Decides-and, Decides-like}
-use Rattle.rng_model.specs.Tree as tree
-use Rattle.rng_model.specs.Tree.{Simple, s_not_allowed, s_empty, s_text, s_leaf, s_attribute, s_list, s_data, s_data_except, s_value}
-use Rattle.rng_model.specs.Tree.{s_one_or_more, s_joined}
-use Rattle.rng_model.specs.Restrictions as model
-use Rattle.rng_model.specs.Restrictions.{Kind, kind_of, StandsIn, Inside, inside_except, BreaksAttribute, BreaksOneOrMore, BreaksList, BreaksExcept, BreaksStart}
-use Rattle.rng_model.specs.Restrictions.{not_allowed_kind, empty_kind, text_kind, ref_kind, attribute_kind, list_kind, data_kind, value_kind}
-use Rattle.rng_model.specs.Restrictions.{one_or_more_kind, choice_kind, group_kind, interleave_kind}
-use Rattle.rng_model.specs.Restrictions.{BarredFromAttribute, BarredFromList, BarredFromExcept, BarredFromStart}
-use Rattle.rng_rules.specs.Kinds as kinds
-use Rattle.rng_rules.specs.Facts.{inside, somewhere, joins_attribute, barred_from_start}
-use Rattle.rng_rules.specs.Facts.{bad_attribute, bad_one_or_more, bad_list, bad_except}
+use Rattle.rng_model.specs.simple.Tree as tree
+use Rattle.rng_model.specs.simple.Tree.{Simple, s_not_allowed, s_empty, s_text, s_leaf, s_attribute, s_list, s_data, s_data_except, s_value}
+use Rattle.rng_model.specs.simple.Tree.{s_one_or_more, s_joined}
+use Rattle.rng_model.specs.restrictions.Restrictions as model
+use Rattle.rng_model.specs.restrictions.Restrictions.{Kind, kind_of, StandsIn, Inside, inside_except, BreaksAttribute, BreaksOneOrMore, BreaksList, BreaksExcept, BreaksStart}
+use Rattle.rng_model.specs.restrictions.Restrictions.{not_allowed_kind, empty_kind, text_kind, ref_kind, attribute_kind, list_kind, data_kind, value_kind}
+use Rattle.rng_model.specs.restrictions.Restrictions.{one_or_more_kind, choice_kind, group_kind, interleave_kind}
+use Rattle.rng_model.specs.restrictions.Restrictions.{BarredFromAttribute, BarredFromList, BarredFromExcept, BarredFromStart}
+use Rattle.rng_rules.specs.plain.Kinds as kinds
+use Rattle.rng_rules.specs.plain.Facts.{inside, somewhere, joins_attribute, barred_from_start}
+use Rattle.rng_rules.specs.plain.Facts.{bad_attribute, bad_one_or_more, bad_list, bad_except}
 use Rattle.rng_rules.proofs.Standing.{inside-Decides, somewhere-Decides}
 
 -- ---- kinds

@@ -1,17 +1,17 @@
 -- The content type that is found is the one that the pattern has.
 use Rattle.std.proofs.Common.{◌≡◌, ◌≢◌, ℕ, List, Option, Some, None, not, ◌&&◌, refl, sym, ◌∙◌, ap, ap₂, subst, Decides, true≢false}
 use Rattle.std.proofs.lemmas.Bool.Decides.{Decides-and, Decides-like}
-use Rattle.rng_model.specs.Names.{NameClass}
-use Rattle.rng_model.specs.Tree as tree
-use Rattle.rng_model.specs.Tree.{Connector, Simple, s_not_allowed, s_empty, s_text, s_leaf, s_attribute, s_list, s_data, s_data_except, s_value}
-use Rattle.rng_model.specs.Tree.{s_one_or_more, s_joined}
-use Rattle.rng_model.specs.Restrictions as model
-use Rattle.rng_model.specs.Restrictions.{kind_of, HasContent, BreaksContent, AreGroupable, IsNoChoice, grouped, interleaved, empty_first, empty_second, both_complex}
-use Rattle.rng_model.specs.Restrictions.{complex_content, simple_content, greater}
-use Rattle.rng_rules.specs.Kinds.{is_not_allowed}
-use Rattle.rng_rules.specs.Facts as facts
-use Rattle.rng_rules.specs.Facts.{content_of, content_seen, groupable}
-use Rattle.rng_rules.specs.Broken.{has_none}
+use Rattle.rng_model.specs.names.Names.{NameClass}
+use Rattle.rng_model.specs.simple.Tree as tree
+use Rattle.rng_model.specs.simple.Tree.{Connector, Simple, s_not_allowed, s_empty, s_text, s_leaf, s_attribute, s_list, s_data, s_data_except, s_value}
+use Rattle.rng_model.specs.simple.Tree.{s_one_or_more, s_joined}
+use Rattle.rng_model.specs.restrictions.Restrictions as model
+use Rattle.rng_model.specs.restrictions.Restrictions.{kind_of, HasContent, BreaksContent, AreGroupable, IsNoChoice, grouped, interleaved, empty_first, empty_second, both_complex}
+use Rattle.rng_model.specs.restrictions.Restrictions.{complex_content, simple_content, greater}
+use Rattle.rng_rules.specs.plain.Kinds.{is_not_allowed}
+use Rattle.rng_rules.specs.plain.Facts as facts
+use Rattle.rng_rules.specs.plain.Facts.{content_of, content_seen, groupable}
+use Rattle.rng_rules.specs.plain.Broken.{has_none}
 use Rattle.rng_rules.specs.declared.content.ContentType.{ContentType}
 use Rattle.rng_rules.specs.declared.content.ContentType.TheVariants as content
 

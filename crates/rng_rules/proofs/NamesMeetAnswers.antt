@@ -1,21 +1,21 @@
 -- Rows that meet are found in the groups of one name, or have a class that is no name.
 use Rattle.std.proofs.Common.{◌≡◌, refl, ap, sym, ◌∙◌, subst, ℕ, ◌<◌, List, [], length, slice_index_or, Some, None, Option, Contains, inl, inr, arith}
 use Rattle.std.proofs.lemmas.Option.{slice_get_cases, slice_get_within}
-use Rattle.rng_model.specs.Names as names
-use Rattle.rng_model.specs.Names.{Overlap, IsPairOfTexts}
-use Rattle.rng_model.specs.Table.{Table}
-use Rattle.rng_model.specs.View.{class_of, name_of}
+use Rattle.rng_model.specs.names.Names as names
+use Rattle.rng_model.specs.names.Names.{Overlap, IsPairOfTexts}
+use Rattle.rng_model.specs.simple.Table.{Table}
+use Rattle.rng_model.specs.names.NameViews.{class_of, name_of}
 use Rattle.rng_model.specs.declared.name.Name.{Name}
 use Rattle.rng_model.specs.declared.name.NameClass.{NameClass}
 use Rattle.rng_model.specs.declared.name.NameClass.TheVariants as class
-use Rattle.rng_names.specs.PlainNames.{IsPlain}
+use Rattle.rng_names.specs.views.PlainNames.{IsPlain}
 use Rattle.rng_names.proofs.Views.{are_texts, name_class_is}
 use Rattle.rng_rules.specs.declared.names_meet.NamesOf.{NamesOf}
-use Rattle.rng_rules.specs.NamesMeetLabels.{HasName, AreGroups}
-use Rattle.rng_rules.specs.NamesMeetReach.{AreBelow}
-use Rattle.rng_rules.specs.NamesMeetRows.{IsLabelled, class_in}
-use Rattle.rng_rules.specs.NamesMeetSearch.{Meeting}
-use Rattle.rng_rules.specs.NamesMeetSides.{MeetBetween}
+use Rattle.rng_rules.specs.views.NamesMeetLabels.{HasName, AreGroups}
+use Rattle.rng_rules.specs.plain.NamesMeetReach.{AreBelow}
+use Rattle.rng_rules.specs.views.NamesMeetRows.{IsLabelled, class_in}
+use Rattle.rng_rules.specs.views.NamesMeetSearch.{Meeting}
+use Rattle.rng_rules.specs.views.NamesMeetSides.{MeetBetween}
 use Rattle.rng_rules.proofs.NamesMeetQueues.{some_same}
 use Rattle.rng_rules.proofs.NamesMeetSearch.{between_one, between_more, turned}
 

@@ -3,14 +3,14 @@ use Rattle.std.proofs.Common.{◌≡◌, ◌⊎◌, ◌↔◌, inl, inr, refl, a
 use Rattle.std.proofs.Common.{List, [], ◌∷◌, length, slice_get, slice_index_or, Some, None, Option, Contains, arith, ◌==◌, if◌then◌else◌}
 use Rattle.std.proofs.lemmas.Bool.{eqb-true, eq-eqb}
 use Rattle.std.proofs.lemmas.Option.{slice_get_within, get_or_from_slice_get, slice_get-get_or}
-use Rattle.rng_model.specs.Table.{Table, AreChildrenBelow}
+use Rattle.rng_model.specs.simple.Table.{Table, AreChildrenBelow}
 use Rattle.rng_model.specs.declared.simple.Simple.{Simple}
 use Rattle.rng_model.specs.declared.simple.Simple.TheVariants as simple
 use Rattle.rng_rules.specs.declared.names_meet.NamesOf.{NamesOf}
 use Rattle.rng_rules.specs.declared.names_meet.NamesOf.TheVariants as names_of
-use Rattle.rng_rules.specs.NamesMeetReach.{AreBelow, onward}
-use Rattle.rng_rules.specs.NamesMeetRows.{IsAbove, passed, sides_at}
-use Rattle.rng_rules.specs.NamesMeetSides.{Climbs, IsJoin, MeetBetween, AreRowsOf, sides_in, are_marked}
+use Rattle.rng_rules.specs.plain.NamesMeetReach.{AreBelow, onward}
+use Rattle.rng_rules.specs.views.NamesMeetRows.{IsAbove, passed, sides_at}
+use Rattle.rng_rules.specs.views.NamesMeetSides.{Climbs, IsJoin, MeetBetween, AreRowsOf, sides_in, are_marked}
 use Rattle.rng_rules.proofs.NamesMeetQueues.{one_only, not_there}
 use Rattle.rng_rules.proofs.NamesMeetTables.{first_of_two, second_of_two, one_of_two}
 

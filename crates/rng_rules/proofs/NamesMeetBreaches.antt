@@ -3,22 +3,22 @@ use Rattle.std.proofs.Common.{◌≡◌, inl, inr, refl, ap, sym, ◌∙◌, sub
 use Rattle.std.proofs.Common.{arith}
 use Rattle.std.proofs.lemmas.List.{length-map}
 use Rattle.std.proofs.lemmas.Option.{slice_get_cases, slice_get_within, slice_get-map}
-use Rattle.rng_model.specs.Names as names
-use Rattle.rng_model.specs.Names.{Overlap}
-use Rattle.rng_model.specs.Restrictions.{StandsIn, OccursIn, IsPart, ClassIn, IsNoChoice, grouped, interleaved}
-use Rattle.rng_model.specs.Table.{Table, IsTable, Grammar, grammar_of, tree_at, tree_over}
-use Rattle.rng_model.specs.Tree as tree
-use Rattle.rng_model.specs.View.{class_of}
+use Rattle.rng_model.specs.names.Names as names
+use Rattle.rng_model.specs.names.Names.{Overlap}
+use Rattle.rng_model.specs.restrictions.Restrictions.{StandsIn, OccursIn, IsPart, ClassIn, IsNoChoice, grouped, interleaved}
+use Rattle.rng_model.specs.simple.Table.{Table, IsTable, Grammar, grammar_of, tree_at, tree_over}
+use Rattle.rng_model.specs.simple.Tree as tree
+use Rattle.rng_model.specs.names.NameViews.{class_of}
 use Rattle.rng_model.specs.declared.name.NameClass.{NameClass}
 use Rattle.rng_model.specs.declared.simple.Simple.{Simple}
 use Rattle.rng_model.specs.declared.simple.Simple.TheVariants as simple
 use Rattle.rng_rules.specs.declared.names_meet.NamesOf.{NamesOf}
 use Rattle.rng_rules.specs.declared.names_meet.NamesOf.TheVariants as names_of
-use Rattle.rng_rules.specs.NamesMeetReach.{at_start, onward}
-use Rattle.rng_rules.specs.NamesMeetRows.{IsAbove, IsLabelled, class_at, class_in, sides_at}
-use Rattle.rng_rules.specs.NamesMeetLabels.{AreLabels}
-use Rattle.rng_rules.specs.NamesMeetSearch.{Breaks, Meeting}
-use Rattle.rng_rules.specs.NamesMeetSides.{IsJoin}
+use Rattle.rng_rules.specs.plain.NamesMeetReach.{at_start, onward}
+use Rattle.rng_rules.specs.views.NamesMeetRows.{IsAbove, IsLabelled, class_at, class_in, sides_at}
+use Rattle.rng_rules.specs.views.NamesMeetLabels.{AreLabels}
+use Rattle.rng_rules.specs.views.NamesMeetSearch.{Breaks, Meeting}
+use Rattle.rng_rules.specs.views.NamesMeetSides.{IsJoin}
 use Rattle.rng_rules.proofs.NamesMeetBetween.{sides_passed, passed_below}
 use Rattle.rng_rules.proofs.NamesMeetQueues.{some_same}
 use Rattle.rng_rules.proofs.RowPaths.{STree, over, standing_row, in_part, part_row, climbed_occurs, occurring_row}

@@ -9,19 +9,19 @@ use Rattle.std.proofs.lemmas.List.Elements.{Contains-push, Contains-push_cases, 
 use Rattle.std.proofs.lemmas.Option.{slice_get_cases, slice_get_within, get_or_from_slice_get, slice_get-get_or, slice_get-map}
 use Rattle.std.proofs.lemmas.Slice.Eq.{bytes_eq-Decides}
 use Rattle.indexmap.specs.IndexSet.{insert_key}
-use Rattle.rng_model.specs.Names as names
-use Rattle.rng_model.specs.Names.{Overlap}
-use Rattle.rng_model.specs.Table.{Table}
-use Rattle.rng_model.specs.View.{class_of, name_of}
+use Rattle.rng_model.specs.names.Names as names
+use Rattle.rng_model.specs.names.Names.{Overlap}
+use Rattle.rng_model.specs.simple.Table.{Table}
+use Rattle.rng_model.specs.names.NameViews.{class_of, name_of}
 use Rattle.rng_model.specs.declared.name.Name.{Name}
 use Rattle.rng_model.specs.declared.name.NameClass.{NameClass}
 use Rattle.rng_model.specs.declared.name.NameClass.TheVariants as class
 use Rattle.rng_rules.specs.declared.names_meet.NamesOf.{NamesOf}
 use Rattle.rng_rules.specs.declared.names_meet_groups.PlainName.{PlainName}
 use Rattle.rng_rules.specs.contracts.names_meet_groups.PlainNamePartialEq.TheImpl as same
-use Rattle.rng_rules.specs.NamesMeetLabels.{AreLabels, judged_class, label_list, plain_name_of, HasName, AreApart, AreGroups}
-use Rattle.rng_rules.specs.NamesMeetRows.{class_in}
-use Rattle.rng_rules.specs.NamesMeetSides.{IsUnder}
+use Rattle.rng_rules.specs.views.NamesMeetLabels.{AreLabels, judged_class, label_list, plain_name_of, HasName, AreApart, AreGroups}
+use Rattle.rng_rules.specs.views.NamesMeetRows.{class_in}
+use Rattle.rng_rules.specs.views.NamesMeetSides.{IsUnder}
 use Rattle.rng_rules.proofs.NamesMeetBetween.{at_marked}
 use Rattle.rng_rules.proofs.NamesMeetQueues.{one_only, not_there, some_same}
 

@@ -4,13 +4,13 @@ use Rattle.std.proofs.Common.{List, [], ◌∷◌, length, slice_index_or, Conta
 use Rattle.std.proofs.lemmas.Bool.{cases_eq, eq-eqb}
 use Rattle.std.proofs.lemmas.List.{get_or-set_same, get_or-set_other, length-set}
 use Rattle.std.proofs.lemmas.Option.{slice_get_within}
-use Rattle.rng_model.specs.Table.{Table, Falls}
+use Rattle.rng_model.specs.simple.Table.{Table, Falls}
 use Rattle.rng_rules.specs.declared.names_meet.NamesOf.{NamesOf}
 use Rattle.rng_rules.specs.declared.names_meet_sides.Rows as declared
-use Rattle.rng_rules.specs.NamesMeetHeads.{AreHeads, AreHeadsFrom, IsHead, IsOnlyAbove, are_equal}
-use Rattle.rng_rules.specs.NamesMeetReach.{at_start, onward, lists}
-use Rattle.rng_rules.specs.NamesMeetRows.{IsAbove}
-use Rattle.rng_rules.specs.NamesMeetSides.{AreRows, Climbs, IsJoin, MeetBetween, row_sides}
+use Rattle.rng_rules.specs.views.NamesMeetHeads.{AreHeads, AreHeadsFrom, IsHead, IsOnlyAbove, are_equal}
+use Rattle.rng_rules.specs.plain.NamesMeetReach.{at_start, onward, lists}
+use Rattle.rng_rules.specs.views.NamesMeetRows.{IsAbove}
+use Rattle.rng_rules.specs.views.NamesMeetSides.{AreRows, Climbs, IsJoin, MeetBetween, row_sides}
 use Rattle.rng_rules.proofs.NamesMeetBetween.{join_sides, passed_below, sides_passed}
 use Rattle.rng_rules.proofs.NamesMeetQueues.{one_only}
 

@@ -2,13 +2,13 @@
 use Rattle.std.proofs.Common.{◌≡◌, inl, inr, refl, ap, sym, ◌∙◌, subst, ℕ, ◌+◌, ◌<◌, List, [], ◌∷◌, ◌++◌, length, Some, None, Option, All, Contains, arith}
 use Rattle.std.proofs.lemmas.Bool.{cases_eq}
 use Rattle.std.proofs.lemmas.List.Elements.{All-append, All-same, Contains-append_left, Contains-append_right}
-use Rattle.rng_model.specs.Table.{Table, IsTable}
+use Rattle.rng_model.specs.simple.Table.{Table, IsTable}
 use Rattle.rng_model.specs.declared.simple.Simple.{Simple}
 use Rattle.rng_model.specs.declared.simple.Simple.TheVariants as simple
 use Rattle.rng_rules.specs.declared.names_meet_sides.Rows as declared
-use Rattle.rng_rules.specs.NamesMeetReach.{IsReachedBy, at_start, onward, lists}
-use Rattle.rng_rules.specs.NamesMeetRows.{IsAbove, children, children_at, passed}
-use Rattle.rng_rules.specs.NamesMeetSides.{AreRows, Climbs, IsJoin, join_list, row_sides}
+use Rattle.rng_rules.specs.plain.NamesMeetReach.{IsReachedBy, at_start, onward, lists}
+use Rattle.rng_rules.specs.views.NamesMeetRows.{IsAbove, children, children_at, passed}
+use Rattle.rng_rules.specs.views.NamesMeetSides.{AreRows, Climbs, IsJoin, join_list, row_sides}
 use Rattle.rng_rules.proofs.NamesMeetBetween.{join_sides}
 use Rattle.rng_rules.proofs.NamesMeetQueues.{All-from_contains, one_only, not_there}
 use Rattle.rng_rules.proofs.RowPaths.{children_of}

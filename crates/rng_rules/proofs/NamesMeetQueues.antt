@@ -6,7 +6,7 @@ use Rattle.std.proofs.lemmas.List.{take_more, take_all, get_or_append_left, get_
 use Rattle.std.proofs.lemmas.List.Elements.{All-append, All-contains, All-same, Contains-append_left, Contains-append_right, Contains-append_cases}
 use Rattle.std.proofs.lemmas.List.Elements.{Contains-push, Contains-push_cases, Contains-get_or}
 use Rattle.std.proofs.lemmas.Option.{slice_get_cases, slice_get_within, get_or_from_slice_get, slice_get-get_or}
-use Rattle.rng_rules.specs.NamesMeetReach.{IsReachedBy, at_start, onward, IsQueue, Without, none, marked, unmarked, IsMarked, Adds}
+use Rattle.rng_rules.specs.plain.NamesMeetReach.{IsReachedBy, at_start, onward, IsQueue, Without, none, marked, unmarked, IsMarked, Adds}
 
 -- ---- lists
 

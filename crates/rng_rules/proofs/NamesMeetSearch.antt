@@ -4,15 +4,15 @@ use Rattle.std.proofs.Common.{List, [], ◌∷◌, ◌++◌, length, slice_index
 use Rattle.std.proofs.lemmas.Bool.{cases_lt}
 use Rattle.std.proofs.lemmas.List.{get_or-map}
 use Rattle.std.proofs.lemmas.List.Elements.{Contains-push_cases}
-use Rattle.rng_model.specs.Names.{Overlap}
-use Rattle.rng_model.specs.Table.{Table}
-use Rattle.rng_model.specs.View.{class_of}
+use Rattle.rng_model.specs.names.Names.{Overlap}
+use Rattle.rng_model.specs.simple.Table.{Table}
+use Rattle.rng_model.specs.names.NameViews.{class_of}
 use Rattle.rng_model.specs.declared.name.NameClass.{NameClass}
-use Rattle.rng_names.specs.PlainNames.{IsPlain}
+use Rattle.rng_names.specs.views.PlainNames.{IsPlain}
 use Rattle.rng_rules.specs.declared.names_meet.NamesOf.{NamesOf}
-use Rattle.rng_rules.specs.NamesMeetReach.{AreBelow, at_start, onward, lists}
-use Rattle.rng_rules.specs.NamesMeetSearch.{Meeting}
-use Rattle.rng_rules.specs.NamesMeetSides.{Climbs, MeetBetween}
+use Rattle.rng_rules.specs.plain.NamesMeetReach.{AreBelow, at_start, onward, lists}
+use Rattle.rng_rules.specs.views.NamesMeetSearch.{Meeting}
+use Rattle.rng_rules.specs.views.NamesMeetSides.{Climbs, MeetBetween}
 use Rattle.rng_rules.proofs.NamesMeetQueues.{All-from_contains, one_only}
 
 pub if_ok : {A E : Type 0} {P Q : A → Type 0} (r : Result A E) → ((x : A) → P x → Q x) → IfOk r P → IfOk r Q

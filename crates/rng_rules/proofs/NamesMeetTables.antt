@@ -9,10 +9,10 @@ use Rattle.rng_model.specs.declared.simple.Simple.{Simple}
 use Rattle.rng_model.specs.declared.simple.Simple.TheVariants as simple
 use Rattle.rng_model.specs.declared.simple.PatternId.{PatternId}
 use Rattle.rng_model.specs.declared.name.NameClass.{NameClass}
-use Rattle.rng_model.specs.Table.{AreChildrenBelow, Falls, IsTable, Table}
+use Rattle.rng_model.specs.simple.Table.{AreChildrenBelow, Falls, IsTable, Table}
 use Rattle.rng_model.proofs.MadeLists.{past_end}
-use Rattle.rng_rules.specs.NamesMeetReach.{AreBelow}
-use Rattle.rng_rules.specs.NamesMeetRows.{IsAbove, Passes, children, part_rows, passed}
+use Rattle.rng_rules.specs.plain.NamesMeetReach.{AreBelow}
+use Rattle.rng_rules.specs.views.NamesMeetRows.{IsAbove, Passes, children, part_rows, passed}
 use Rattle.rng_rules.proofs.NamesMeetQueues.{All-from_contains, one_only, not_there, some_same}
 
 pub on_ok : {A E : Type 0} {P Q : Type 0} (r : Result A E) → (P → Q) → OnOk r P → OnOk r Q

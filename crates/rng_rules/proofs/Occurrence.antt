@@ -1,15 +1,15 @@
 -- Wildcards outside oneOrMores, and text on both sides of an interleave.
 use Rattle.std.proofs.Common.{◌≡◌, false, ◌⊎◌, inl, inr, refl, sym, ◌∙◌, ap, subst, Decides, true≢false}
 use Rattle.std.proofs.lemmas.Bool.Decides.{Decides-and, Decides-or, Decides-like}
-use Rattle.rng_model.specs.Names.{NameClass}
-use Rattle.rng_model.specs.Tree as tree
-use Rattle.rng_model.specs.Tree.{Connector, Simple, s_not_allowed, s_empty, s_text, s_leaf, s_attribute, s_list, s_data, s_data_except, s_value}
-use Rattle.rng_model.specs.Tree.{s_one_or_more, s_joined}
-use Rattle.rng_model.specs.Restrictions.{HasWildcard, BreaksWildcard, StandsUnrepeated, unrepeated_itself, unrepeated_in_attribute, unrepeated_in_list}
-use Rattle.rng_model.specs.Restrictions.{unrepeated_in_except, unrepeated_in_left, unrepeated_in_right}
-use Rattle.rng_model.specs.Restrictions.{StandsIn, kind_of, OccursIn, occurs_itself, occurs_repeated, occurs_left, occurs_right, BreaksText}
-use Rattle.rng_rules.specs.Kinds.{is_interleave}
-use Rattle.rng_rules.specs.Facts.{unrepeated_wildcard, text_occurs, bad_text, somewhere}
+use Rattle.rng_model.specs.names.Names.{NameClass}
+use Rattle.rng_model.specs.simple.Tree as tree
+use Rattle.rng_model.specs.simple.Tree.{Connector, Simple, s_not_allowed, s_empty, s_text, s_leaf, s_attribute, s_list, s_data, s_data_except, s_value}
+use Rattle.rng_model.specs.simple.Tree.{s_one_or_more, s_joined}
+use Rattle.rng_model.specs.restrictions.Restrictions.{HasWildcard, BreaksWildcard, StandsUnrepeated, unrepeated_itself, unrepeated_in_attribute, unrepeated_in_list}
+use Rattle.rng_model.specs.restrictions.Restrictions.{unrepeated_in_except, unrepeated_in_left, unrepeated_in_right}
+use Rattle.rng_model.specs.restrictions.Restrictions.{StandsIn, kind_of, OccursIn, occurs_itself, occurs_repeated, occurs_left, occurs_right, BreaksText}
+use Rattle.rng_rules.specs.plain.Kinds.{is_interleave}
+use Rattle.rng_rules.specs.plain.Facts.{unrepeated_wildcard, text_occurs, bad_text, somewhere}
 use Rattle.rng_rules.proofs.Standing.{none, somewhere-Decides}
 use Rattle.rng_rules.proofs.Wildcards.{has_wildcard-Decides}
 

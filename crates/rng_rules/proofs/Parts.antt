@@ -1,14 +1,14 @@
 -- The clauses that are found broken of the parts of a grammar are those that it breaks.
 use Rattle.std.proofs.Common.{◌≡◌, ℕ, List, [], ◌∷◌, map, fold, Bool, ◌||◌, ◌⊎◌, inl, inr, refl, Decides}
 use Rattle.std.proofs.lemmas.Bool.Decides.{Decides-or, Decides-like, Decides-at}
-use Rattle.rng_model.specs.Lists.{Among, here, there}
-use Rattle.rng_model.specs.Names.{NameClass}
-use Rattle.rng_model.specs.Table.{Grammar}
-use Rattle.rng_model.specs.Tree.{Simple}
-use Rattle.rng_model.specs.Restrictions.{IsPart, the_start, a_body, BreaksAttribute, BreaksOneOrMore, BreaksList, BreaksExcept, BreaksStart, BreaksContent}
-use Rattle.rng_model.specs.Restrictions.{BreaksWildcard, BreaksText}
-use Rattle.rng_rules.specs.Broken.{either_broken, body_broken, start_broken, grammar_broken}
-use Rattle.rng_rules.specs.Facts.{facts_of}
+use Rattle.rng_model.specs.names.Lists.{Among, here, there}
+use Rattle.rng_model.specs.names.Names.{NameClass}
+use Rattle.rng_model.specs.simple.Table.{Grammar}
+use Rattle.rng_model.specs.simple.Tree.{Simple}
+use Rattle.rng_model.specs.restrictions.Restrictions.{IsPart, the_start, a_body, BreaksAttribute, BreaksOneOrMore, BreaksList, BreaksExcept, BreaksStart, BreaksContent}
+use Rattle.rng_model.specs.restrictions.Restrictions.{BreaksWildcard, BreaksText}
+use Rattle.rng_rules.specs.plain.Broken.{either_broken, body_broken, start_broken, grammar_broken}
+use Rattle.rng_rules.specs.plain.Facts.{facts_of}
 use Rattle.rng_rules.specs.declared.broken.Broken.{Broken}
 use Rattle.rng_rules.proofs.Clauses.{breaks_attribute, breaks_one_or_more, breaks_list, breaks_except, breaks_start}
 use Rattle.rng_rules.proofs.ContentTypes.{breaks_content}

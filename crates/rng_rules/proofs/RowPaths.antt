@@ -4,20 +4,20 @@ use Rattle.std.proofs.Common.{slice_get, Some, option_map, Contains, arith}
 use Rattle.std.proofs.lemmas.List.{get_or-map, length-map}
 use Rattle.std.proofs.lemmas.List.Elements.{All-contains, Contains-append_left, Contains-push, Contains-push_cases}
 use Rattle.std.proofs.lemmas.Option.{slice_get_cases, slice_get_within, get_or_from_slice_get, slice_get-map}
-use Rattle.rng_model.specs.Lists.{Among, here, there}
-use Rattle.rng_model.specs.Names as names
-use Rattle.rng_model.specs.Tree as tree
-use Rattle.rng_model.specs.View.{class_of}
-use Rattle.rng_model.specs.Table.{Table, IsTable, AreChildrenBelow, grammar_of, tree_at, tree_over}
-use Rattle.rng_model.specs.Restrictions.{StandsIn, itself, in_attribute, in_list, in_except, in_one_or_more, in_left, in_right}
-use Rattle.rng_model.specs.Restrictions.{Inside, inside_attribute, inside_list, inside_except, inside_one_or_more, inside_left, inside_right}
-use Rattle.rng_model.specs.Restrictions.{OccursIn, occurs_itself, occurs_repeated, occurs_left, occurs_right, IsPart, the_start, a_body}
+use Rattle.rng_model.specs.names.Lists.{Among, here, there}
+use Rattle.rng_model.specs.names.Names as names
+use Rattle.rng_model.specs.simple.Tree as tree
+use Rattle.rng_model.specs.names.NameViews.{class_of}
+use Rattle.rng_model.specs.simple.Table.{Table, IsTable, AreChildrenBelow, grammar_of, tree_at, tree_over}
+use Rattle.rng_model.specs.restrictions.Restrictions.{StandsIn, itself, in_attribute, in_list, in_except, in_one_or_more, in_left, in_right}
+use Rattle.rng_model.specs.restrictions.Restrictions.{Inside, inside_attribute, inside_list, inside_except, inside_one_or_more, inside_left, inside_right}
+use Rattle.rng_model.specs.restrictions.Restrictions.{OccursIn, occurs_itself, occurs_repeated, occurs_left, occurs_right, IsPart, the_start, a_body}
 use Rattle.rng_model.specs.declared.simple.Simple.{Simple}
 use Rattle.rng_model.specs.declared.simple.Simple.TheVariants as simple
 use Rattle.rng_model.proofs.Table.{tree_at-over_children}
-use Rattle.rng_rules.specs.NamesMeetReach.{IsReachedBy, at_start, onward}
-use Rattle.rng_rules.specs.NamesMeetRows.{IsAbove, children, children_at, part_rows, passed}
-use Rattle.rng_rules.specs.NamesMeetSides.{Climbs}
+use Rattle.rng_rules.specs.plain.NamesMeetReach.{IsReachedBy, at_start, onward}
+use Rattle.rng_rules.specs.views.NamesMeetRows.{IsAbove, children, children_at, part_rows, passed}
+use Rattle.rng_rules.specs.views.NamesMeetSides.{Climbs}
 use Rattle.rng_rules.proofs.NamesMeetQueues.{one_only, not_there, some_same, some_at, contains_at}
 use Rattle.rng_rules.proofs.NamesMeetTables.{one_of_two, children_below}
 

@@ -1,11 +1,11 @@
 -- The tests of what stands in a pattern answer by the definitions.
 use Rattle.std.proofs.Common.{Bool, false, ◌⊎◌, inl, inr, sym, Decides, true≢false}
 use Rattle.std.proofs.lemmas.Bool.Decides.{Decides-or, Decides-like}
-use Rattle.rng_model.specs.Tree.{Simple, s_not_allowed, s_empty, s_text, s_leaf, s_attribute, s_list, s_data, s_data_except, s_value}
-use Rattle.rng_model.specs.Tree.{s_one_or_more, s_joined}
-use Rattle.rng_model.specs.Restrictions.{StandsIn, itself, in_attribute, in_list, in_except, in_one_or_more, in_left, in_right}
-use Rattle.rng_model.specs.Restrictions.{Inside, inside_attribute, inside_list, inside_except, inside_one_or_more, inside_left, inside_right}
-use Rattle.rng_rules.specs.Facts.{inside, somewhere}
+use Rattle.rng_model.specs.simple.Tree.{Simple, s_not_allowed, s_empty, s_text, s_leaf, s_attribute, s_list, s_data, s_data_except, s_value}
+use Rattle.rng_model.specs.simple.Tree.{s_one_or_more, s_joined}
+use Rattle.rng_model.specs.restrictions.Restrictions.{StandsIn, itself, in_attribute, in_list, in_except, in_one_or_more, in_left, in_right}
+use Rattle.rng_model.specs.restrictions.Restrictions.{Inside, inside_attribute, inside_list, inside_except, inside_one_or_more, inside_left, inside_right}
+use Rattle.rng_rules.specs.plain.Facts.{inside, somewhere}
 
 pub none : {P : Type 0} → (P → ⊥) → Decides false P
 none not = (λ e. elim (true≢false (sym e)) [ ], λ p. elim (not p) [ ])

@@ -1,11 +1,2 @@
-pub mod Kinds
-pub mod Facts
-pub mod FactsOver
-pub mod Broken
-pub mod Restricted
-pub mod NamesMeetReach
-pub mod NamesMeetRows
-pub mod NamesMeetSides
-pub mod NamesMeetHeads
-pub mod NamesMeetLabels
-pub mod NamesMeetSearch
+pub mod plain
+pub mod views

@@ -1,11 +1,11 @@
 // Which clauses the parts of a grammar break, of those that each part breaks by itself.
 ghost use Rattle.std.specs.Prelude.{All, MatchOption, ◌≡◌, ◌<◌, ℕ, length, map, IfOk};
-ghost use Rattle.rng_model.specs.Restrictions.{IsLeastRestriction};
-ghost use Rattle.rng_model.specs.Table.{Grammar, grammar_of};
-ghost use Rattle.rng_model.specs.Tree as tree;
+ghost use Rattle.rng_model.specs.restrictions.Restrictions.{IsLeastRestriction};
+ghost use Rattle.rng_model.specs.simple.Table.{Grammar, grammar_of};
+ghost use Rattle.rng_model.specs.simple.Tree as tree;
 ghost use Rattle.rng_model.specs.declared.simple.PatternId.{PatternId};
-ghost use Rattle.rng_rules.specs.Broken.{IsIntactBelow, body_broken, either_broken, grammar_broken, part_broken, parts_broken, start_broken};
-ghost use Rattle.rng_rules.specs.Facts.{HasFacts, facts_of};
+ghost use Rattle.rng_rules.specs.plain.Broken.{IsIntactBelow, body_broken, either_broken, grammar_broken, part_broken, parts_broken, start_broken};
+ghost use Rattle.rng_rules.specs.plain.Facts.{HasFacts, facts_of};
 
 use crate::facts::{Facts, facts_of};
 use rng_model::{ElementId, OutOfMemory, PatternId, SimpleGrammar};

@@ -1,6 +1,6 @@
 // Content types.
 ghost use Rattle.std.specs.Prelude.{◌≡◌};
-ghost use Rattle.rng_rules.specs.Facts as facts;
+ghost use Rattle.rng_rules.specs.plain.Facts as facts;
 
 /// What the content of an element is made of; the later of two is the greater.
 ///

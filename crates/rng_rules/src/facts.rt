@@ -1,12 +1,12 @@
 // What is known of each pattern of a grammar.
 ghost use Rattle.std.specs.Prelude.{◌≡◌, ℕ, length, IfOk};
-ghost use Rattle.rng_model.specs.Table.{AreChildrenBelow, tree_at, tree_over};
-ghost use Rattle.rng_model.specs.Tree as tree;
-ghost use Rattle.rng_model.specs.View.{class_of};
+ghost use Rattle.rng_model.specs.simple.Table.{AreChildrenBelow, tree_at, tree_over};
+ghost use Rattle.rng_model.specs.simple.Tree as tree;
+ghost use Rattle.rng_model.specs.names.NameViews.{class_of};
 ghost use Rattle.rng_model.specs.declared.simple.PatternId.{PatternId};
-ghost use Rattle.rng_rules.specs.FactsOver as over;
-ghost use Rattle.rng_rules.specs.Facts.{HasFacts, facts_of};
-ghost use Rattle.rng_rules.specs.Kinds.{kind_seen};
+ghost use Rattle.rng_rules.specs.plain.FactsOver as over;
+ghost use Rattle.rng_rules.specs.plain.Facts.{HasFacts, facts_of};
+ghost use Rattle.rng_rules.specs.plain.Kinds.{kind_seen};
 
 use crate::content::{ContentType, of_attribute, of_both, of_either};
 use crate::held::{Held, held_by_either, held_by_none, held_with};

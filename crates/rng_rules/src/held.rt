@@ -1,8 +1,8 @@
 // What stands in a pattern.
 ghost use Rattle.std.specs.Prelude.{◌≡◌};
-ghost use Rattle.rng_rules.specs.Facts.{nothing_held};
-ghost use Rattle.rng_rules.specs.FactsOver.{either_held, held_with};
-ghost use Rattle.rng_rules.specs.Kinds.{kind_seen};
+ghost use Rattle.rng_rules.specs.plain.Facts.{nothing_held};
+ghost use Rattle.rng_rules.specs.plain.FactsOver.{either_held, held_with};
+ghost use Rattle.rng_rules.specs.plain.Kinds.{kind_seen};
 
 use crate::kind::{
     Kind, is_barred_from_attribute, is_barred_from_except, is_barred_from_list,

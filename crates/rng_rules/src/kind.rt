@@ -1,11 +1,11 @@
 // Kinds of pattern, and where each is barred.
 ghost use Rattle.std.specs.Prelude.{◌≡◌, ℕ};
-ghost use Rattle.rng_model.specs.Restrictions.{kind_of};
-ghost use Rattle.rng_model.specs.Table.{tree_over};
-ghost use Rattle.rng_model.specs.Tree as tree;
+ghost use Rattle.rng_model.specs.restrictions.Restrictions.{kind_of};
+ghost use Rattle.rng_model.specs.simple.Table.{tree_over};
+ghost use Rattle.rng_model.specs.simple.Tree as tree;
 ghost use Rattle.rng_model.specs.declared.simple.PatternId.{PatternId};
-ghost use Rattle.rng_rules.specs.Kinds as kinds;
-ghost use Rattle.rng_rules.specs.Kinds.{kind_seen};
+ghost use Rattle.rng_rules.specs.plain.Kinds as kinds;
+ghost use Rattle.rng_rules.specs.plain.Kinds.{kind_seen};
 
 use rng_model::Simple;
 

@@ -1,10 +1,10 @@
 // Whose names must not meet: attributes in groups and interleaves, elements in interleaves.
 ghost use Rattle.std.specs.Prelude.{◌≡◌, ℕ, option_copied, IfOk, IsTrue};
-ghost use Rattle.rng_model.specs.Restrictions.{BreaksAttributeNames, BreaksElementNames, ClassIn, IsPart};
-ghost use Rattle.rng_model.specs.Table.{grammar_of};
-ghost use Rattle.rng_model.specs.Tree as tree;
-ghost use Rattle.rng_rules.specs.NamesMeetRows.{class_at, sides_at};
-ghost use Rattle.rng_rules.specs.NamesMeetSearch.{Breaks};
+ghost use Rattle.rng_model.specs.restrictions.Restrictions.{BreaksAttributeNames, BreaksElementNames, ClassIn, IsPart};
+ghost use Rattle.rng_model.specs.simple.Table.{grammar_of};
+ghost use Rattle.rng_model.specs.simple.Tree as tree;
+ghost use Rattle.rng_rules.specs.views.NamesMeetRows.{class_at, sides_at};
+ghost use Rattle.rng_rules.specs.views.NamesMeetSearch.{Breaks};
 
 use crate::names_meet_groups::name_groups;
 use crate::names_meet_labels::labels;

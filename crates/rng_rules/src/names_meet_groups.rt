@@ -1,10 +1,10 @@
 // The rows that have one name for a class, by name.
 ghost use Rattle.std.specs.Prelude.{◌≡◌, ◌↔◌, ◌+◌, ◌<◌, ◌≤◌, ◌++◌, ◌∷◌, [], ℕ, List, Some, length, map, slice_get, slice_index_or, Contains, IfOk, OnOk};
-ghost use Rattle.rng_model.specs.Names as names;
+ghost use Rattle.rng_model.specs.names.Names as names;
 ghost use Rattle.rng_model.specs.declared.name.NameClass.{NameClass};
 ghost use Rattle.rng_model.specs.declared.name.NameClass.TheVariants as class;
-ghost use Rattle.rng_rules.specs.NamesMeetLabels.{AreApart, AreGroups, label_of, plain_name_of};
-ghost use Rattle.rng_rules.specs.NamesMeetReach.{lists};
+ghost use Rattle.rng_rules.specs.views.NamesMeetLabels.{AreApart, AreGroups, label_of, plain_name_of};
+ghost use Rattle.rng_rules.specs.plain.NamesMeetReach.{lists};
 
 use crate::names_meet_labels::Label;
 use crate::names_meet_rows::add_above;

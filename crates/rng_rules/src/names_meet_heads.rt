@@ -1,8 +1,8 @@
 // Rows from which a search for a row that meets itself may as well begin.
 ghost use Rattle.std.specs.Prelude.{◌≡◌, ◌<◌, ◌+◌, ◌==◌, ℕ, length, IfOk, IfSome};
-ghost use Rattle.rng_rules.specs.NamesMeetHeads.{AreHeads, AreHeadsFrom, IsHead, IsOnlyAbove, are_equal};
-ghost use Rattle.rng_rules.specs.NamesMeetReach.{lists};
-ghost use Rattle.rng_rules.specs.NamesMeetSides.{AreRows, row_sides};
+ghost use Rattle.rng_rules.specs.views.NamesMeetHeads.{AreHeads, AreHeadsFrom, IsHead, IsOnlyAbove, are_equal};
+ghost use Rattle.rng_rules.specs.plain.NamesMeetReach.{lists};
+ghost use Rattle.rng_rules.specs.views.NamesMeetSides.{AreRows, row_sides};
 
 use crate::names_meet_rows::no_marks;
 use crate::names_meet_sides::Rows;

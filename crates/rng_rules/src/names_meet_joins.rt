@@ -1,7 +1,7 @@
 // The rows that stand in those between whose sides names must not meet.
 ghost use Rattle.std.specs.Prelude.{◌≡◌, ◌<◌, ◌++◌, ℕ, length, slice_get, All, Contains, IfOk, OnOk, Some};
-ghost use Rattle.rng_rules.specs.NamesMeetReach.{lists};
-ghost use Rattle.rng_rules.specs.NamesMeetSides.{AreRows, IsJoin, IsUnder, join_list, row_sides};
+ghost use Rattle.rng_rules.specs.plain.NamesMeetReach.{lists};
+ghost use Rattle.rng_rules.specs.views.NamesMeetSides.{AreRows, IsJoin, IsUnder, join_list, row_sides};
 
 use crate::names_meet_rows::within;
 use crate::names_meet_sides::Rows;

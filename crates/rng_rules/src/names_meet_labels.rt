@@ -1,11 +1,11 @@
 // The rows of a grammar that have name classes, and which of them have names in common with a class.
 ghost use Rattle.std.specs.Prelude.{◌≡◌, ◌<◌, ◌⊎◌, ◌↔◌, ◌++◌, ℕ, length, map, option_copied, Contains, IfOk, OnOk};
-ghost use Rattle.rng_model.specs.Names.{Overlap};
-ghost use Rattle.rng_model.specs.View.{class_of};
+ghost use Rattle.rng_model.specs.names.Names.{Overlap};
+ghost use Rattle.rng_model.specs.names.NameViews.{class_of};
 ghost use Rattle.rng_model.specs.declared.name.NameClass.{NameClass};
-ghost use Rattle.rng_rules.specs.NamesMeetLabels.{AreLabels, judged_class, label_list, label_of};
-ghost use Rattle.rng_rules.specs.NamesMeetReach.{lists};
-ghost use Rattle.rng_rules.specs.NamesMeetSides.{AreRows};
+ghost use Rattle.rng_rules.specs.views.NamesMeetLabels.{AreLabels, judged_class, label_list, label_of};
+ghost use Rattle.rng_rules.specs.plain.NamesMeetReach.{lists};
+ghost use Rattle.rng_rules.specs.views.NamesMeetSides.{AreRows};
 
 use crate::names_meet_joins::under_joins;
 use crate::names_meet_sides::Rows;

@@ -1,6 +1,6 @@
 // What is reached from numbers by going on, marked with the number of the round.
 ghost use Rattle.std.specs.Prelude.{◌≡◌, ◌<◌, ◌≤◌, ◌↔◌, ℕ, [], ◌∷◌, length, slice_get, slice_index_or, All, Contains, IfOk, OnOk, Some};
-ghost use Rattle.rng_rules.specs.NamesMeetReach.{Adds, AreBelow, IsMarked, IsReachedBy, lists};
+ghost use Rattle.rng_rules.specs.plain.NamesMeetReach.{Adds, AreBelow, IsMarked, IsReachedBy, lists};
 
 use rng_model::OutOfMemory;
 use std::alloc::Global;

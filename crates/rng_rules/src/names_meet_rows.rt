@@ -1,8 +1,8 @@
 // What stands in the rows of a grammar, and what they occur in.
 ghost use Rattle.std.specs.Prelude.{◌≡◌, ◌<◌, ◌⊎◌, ◌↔◌, ℕ, [], ◌∷◌, length, map, slice_get, slice_index_or, All, Contains, IfOk, OnOk, Some};
-ghost use Rattle.rng_model.specs.Table.{AreChildrenBelow};
-ghost use Rattle.rng_rules.specs.NamesMeetReach.{IsReachedBy, lists};
-ghost use Rattle.rng_rules.specs.NamesMeetRows.{IsAbove, children, children_at, part_rows, passed};
+ghost use Rattle.rng_model.specs.simple.Table.{AreChildrenBelow};
+ghost use Rattle.rng_rules.specs.plain.NamesMeetReach.{IsReachedBy, lists};
+ghost use Rattle.rng_rules.specs.views.NamesMeetRows.{IsAbove, children, children_at, part_rows, passed};
 
 use crate::names_meet_reach::reach;
 use rng_model::{ElementId, OutOfMemory, PatternId, Simple, SimpleGrammar};

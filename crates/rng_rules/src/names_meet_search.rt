@@ -1,14 +1,14 @@
 // The search for rows whose names meet.
 ghost use Rattle.std.specs.Prelude.{◌≡◌, ◌<◌, ◌+◌, ◌∷◌, [], ◌↔◌, ℕ, length, map, slice_index_or, All, Contains, IfOk, OnOk, IsTrue, IsFalse};
-ghost use Rattle.rng_model.specs.Names.{Overlap};
-ghost use Rattle.rng_model.specs.View.{class_of};
+ghost use Rattle.rng_model.specs.names.Names.{Overlap};
+ghost use Rattle.rng_model.specs.names.NameViews.{class_of};
 ghost use Rattle.rng_model.specs.declared.name.NameClass.{NameClass};
-ghost use Rattle.rng_names.specs.PlainNames.{IsPlain};
-ghost use Rattle.rng_rules.specs.NamesMeetLabels.{label_of};
-ghost use Rattle.rng_rules.specs.NamesMeetHeads.{AreHeads};
-ghost use Rattle.rng_rules.specs.NamesMeetReach.{AreBelow, lists};
-ghost use Rattle.rng_rules.specs.NamesMeetSearch.{Meeting};
-ghost use Rattle.rng_rules.specs.NamesMeetSides.{AreMarks, AreRows, MeetBetween};
+ghost use Rattle.rng_names.specs.views.PlainNames.{IsPlain};
+ghost use Rattle.rng_rules.specs.views.NamesMeetLabels.{label_of};
+ghost use Rattle.rng_rules.specs.views.NamesMeetHeads.{AreHeads};
+ghost use Rattle.rng_rules.specs.plain.NamesMeetReach.{AreBelow, lists};
+ghost use Rattle.rng_rules.specs.views.NamesMeetSearch.{Meeting};
+ghost use Rattle.rng_rules.specs.views.NamesMeetSides.{AreMarks, AreRows, MeetBetween};
 
 use crate::names_meet_heads::heads;
 use crate::names_meet_labels::{Label, overlapping};

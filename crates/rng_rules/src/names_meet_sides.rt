@@ -1,7 +1,7 @@
 // Whether what is reached from two lists of rows stands on the two sides of a row.
 ghost use Rattle.std.specs.Prelude.{◌≡◌, ◌<◌, ◌+◌, ℕ, length, All, Contains, IfOk, OnOk, IfSome, IsTrue, IsFalse, true};
-ghost use Rattle.rng_rules.specs.NamesMeetReach.{AreBelow, lists};
-ghost use Rattle.rng_rules.specs.NamesMeetSides.{AreMarks, AreRows, MeetBetween, are_marked, row_sides};
+ghost use Rattle.rng_rules.specs.plain.NamesMeetReach.{AreBelow, lists};
+ghost use Rattle.rng_rules.specs.views.NamesMeetSides.{AreMarks, AreRows, MeetBetween, are_marked, row_sides};
 
 use crate::names_meet::NamesOf;
 use crate::names_meet_reach::reach;

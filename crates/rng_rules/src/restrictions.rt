@@ -1,8 +1,8 @@
 // The restrictions, judged.
 ghost use Rattle.std.specs.Prelude.{MatchOption, IfErr, IfOk, OnOk};
-ghost use Rattle.rng_model.specs.Restrictions.{IsLeastRestriction};
-ghost use Rattle.rng_model.specs.Table.{grammar_of};
-ghost use Rattle.rng_rules.specs.Restricted.{IsRestricted, IsRestrictionFault};
+ghost use Rattle.rng_model.specs.restrictions.Restrictions.{IsLeastRestriction};
+ghost use Rattle.rng_model.specs.simple.Table.{grammar_of};
+ghost use Rattle.rng_model.specs.restrictions.Restricted.{IsRestricted, IsRestrictionFault};
 
 use crate::broken::broken_in;
 use crate::names_meet::{attribute_names_meet, element_names_meet};

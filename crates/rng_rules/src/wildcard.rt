@@ -1,7 +1,7 @@
 // Wildcards in name classes.
 ghost use Rattle.std.specs.Prelude.{◌≡◌};
-ghost use Rattle.rng_model.specs.View.{class_of};
-ghost use Rattle.rng_rules.specs.Facts as facts;
+ghost use Rattle.rng_model.specs.names.NameViews.{class_of};
+ghost use Rattle.rng_rules.specs.plain.Facts as facts;
 
 use rng_model::NameClass;
 

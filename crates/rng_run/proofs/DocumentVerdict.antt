@@ -2,33 +2,34 @@
 use Rattle.std.proofs.Common.{◌≡◌, ◌↔◌, ◌≤◌, ℕ, zero, suc, List, [], ◌∷◌, Option, Result, Ok, Err, IfOk, IsErrOf, OnOk, All, length, take}
 use Rattle.std.proofs.Common.{sym, ap, subst, refl, ap₂, ◌∙◌, arith, inl, inr}
 use Rattle.std.proofs.lemmas.List.Elements.{All-append, All-cons, All-weaker}
-use Rattle.rng_model.specs.Document.{Item}
-use Rattle.rng_model.specs.Lines.{Line, lines}
-use Rattle.rng_model.specs.Names.{Name}
-use Rattle.rng_model.specs.PyxClauses.{Breaks}
-use Rattle.rng_model.specs.PyxFaults.{Fault, IsBefore}
-use Rattle.rng_model.specs.PyxTrees.{Event, EventKind, a_start, a_string, an_end, Placed, item_of, events_of, IsPyxDocument}
-use Rattle.rng_matching.specs.Reading.{Reading}
-use Rattle.rng_matcher.specs.Outcomes.{IsOutcome, FailsAt, KnowsName}
-use Rattle.rng_matcher.specs.declared.outcome.Outcome.{Outcome}
-use Rattle.rng_matcher.specs.declared.outcome.Outcome.TheVariants as outcome
-use Rattle.rng_model.specs.Table.{IsValidBy}
-use Rattle.rng_model.specs.Texts.{texts_of}
-use Rattle.pyx.specs.DocumentReader.{Turn, State, document_read}
-use Rattle.pyx.specs.View.{Hands}
-use Rattle.pyx.specs.declared.fault.PyxFault.{PyxFault}
-use Rattle.pyx.specs.declared.fault.PyxFault.TheVariants as pyx
+use Rattle.rng_model.specs.matching.Document.{Item}
+use Rattle.rng_model.specs.documents.Lines.{Line, lines}
+use Rattle.rng_model.specs.names.Names.{Name}
+use Rattle.rng_model.specs.documents.PyxClauses.{Breaks}
+use Rattle.rng_model.specs.documents.PyxFaults.{Fault, IsBefore}
+use Rattle.rng_model.specs.documents.PyxTrees.{Event, EventKind, a_start, a_string, an_end, Placed, item_of, events_of, IsPyxDocument}
+use Rattle.rng_model.specs.matching.Reading.{Reading}
+use Rattle.rng_model.specs.matching.Outcomes.{IsOutcome, FailsAt, KnowsName}
+use Rattle.rng_model.specs.declared.outcome.Outcome.{Outcome}
+use Rattle.rng_model.specs.declared.outcome.Outcome.TheVariants as outcome
+use Rattle.rng_model.specs.simple.Table.{IsValidBy}
+use Rattle.rng_model.specs.datatypes.Texts.{texts_of}
+use Rattle.pyx.specs.plain.DocumentReader.{Turn, State, document_read}
+use Rattle.rng_model.specs.documents.Handing.{Hands}
+use Rattle.rng_model.specs.declared.pyx_fault.PyxFault.{PyxFault}
+use Rattle.rng_model.specs.declared.pyx_fault.PyxFault.TheVariants as pyx
 use Rattle.pyx.proofs.DocumentComplete.{complete}
 use Rattle.pyx.proofs.DocumentLeast.{at_most}
 use Rattle.pyx.proofs.EventLines.{event_line, lines_rise, same_front}
-use Rattle.rng_run.specs.Documents.{IsFaultOfInput, IsTaken}
-use Rattle.rng_run.specs.Judging.{IsUnknownTo, verdict_of}
-use Rattle.rng_run.specs.Verdict.{IsJudgedBy, IsVerdict, IsInvalidFrom, CannotBeValid, StartsUnknown, AreSameVerdict, malformed_by}
+use Rattle.rng_run.specs.views.TakenDocuments.{IsFaultOfInput, IsTaken}
+use Rattle.rng_run.specs.plain.Judging.{IsUnknownTo, verdict_of}
+use Rattle.rncv_model.specs.answers.Verdict.{IsJudgedBy, IsVerdict, IsInvalidFrom, CannotBeValid, StartsUnknown, AreSameVerdict}
+use Rattle.rng_run.specs.views.MalformedVerdict.{malformed_by}
 use Rattle.rng_run.specs.declared.judging.JudgeFault.{JudgeFault}
 use Rattle.rng_run.specs.declared.judging.JudgeFault.TheVariants as judging
 use Rattle.rng_run.specs.declared.streams.DocumentFault.TheVariants as faults
-use Rattle.rng_run.specs.declared.answer.Verdict.{Verdict}
-use Rattle.rng_run.specs.declared.answer.Verdict.TheVariants.{Valid, Malformed, Invalid}
+use Rattle.rncv_model.specs.declared.verdict.Verdict.{Verdict}
+use Rattle.rncv_model.specs.declared.verdict.Verdict.TheVariants.{Valid, Malformed, Invalid}
 
 -- ---- the fault of a document
 

@@ -3,12 +3,14 @@ use Rattle.std.proofs.Common.{ℕ, List, [], ◌++◌, Option, Some, None, Ok, E
 use Rattle.std.specs.Io.KnownBytes.{Consumes, IsAtEnd}
 use Rattle.std.proofs.KnownBytes.{Consumes-nil, Consumes-trans}
 use Rattle.std.proofs.lemmas.List.{append-nil}
-use Rattle.rng_model.specs.PyxTrees.{Event}
-use Rattle.pyx.specs.Standing.{Ends, Extends, IsFaultAfter, Kept, Stands, UnlessMemory}
-use Rattle.pyx.specs.View.{Hands}
-use Rattle.pyx.specs.declared.fault.PyxFault.{PyxFault}
-use Rattle.pyx.specs.declared.fault.PyxFault.TheVariants as pyx
-use Rattle.rng_run.specs.Documents.{HasLeft, IsFaultOfInput, IsRead, IsTaken}
+use Rattle.rng_model.specs.documents.PyxTrees.{Event}
+use Rattle.pyx.specs.views.Calls.{Ends, Extends, IsFaultAfter, UnlessMemory}
+use Rattle.pyx.specs.views.Standing.{Kept, Stands}
+use Rattle.rng_model.specs.documents.Handing.{Hands}
+use Rattle.rng_model.specs.declared.pyx_fault.PyxFault.{PyxFault}
+use Rattle.rng_model.specs.declared.pyx_fault.PyxFault.TheVariants as pyx
+use Rattle.rncv_model.specs.answers.Input.{HasLeft, IsRead}
+use Rattle.rng_run.specs.views.TakenDocuments.{IsFaultOfInput, IsTaken}
 use Rattle.rng_run.specs.declared.streams.DocumentFault.TheVariants as faults
 
 -- so far these bytes were read, and these events handed out

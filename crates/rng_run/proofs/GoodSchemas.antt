@@ -1,18 +1,18 @@
 -- The clauses of a schema together: those that come before its simple form, and the restrictions on this.
 use Rattle.std.proofs.Common.{ℕ, ◌≤◌, arith}
-use Rattle.rng_model.specs.Least.{IsLeast}
-use Rattle.rng_model.specs.Restrictions as r
-use Rattle.rng_model.specs.Restrictions.{BreaksRestriction, IsLeastRestriction}
-use Rattle.rng_model.specs.Schema.{Schema}
-use Rattle.rng_model.specs.SchemaClauses as c
-use Rattle.rng_model.specs.SchemaClauses.{BreaksSchemaClause, BreaksClause, BreaksNoClause, IsLeastClause, in_schema, in_restriction}
-use Rattle.rng_model.specs.SchemaForm.{IsSimpleGrammarOf}
-use Rattle.rng_model.specs.Table.{Grammar}
+use Rattle.rng_model.specs.schema.Least.{IsLeast}
+use Rattle.rng_model.specs.restrictions.Restrictions as r
+use Rattle.rng_model.specs.restrictions.Restrictions.{BreaksRestriction, IsLeastRestriction}
+use Rattle.rng_model.specs.schema.Schema.{Schema}
+use Rattle.rng_model.specs.schema.SchemaClauses as c
+use Rattle.rng_model.specs.schema.SchemaClauses.{BreaksSchemaClause, BreaksClause, BreaksNoClause, IsLeastClause, in_schema, in_restriction}
+use Rattle.rng_model.specs.simple.SchemaForm.{IsSimpleGrammarOf}
+use Rattle.rng_model.specs.simple.Table.{Grammar}
 use Rattle.rng_model.specs.declared.fault.SchemaFault.{SchemaFault}
 use Rattle.rng_model.specs.declared.fault.SchemaFault.TheVariants as faults
-use Rattle.rng_rules.specs.Restricted.{IsRestrictionFault}
-use Rattle.rng_run.specs.Compiled.{IsLeastFault}
-use Rattle.rng_simple.specs.SimplifiedSchema.{IsSchemaFault}
+use Rattle.rng_model.specs.restrictions.Restricted.{IsRestrictionFault}
+use Rattle.rng_run.specs.plain.Compiled.{IsLeastFault}
+use Rattle.rng_model.specs.simple.SimplifiedSchema.{IsSchemaFault}
 use Rattle.rng_simple.proofs.SameRestrictions.{same_restrictions}
 
 at_most : {s : Schema} {clause : ℕ} → BreaksSchemaClause s clause → clause ≤ 17

@@ -1,16 +1,16 @@
 -- What is answered of the one schema that files are.
 use Rattle.std.proofs.Common.{◌≡◌, List, ℕ, Option, Some, Result, Ok, Err, IfOk, sym, subst, ap, ◌∙◌}
 use Rattle.std.proofs.Math.Path.{fun_ext}
-use Rattle.rng_model.specs.Schema.{Schema}
-use Rattle.rng_load.specs.Loading.{TakenFiles, FilesVerdict, are_taken, IsTheFilesVerdict, tree_in}
-use Rattle.rng_load.specs.LoadedSchema.{AreSchema}
-use Rattle.rng_load.specs.Places.{IsSchemaOf}
-use Rattle.rng_load.specs.SchemaFile.{Name, NamedFile}
+use Rattle.rng_model.specs.schema.Schema.{Schema}
+use Rattle.rnc_model.specs.loading.Loading.{TakenFiles, FilesVerdict, are_taken, IsTheFilesVerdict, tree_in}
+use Rattle.rnc_model.specs.loading.LoadedSchema.{AreSchema}
+use Rattle.rnc_model.specs.loading.Places.{IsSchemaOf}
+use Rattle.rnc_model.specs.loading.SchemaFile.{Name, NamedFile}
 use Rattle.rng_load.proofs.OneSchema.{one_schema}
-use Rattle.rng_run.specs.AnswerView.{answer_of}
-use Rattle.rng_run.specs.Run.{IsAnswer, IsAnswerBy, JudgesDocuments, JudgesNone}
+use Rattle.rng_run.specs.views.AnswerView.{answer_of}
+use Rattle.rncv_model.specs.answers.Run.{IsAnswer, IsAnswerBy, JudgesDocuments, JudgesNone}
 use Rattle.rng_run.specs.declared.answer.Answer as declared
-use Rattle.rng_run.specs.declared.running.Command.{Command}
+use Rattle.rncv_model.specs.declared.command.Command.{Command}
 
 same_value : {A : Type 0} {o : Option A} {a b : A} → o ≡ Some a → o ≡ Some b → a ≡ b
 same_value e f = cc

@@ -1,11 +1,11 @@
 -- Names that no element of a schema's simple form may have.
 use Rattle.std.proofs.lemmas.List.Elements.{All-contains}
-use Rattle.rng_model.specs.Names.{In, Name}
-use Rattle.rng_model.specs.Schema.{Schema}
-use Rattle.rng_model.specs.SchemaForm.{IsOnlySimpleGrammarOf}
-use Rattle.rng_model.specs.Table.{Grammar}
-use Rattle.rng_run.specs.Judging.{IsUnknownTo}
-use Rattle.rng_run.specs.Run.{IsUnknownIn}
+use Rattle.rng_model.specs.names.Names.{In, Name}
+use Rattle.rng_model.specs.schema.Schema.{Schema}
+use Rattle.rng_model.specs.simple.SchemaForm.{IsOnlySimpleGrammarOf}
+use Rattle.rng_model.specs.simple.Table.{Grammar}
+use Rattle.rng_run.specs.plain.Judging.{IsUnknownTo}
+use Rattle.rncv_model.specs.answers.Run.{IsUnknownIn}
 
 -- they are those that no element of the grammar may have
 pub unknown_to_grammar : (s : Schema) (g : Grammar) → IsOnlySimpleGrammarOf s g → (name : Name) → IsUnknownIn s name → IsUnknownTo g name

@@ -1,29 +1,11 @@
 // What a run answers.
 ghost use Rattle.std.specs.Prelude.{◌≡◌, IfOk, string_bytes};
-ghost use Rattle.rng_run.specs.Answer as answer;
-ghost use Rattle.rng_run.specs.Answer.{output_of, status_of};
-ghost use Rattle.rng_run.specs.AnswerView.{answer_of};
+ghost use Rattle.rncv_model.specs.answers.Answer as answer;
+ghost use Rattle.rncv_model.specs.answers.Answer.{output_of, status_of};
+ghost use Rattle.rng_run.specs.views.AnswerView.{answer_of};
 
+use rncv_model::{Status, Verdict};
 use std::alloc::{AllocError, Global};
-
-/// What a document is by a schema.
-#[derive(Clone, Copy)]
-pub enum Verdict {
-    Valid,
-    /// The clause that is broken first, 1 to 13, and its line: 1 is the first, and 0 says that there is none.
-    Malformed { clause: u8, line: u64 },
-    /// The line, from 1, after which no continuation is valid.
-    Invalid(u64),
-}
-
-/// What a run found. The exit status of the program is 0, 1, 2 or 3, in this order.
-#[derive(Clone, Copy, Debug, PartialEq, Eq)]
-pub enum Status {
-    Good,
-    Invalid,
-    Malformed,
-    Refused,
-}
 
 /// What a run answers.
 #[derive(Drop)]

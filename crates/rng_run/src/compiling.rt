@@ -1,15 +1,15 @@
 // From a schema to the grammar by which documents are judged.
 ghost use Rattle.std.specs.Prelude.{IfErr, IfOk, OnOk};
-ghost use Rattle.rng_load.specs.PlacedGrammars.{schema_of};
-ghost use Rattle.rng_model.specs.Schema.{IsWellPlaced};
-ghost use Rattle.rng_model.specs.SchemaClauses.{BreaksNoClause};
-ghost use Rattle.rng_model.specs.SchemaForm.{IsOnlySimpleGrammarOf, IsSimpleGrammarOf};
-ghost use Rattle.rng_model.specs.SchemaMatching.{AreSameDocuments};
-ghost use Rattle.rng_model.specs.Table.{AreToldApart, grammar_of};
-ghost use Rattle.rng_matching.specs.Laws.{BreaksNone};
-ghost use Rattle.rng_run.specs.Compiled.{IsCompiled, IsLeastFault};
+ghost use Rattle.rng_load.specs.views.PlacedGrammars.{schema_of};
+ghost use Rattle.rng_model.specs.schema.Schema.{IsWellPlaced};
+ghost use Rattle.rng_model.specs.schema.SchemaClauses.{BreaksNoClause};
+ghost use Rattle.rng_model.specs.simple.SchemaForm.{IsOnlySimpleGrammarOf, IsSimpleGrammarOf};
+ghost use Rattle.rng_model.specs.matching.SchemaMatching.{AreSameDocuments};
+ghost use Rattle.rng_model.specs.simple.Table.{AreToldApart, grammar_of};
+ghost use Rattle.rng_model.specs.restrictions.BreaksNone.{BreaksNone};
+ghost use Rattle.rng_run.specs.plain.Compiled.{IsCompiled, IsLeastFault};
 
-use crate::running::Command;
+use rncv_model::Command;
 use rng_load::Schema;
 use rng_model::{SchemaFault, SimpleGrammar};
 use rng_print::printed_text;

@@ -1,17 +1,17 @@
 // Judging a document by a grammar.
 ghost use Rattle.std.specs.Prelude.{◌≡◌, ◌^◌, ◌-◌, ◌<◌, IfOk, OnOk, IsErrOf};
-ghost use Rattle.rng_matching.specs.Laws.{BreaksNone};
-ghost use Rattle.rng_model.specs.DatatypeTests.{text_tests};
-ghost use Rattle.rng_model.specs.Device.{device_inner, device_failures};
-ghost use Rattle.rng_model.specs.Table.{grammar_of, IsValidBy};
-ghost use Rattle.rng_model.specs.Texts.{texts_of};
-ghost use Rattle.rng_run.specs.Judging.{IsUnknownTo, fault_of_judging};
-ghost use Rattle.rng_run.specs.Verdict.{IsJudgedBy, malformed_by};
+ghost use Rattle.rng_model.specs.restrictions.BreaksNone.{BreaksNone};
+ghost use Rattle.rng_model.specs.datatypes.DatatypeTests.{text_tests};
+ghost use Rattle.rng_model.specs.devices.Device.{device_inner, device_failures};
+ghost use Rattle.rng_model.specs.simple.Table.{grammar_of, IsValidBy};
+ghost use Rattle.rng_model.specs.datatypes.Texts.{texts_of};
+ghost use Rattle.rng_run.specs.plain.Judging.{IsUnknownTo, fault_of_judging};
+ghost use Rattle.rncv_model.specs.answers.Verdict.{IsJudgedBy};
+ghost use Rattle.rng_run.specs.views.MalformedVerdict.{malformed_by};
 
-use crate::answer::Verdict;
-use crate::running::RunFault;
 use crate::streams::{DocumentFault, take_document};
 use pyx::PyxFault;
+use rncv_model::{RunFault, Verdict};
 use rng_derivatives::matcher;
 use rng_matcher::Outcome;
 use rng_model::{Device, OutOfMemory, SimpleGrammar};

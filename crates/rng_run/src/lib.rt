@@ -13,5 +13,5 @@ mod judging;
 mod running;
 mod streams;
 
-pub use answer::Status;
-pub use running::{Command, RunFault, run};
+pub use rncv_model::{Command, RunFault, Status};
+pub use running::run;

@@ -1,44 +1,22 @@
 // From files and a document to an answer.
 ghost use Rattle.std.specs.Prelude.{◌≡◌, ◌-◌, ◌^◌, ◌<◌, Some, length, true, IfOk, IfErr, OnOk, IsErrOf};
-ghost use Rattle.rng_model.specs.Device.{device_inner, device_failures, device_flushed};
-ghost use Rattle.rng_run.specs.Answer.{status_of};
-ghost use Rattle.rng_run.specs.AnswerView.{answer_of, refusal_of};
-ghost use Rattle.rng_load.specs.FilesView.{named_files};
-ghost use Rattle.rng_load.specs.Loading.{FilesVerdict, IsTheFilesVerdict};
-ghost use Rattle.rng_load.specs.PlacedGrammars.{schema_of};
-ghost use Rattle.rng_model.specs.Schema.{IsWellPlaced};
-ghost use Rattle.rng_run.specs.Run.{IsAnswer, IsAnswerBy, JudgesDocuments, JudgesNone, WritesAnswer, WrittenAfter, main_name};
+ghost use Rattle.rng_model.specs.devices.Device.{device_inner, device_failures, device_flushed};
+ghost use Rattle.rng_run.specs.views.AnswerView.{answer_of, refusal_of};
+ghost use Rattle.rnc_model.specs.loading.Files.{named_files};
+ghost use Rattle.rnc_model.specs.loading.Loading.{FilesVerdict, IsTheFilesVerdict};
+ghost use Rattle.rng_load.specs.views.PlacedGrammars.{schema_of};
+ghost use Rattle.rng_model.specs.schema.Schema.{IsWellPlaced};
+ghost use Rattle.rncv_model.specs.answers.Run.{IsAnswer, IsAnswerBy, JudgesDocuments, JudgesNone, WritesAnswer, WrittenAfter, main_name};
 
-use crate::answer::{Answer, Status};
+use crate::answer::Answer;
 use crate::compiling::{Compiled, compile};
 use crate::judging::{JudgeFault, document_verdict};
+use rncv_model::{Command, RunFault, Status};
 use rng_load::{Schema, load};
 use rng_model::{Device, OutOfMemory, SchemaFault};
 use rng_output::write_whole;
 use std::alloc::Global;
 use std::io::{Read, Write};
-
-/// What to do with the files.
-#[derive(Clone, Copy, Debug)]
-pub enum Command {
-    /// Judge a document by the schema.
-    Valid,
-    /// Judge the schema alone. The document is not read.
-    Check,
-    /// Print the simple form of the schema. The document is not read.
-    Simple,
-}
-
-/// Why a run gave no answer.
-#[derive(Clone, Copy, Debug, PartialEq, Eq)]
-pub enum RunFault {
-    /// A read failed, and the device counted it.
-    Read,
-    /// A write failed, and the device counted it.
-    Write,
-    /// There was no memory for what the run had to keep.
-    Memory,
-}
 
 /// Does what the command asks for with the schema of these files, of which the first is the main one, writes what it
 /// answers, one line or a simple form, and flushes the output.

@@ -1,8 +1,8 @@
 // Taking a document from a device.
 ghost use Rattle.std.specs.Prelude.{◌≡◌, ◌-◌, ◌^◌, ◌<◌, IfErr, OnOk, IsErrOf};
-ghost use Rattle.pyx.specs.View.{Hands};
-ghost use Rattle.rng_model.specs.Device.{device_inner, device_failures};
-ghost use Rattle.rng_run.specs.Documents.{IsFaultOfInput, IsTaken};
+ghost use Rattle.rng_model.specs.documents.Handing.{Hands};
+ghost use Rattle.rng_model.specs.devices.Device.{device_inner, device_failures};
+ghost use Rattle.rng_run.specs.views.TakenDocuments.{IsFaultOfInput, IsTaken};
 
 use pyx::{PyxFault, Reader};
 use rng_model::{Device, Events};

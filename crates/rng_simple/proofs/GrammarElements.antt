@@ -2,10 +2,10 @@
 use Rattle.std.proofs.Common.{◌≡◌, inl, inr, sym, subst, ℕ, List, [], ◌∷◌, ◌++◌, arith}
 use Rattle.std.proofs.Common.{length-append}
 use Rattle.std.proofs.lemmas.Option.{slice_get_within}
-use Rattle.rng_model.specs.Names as names
+use Rattle.rng_model.specs.names.Names as names
 use Rattle.rng_model.specs.declared.name.NameClass.{NameClass}
 use Rattle.rng_model.specs.declared.simple.PatternId.{PatternId}
-use Rattle.rng_simple.specs.GrammarElements.{IsElementCopy, AreElementCopies}
+use Rattle.rng_simple.specs.views.GrammarElements.{IsElementCopy, AreElementCopies}
 use Rattle.rng_simple.proofs.RowIndex.{at_end}
 
 module _ (classes : List names.NameClass) (contents places : List ℕ) where

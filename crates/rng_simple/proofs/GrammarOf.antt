@@ -3,24 +3,24 @@ use Rattle.std.proofs.Common.{◌≡◌, refl, ap, sym, ◌∙◌, subst, ℕ, �
 use Rattle.std.proofs.lemmas.List.{length-map, get_or-map}
 use Rattle.std.proofs.lemmas.List.Elements.{All-map}
 use Rattle.std.proofs.lemmas.Option.{slice_get_within, get_or_from_slice_get, slice_get-get_or}
-use Rattle.rng_model.specs.Names.{NameClass}
-use Rattle.rng_model.specs.Tree.{Tree, Simple, s_leaf, as_tree, empty}
-use Rattle.rng_graph.specs.InTwos.{nested}
-use Rattle.rng_simple.specs.SimpleOf.{simple_of}
-use Rattle.rng_model.specs.Schema.{Schema, Definition, main_start}
-use Rattle.rng_model.specs.Leaves.{LeafIn, AreLeavesBelow}
-use Rattle.rng_model.specs.Unfolding.{Leaf, content_of, to_definition, aim, IsTreeOf, IsBodyOf}
-use Rattle.rng_model.specs.Reached.{IsReachedByTrees, from_start, from_element, IsReachedBySimpleForms, from_simple_start, from_simple_body}
-use Rattle.rng_graph.specs.Expansion.{KeepsExpansion}
-use Rattle.rng_graph.specs.Met.{met_start, met_in_element}
-use Rattle.rng_simple.specs.Renamed.{simple_renamed}
-use Rattle.rng_model.specs.Table.{Grammar}
-use Rattle.rng_simple.specs.Numbering.{AreDistinct, no_element, element_at, AreBodies, IsListedAs, IsNumbering}
-use Rattle.rng_model.specs.SchemaForm.{IsSimpleGrammarOf, IsOnlySimpleGrammarOf}
-use Rattle.rng_simple.specs.SimpleWith.{simple_with, simple_at}
-use Rattle.rng_graph.specs.DepthWith.{IsRight}
-use Rattle.rng_graph.specs.Graph.{Spot, Graph, IsGraphOf, Mentions, IsOrderBy, IsFilledBy, leaf_number, same_leaf}
-use Rattle.rng_simple.specs.GrammarBy.{spot_simple, content_simple, IsNumberReached, in_first, in_body, IsGrammarBy, IsMadeOf}
+use Rattle.rng_model.specs.names.Names.{NameClass}
+use Rattle.rng_model.specs.simple.Tree.{Tree, Simple, s_leaf, as_tree, empty}
+use Rattle.rng_graph.specs.plain.InTwos.{nested}
+use Rattle.rng_simple.specs.plain.SimpleOf.{simple_of}
+use Rattle.rng_model.specs.schema.Schema.{Schema, Definition, main_start}
+use Rattle.rng_model.specs.simple.Leaves.{LeafIn, AreLeavesBelow}
+use Rattle.rng_model.specs.schema.Unfolding.{Leaf, content_of, to_definition, aim, IsTreeOf, IsBodyOf}
+use Rattle.rng_model.specs.schema.Reached.{IsReachedByTrees, from_start, from_element, IsReachedBySimpleForms, from_simple_start, from_simple_body}
+use Rattle.rng_graph.specs.plain.Expansion.{KeepsExpansion}
+use Rattle.rng_graph.specs.plain.Met.{met_start, met_in_element}
+use Rattle.rng_simple.specs.plain.Renamed.{simple_renamed}
+use Rattle.rng_model.specs.simple.Table.{Grammar}
+use Rattle.rng_simple.specs.plain.Numbering.{AreDistinct, no_element, element_at, AreBodies, IsListedAs, IsNumbering}
+use Rattle.rng_model.specs.simple.SchemaForm.{IsSimpleGrammarOf, IsOnlySimpleGrammarOf}
+use Rattle.rng_simple.specs.plain.SimpleWith.{simple_with, simple_at}
+use Rattle.rng_graph.specs.plain.DepthWith.{IsRight}
+use Rattle.rng_graph.specs.plain.Graph.{Spot, Graph, IsGraphOf, Mentions, IsOrderBy, IsFilledBy, leaf_number, same_leaf}
+use Rattle.rng_simple.specs.plain.GrammarBy.{spot_simple, content_simple, IsNumberReached, in_first, in_body, IsGrammarBy, IsMadeOf}
 use Rattle.rng_graph.proofs.Loops.{reached_is_met}
 use Rattle.rng_simple.proofs.PointSimples.{with_leaves}
 use Rattle.rng_simple.proofs.SimpleLeaves.{simple_leaves, with_renamed, simply_is_reached}
@@ -33,8 +33,8 @@ use Rattle.rng_simple.proofs.NumberedSchema.{is_simple_grammar, only_simple_gram
 use Rattle.rng_graph.proofs.Graphs.{contains_found, found_contained, resolved_content, known}
 use Rattle.rng_graph.proofs.GraphTables.{number_is, leaf_number_is, leaf_same, table_of, filled_of}
 use Rattle.rng_simple.proofs.SimpleTables.{leaf_name, simple_resolved}
-use Rattle.rng_graph.specs.ExpansionOrder.{IsGraphOfSchema, IsWholeOrder}
-use Rattle.rng_graph.specs.GraphView.{graph_of, classes_of}
+use Rattle.rng_graph.specs.views.ExpansionOrder.{IsGraphOfSchema, IsWholeOrder}
+use Rattle.rng_graph.specs.views.GraphView.{graph_of, classes_of}
 use Rattle.rng_graph.specs.declared.graph.Graph as declared
 use Rattle.rng_graph.proofs.Parts.{map_at}
 use Rattle.rng_graph.proofs.Judged.{order_is, order_covers, order_keeps_expansion, definitions}

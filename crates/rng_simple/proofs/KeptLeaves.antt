@@ -1,14 +1,14 @@
 -- What simplification keeps: a leaf of a part that stands beside no notAllowed, outside choices, is a leaf of the simple form of the
 -- whole; and what is made of such parts is not notAllowed.
 use Rattle.std.proofs.Common.{◌≡◌, ◌⊎◌, inl, inr, refl, List, ℕ}
-use Rattle.rng_model.specs.Names.{NameClass}
-use Rattle.rng_model.specs.Tree.{Datatype, Connector, choice, group, interleave, Tree, empty, text, leaf, attribute, list, data_of, data_except}
-use Rattle.rng_model.specs.Tree.{value, mixed, optional, zero_or_more, one_or_more, joined, Trees, no_trees, tree_and, Simple, s_empty, s_text, as_tree}
-use Rattle.rng_model.specs.Leaves.{LeafIn}
-use Rattle.rng_model.specs.Leaves as at
-use Rattle.rng_graph.specs.InTwos.{nested}
-use Rattle.rng_simple.specs.SimpleOf.{Sort, nothing, sort_of, attribute_by, list_by, except_by, one_or_more_by, choice_by, both_by, join, some_of, simple_of}
-use Rattle.rng_simple.specs.SimpleOf.{join_all}
+use Rattle.rng_model.specs.names.Names.{NameClass}
+use Rattle.rng_model.specs.simple.Tree.{Datatype, Connector, choice, group, interleave, Tree, empty, text, leaf, attribute, list, data_of, data_except}
+use Rattle.rng_model.specs.simple.Tree.{value, mixed, optional, zero_or_more, one_or_more, joined, Trees, no_trees, tree_and, Simple, s_empty, s_text, as_tree}
+use Rattle.rng_model.specs.simple.Leaves.{LeafIn}
+use Rattle.rng_model.specs.simple.Leaves as at
+use Rattle.rng_graph.specs.plain.InTwos.{nested}
+use Rattle.rng_simple.specs.plain.SimpleOf.{Sort, nothing, sort_of, attribute_by, list_by, except_by, one_or_more_by, choice_by, both_by, join, some_of, simple_of}
+use Rattle.rng_simple.specs.plain.SimpleOf.{join_all}
 use Rattle.rng_simple.proofs.Sorts.{Sorted, is_nothing, is_blank, is_proper, sorted}
 
 module _ {L : Type 0} where

@@ -2,34 +2,34 @@
 use Rattle.std.proofs.Common.{◌≡◌, refl, subst, ℕ, ◌+◌, Bool, true, false, if◌then◌else◌, List, [], ◌∷◌, Option, Some, None, get_or, slice_get}
 use Rattle.std.proofs.lemmas.List.Elements.{All-contains, All-from_get_or}
 use Rattle.std.proofs.lemmas.Option.{slice_get-get_or}
-use Rattle.rng_model.specs.Lists.{Among, here, there}
-use Rattle.rng_model.specs.Names.{NameClass, any_name}
-use Rattle.rng_model.specs.Tree.{Connector, Tree, not_allowed, empty, text, leaf, attribute, list, data_of, data_except, value, mixed, optional}
-use Rattle.rng_model.specs.Tree.{zero_or_more, one_or_more, joined, Trees, no_trees, tree_and, as_tree}
-use Rattle.rng_model.specs.Tree.{Simple, s_not_allowed, s_empty, s_text, s_leaf, s_attribute, s_list, s_data, s_data_except, s_value}
-use Rattle.rng_model.specs.Tree.{s_one_or_more, s_joined}
-use Rattle.rng_model.specs.Datatypes.{IsKnownDatatype, IsValueDatatype, AreDatatypesKnown}
-use Rattle.rng_model.specs.Table.{Grammar}
-use Rattle.rng_model.specs.Leaves.{renamed, LeafIn, LeafAmong}
-use Rattle.rng_model.specs.Patterns as written
-use Rattle.rng_model.specs.Patterns.{Place, Position, Pattern, Patterns, no_patterns, pattern_and, Point, an_element, a_ref, a_parent_ref, a_grammar}
-use Rattle.rng_model.specs.Patterns.{pattern_tree, pattern_trees, without_parameters, IsWrittenIn, itself, in_element, in_attribute, in_list, in_except}
-use Rattle.rng_model.specs.Patterns.{in_mixed, in_optional, in_zero_or_more, in_one_or_more, in_first, in_second, in_another, in_external}
-use Rattle.rng_model.specs.Patterns.{IsWrittenAmong, in_this, in_later}
-use Rattle.rng_model.specs.Schema.{Schema, Component, Definition, main_start, body, body_among, connector_of, nested, nested_from, same_name}
-use Rattle.rng_model.specs.Schema.{trees_named, HasComponent, IsWrittenAt}
-use Rattle.rng_model.specs.SchemaClauses.{BreaksDatatype}
-use Rattle.rng_model.specs.SchemaForm.{IsElementOf, IsSimpleFormOfSchema, IsSameUpToNumbering, IsSimpleGrammarOf, SimpleForm}
-use Rattle.rng_model.specs.Leaves as at
-use Rattle.rng_model.specs.Simplification as step
-use Rattle.rng_model.specs.Simplification.{RuleGroup, Step, StepAmong, AnyStep, Steps}
-use Rattle.rng_model.specs.Unfolding as unfolding_of
-use Rattle.rng_model.specs.Unfolding.{Leaf, to_element, outside, aim, Unfolds, UnfoldAll, IsTreeOf, IsBodyOf}
-use Rattle.rng_model.specs.Reached.{IsReachedBySimpleForms, from_simple_start, from_simple_body}
+use Rattle.rng_model.specs.names.Lists.{Among, here, there}
+use Rattle.rng_model.specs.names.Names.{NameClass, any_name}
+use Rattle.rng_model.specs.simple.Tree.{Connector, Tree, not_allowed, empty, text, leaf, attribute, list, data_of, data_except, value, mixed, optional}
+use Rattle.rng_model.specs.simple.Tree.{zero_or_more, one_or_more, joined, Trees, no_trees, tree_and, as_tree}
+use Rattle.rng_model.specs.simple.Tree.{Simple, s_not_allowed, s_empty, s_text, s_leaf, s_attribute, s_list, s_data, s_data_except, s_value}
+use Rattle.rng_model.specs.simple.Tree.{s_one_or_more, s_joined}
+use Rattle.rng_model.specs.datatypes.Datatypes.{IsKnownDatatype, IsValueDatatype, AreDatatypesKnown}
+use Rattle.rng_model.specs.simple.Table.{Grammar}
+use Rattle.rng_model.specs.simple.Leaves.{renamed, LeafIn, LeafAmong}
+use Rattle.rng_model.specs.schema.Patterns as written
+use Rattle.rng_model.specs.schema.Patterns.{Place, Position, Pattern, Patterns, no_patterns, pattern_and, Point, an_element, a_ref, a_parent_ref, a_grammar}
+use Rattle.rng_model.specs.schema.Patterns.{pattern_tree, pattern_trees, without_parameters, IsWrittenIn, itself, in_element, in_attribute, in_list, in_except}
+use Rattle.rng_model.specs.schema.Patterns.{in_mixed, in_optional, in_zero_or_more, in_one_or_more, in_first, in_second, in_another, in_external}
+use Rattle.rng_model.specs.schema.Patterns.{IsWrittenAmong, in_this, in_later}
+use Rattle.rng_model.specs.schema.Schema.{Schema, Component, Definition, main_start, body, body_among, connector_of, nested, nested_from, same_name}
+use Rattle.rng_model.specs.schema.Schema.{trees_named, HasComponent, IsWrittenAt}
+use Rattle.rng_model.specs.schema.SchemaClauses.{BreaksDatatype}
+use Rattle.rng_model.specs.simple.SchemaForm.{IsElementOf, IsSimpleFormOfSchema, IsSameUpToNumbering, IsSimpleGrammarOf, SimpleForm}
+use Rattle.rng_model.specs.simple.Leaves as at
+use Rattle.rng_model.specs.simple.Simplification as step
+use Rattle.rng_model.specs.simple.Simplification.{RuleGroup, Step, StepAmong, AnyStep, Steps}
+use Rattle.rng_model.specs.schema.Unfolding as unfolding_of
+use Rattle.rng_model.specs.schema.Unfolding.{Leaf, to_element, outside, aim, Unfolds, UnfoldAll, IsTreeOf, IsBodyOf}
+use Rattle.rng_model.specs.schema.Reached.{IsReachedBySimpleForms, from_simple_start, from_simple_body}
 use Rattle.rng_model.proofs.Unfolding.{some_is}
 use Rattle.rng_components.proofs.KeptDatatypes.{data_known, data_except_known, value_allowed}
 use Rattle.rng_graph.proofs.ResolvedBodies.{none_is_not_some}
-use Rattle.rng_simple.specs.KnownDatatypes.{AreGrammarDatatypesKnown}
+use Rattle.rng_model.specs.datatypes.KnownDatatypes.{AreGrammarDatatypesKnown}
 
 first : {A B : Type 0} → A × B → A
 first p = p.0

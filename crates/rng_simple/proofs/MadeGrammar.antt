@@ -4,27 +4,27 @@ use Rattle.std.proofs.Common.{Contains, arith}
 use Rattle.std.proofs.lemmas.List.{length-map}
 use Rattle.std.proofs.lemmas.List.Elements.{All-map}
 use Rattle.std.proofs.lemmas.Option.{slice_get_within, slice_get-get_or, get_or_from_slice_get}
-use Rattle.rng_model.specs.Names as names
-use Rattle.rng_model.specs.Tree.{as_tree, IsSimpleBody, IsFreeOfNotAllowed}
-use Rattle.rng_model.specs.Tree.{Simple, s_not_allowed, s_empty, s_text, s_leaf, s_attribute, s_list, s_data, s_data_except, s_value, s_one_or_more, s_joined}
-use Rattle.rng_model.specs.Leaves.{AreLeavesBelow}
-use Rattle.rng_model.specs.Table.{Table, grammar_of, IsTable, IsPaired, IsLeafListed, IsInSimpleSyntax}
-use Rattle.rng_model.specs.View.{class_of}
+use Rattle.rng_model.specs.names.Names as names
+use Rattle.rng_model.specs.simple.Tree.{as_tree, IsSimpleBody, IsFreeOfNotAllowed}
+use Rattle.rng_model.specs.simple.Tree.{Simple, s_not_allowed, s_empty, s_text, s_leaf, s_attribute, s_list, s_data, s_data_except, s_value, s_one_or_more, s_joined}
+use Rattle.rng_model.specs.simple.Leaves.{AreLeavesBelow}
+use Rattle.rng_model.specs.simple.Table.{Table, grammar_of, IsTable, IsPaired, IsLeafListed, IsInSimpleSyntax}
+use Rattle.rng_model.specs.names.NameViews.{class_of}
 use Rattle.rng_model.specs.declared.name.NameClass.{NameClass}
 use Rattle.rng_model.specs.declared.simple.PatternId.{PatternId}
 use Rattle.rng_model.specs.declared.simple.Simple as declared
-use Rattle.rng_graph.specs.Graph.{Graph}
+use Rattle.rng_graph.specs.plain.Graph.{Graph}
 use Rattle.rng_graph.proofs.Graphs.{contains_found}
 use Rattle.rng_simple.specs.declared.rows.Row.{Row}
 use Rattle.rng_simple.specs.declared.rows.Row.TheVariants as row
-use Rattle.rng_simple.specs.Copying.{tree_numbered, place_of, listed_at, AllChildren, IsCopied, AreCopied}
-use Rattle.rng_simple.specs.GrammarBy.{content_simple, IsNumberReached, IsGrammarBy}
-use Rattle.rng_simple.specs.GrammarElements.{IsElementCopy, AreElementCopies}
-use Rattle.rng_simple.specs.Renamed.{simple_renamed}
-use Rattle.rng_simple.specs.RowReach.{nexts, row_next, content_of}
-use Rattle.rng_simple.specs.Rows.{Labels, tree_at, AreRows}
-use Rattle.rng_simple.specs.SimpleParts.{AreRowsBelow}
-use Rattle.rng_simple.specs.Worklist.{IsReachedBy, at_start, onward}
+use Rattle.rng_simple.specs.plain.Copying.{tree_numbered, place_of, listed_at, AllChildren, IsCopied, AreCopied}
+use Rattle.rng_simple.specs.plain.GrammarBy.{content_simple, IsNumberReached, IsGrammarBy}
+use Rattle.rng_simple.specs.views.GrammarElements.{IsElementCopy, AreElementCopies}
+use Rattle.rng_simple.specs.plain.Renamed.{simple_renamed}
+use Rattle.rng_simple.specs.plain.RowReach.{nexts, row_next, content_of}
+use Rattle.rng_simple.specs.views.Rows.{Labels, tree_at, AreRows}
+use Rattle.rng_simple.specs.plain.SimpleParts.{AreRowsBelow}
+use Rattle.rng_simple.specs.plain.Worklist.{IsReachedBy, at_start, onward}
 use Rattle.rng_simple.proofs.RowCopies.{children_all, children_map}
 use Rattle.rng_simple.proofs.RowReach.{leaf_has_row, row_has_leaf, numbers_same}
 use Rattle.rng_simple.proofs.MappedLists.{found_mapped}

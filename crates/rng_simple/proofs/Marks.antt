@@ -6,7 +6,7 @@ use Rattle.std.proofs.lemmas.List.{get_or-set_same, get_or-set_other, length-set
 use Rattle.std.proofs.lemmas.List.Elements.{All-append, All-contains, All-same, Contains-append_left, Contains-append_right, Contains-append_cases}
 use Rattle.std.proofs.lemmas.List.Elements.{Contains-push, Contains-push_cases}
 use Rattle.std.proofs.lemmas.Option.{slice_get_within, slice_get-get_or, get_or_from_slice_get}
-use Rattle.rng_simple.specs.Worklist.{trues, AreDistinctNumbers, IsMarked, Adds, IsQueue, IsReachedBy}
+use Rattle.rng_simple.specs.plain.Worklist.{trues, AreDistinctNumbers, IsMarked, Adds, IsQueue, IsReachedBy}
 use Rattle.rng_simple.proofs.RowIndex.{at_end}
 use Rattle.rng_simple.proofs.RowReach.{one_only}
 use Rattle.rng_simple.proofs.Queues.{begins, goes_on, collected, All-from_contains}

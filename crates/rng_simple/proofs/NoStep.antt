@@ -1,13 +1,13 @@
 -- A tree in which no rule applies is its own value.
 use Rattle.std.proofs.Common.{◌≡◌, refl, subst}
-use Rattle.rng_model.specs.Names.{NameClass}
-use Rattle.rng_model.specs.Tree.{Datatype, Connector, choice, group, interleave}
-use Rattle.rng_model.specs.Tree.{Tree, not_allowed, empty, text, leaf, attribute, list, data_of, data_except, value, mixed, optional, zero_or_more, one_or_more}
-use Rattle.rng_model.specs.Tree.{joined, no_trees, tree_and}
-use Rattle.rng_model.specs.Tree.{Simple, as_tree}
-use Rattle.rng_model.specs.Simplification.{RuleGroup, Step}
-use Rattle.rng_model.specs.Simplification as step
-use Rattle.rng_simple.specs.SimpleOf.{Sort, sort_of, attribute_by, list_by, except_by, one_or_more_by, choice_by, both_by, join, some_of, simple_of, join_all}
+use Rattle.rng_model.specs.names.Names.{NameClass}
+use Rattle.rng_model.specs.simple.Tree.{Datatype, Connector, choice, group, interleave}
+use Rattle.rng_model.specs.simple.Tree.{Tree, not_allowed, empty, text, leaf, attribute, list, data_of, data_except, value, mixed, optional, zero_or_more, one_or_more}
+use Rattle.rng_model.specs.simple.Tree.{joined, no_trees, tree_and}
+use Rattle.rng_model.specs.simple.Tree.{Simple, as_tree}
+use Rattle.rng_model.specs.simple.Simplification.{RuleGroup, Step}
+use Rattle.rng_model.specs.simple.Simplification as step
+use Rattle.rng_simple.specs.plain.SimpleOf.{Sort, sort_of, attribute_by, list_by, except_by, one_or_more_by, choice_by, both_by, join, some_of, simple_of, join_all}
 use Rattle.rng_graph.proofs.SimpleClass.{class_unchanged}
 use Rattle.rng_simple.proofs.Sorts.{Sorted, is_nothing, is_blank, is_proper, sorted, proper_is_not_empty}
 

@@ -1,15 +1,15 @@
 -- No rule applies in the value.
 use Rattle.std.proofs.Common.{◌≡◌, refl, List, ℕ}
-use Rattle.rng_model.specs.Names.{NameClass}
-use Rattle.rng_model.specs.Tree.{Datatype, Connector, choice, group, interleave}
-use Rattle.rng_model.specs.Tree.{Tree, not_allowed, empty, text, leaf, attribute, list, data_of, data_except, value, mixed, optional, zero_or_more, one_or_more}
-use Rattle.rng_model.specs.Tree.{joined, Trees, no_trees, tree_and}
-use Rattle.rng_model.specs.Tree.{Simple, s_empty, s_text, as_tree}
-use Rattle.rng_model.specs.ClassSteps.{ClassStep}
-use Rattle.rng_model.specs.Simplification.{RuleGroup, Step}
-use Rattle.rng_model.specs.Simplification as step
-use Rattle.rng_simple.specs.SimpleOf.{Sort, attribute_by, list_by, except_by, one_or_more_by, choice_by, both_by, join, some_of, simple_of, join_all}
-use Rattle.rng_graph.specs.InTwos.{nested}
+use Rattle.rng_model.specs.names.Names.{NameClass}
+use Rattle.rng_model.specs.simple.Tree.{Datatype, Connector, choice, group, interleave}
+use Rattle.rng_model.specs.simple.Tree.{Tree, not_allowed, empty, text, leaf, attribute, list, data_of, data_except, value, mixed, optional, zero_or_more, one_or_more}
+use Rattle.rng_model.specs.simple.Tree.{joined, Trees, no_trees, tree_and}
+use Rattle.rng_model.specs.simple.Tree.{Simple, s_empty, s_text, as_tree}
+use Rattle.rng_model.specs.simple.ClassSteps.{ClassStep}
+use Rattle.rng_model.specs.simple.Simplification.{RuleGroup, Step}
+use Rattle.rng_model.specs.simple.Simplification as step
+use Rattle.rng_simple.specs.plain.SimpleOf.{Sort, attribute_by, list_by, except_by, one_or_more_by, choice_by, both_by, join, some_of, simple_of, join_all}
+use Rattle.rng_graph.specs.plain.InTwos.{nested}
 use Rattle.rng_graph.proofs.SimpleClass.{class_normal}
 use Rattle.rng_simple.proofs.NoStep.{HasNoStep}
 use Rattle.rng_simple.proofs.Sorts.{Sorted, is_nothing, is_blank, is_proper, sorted, proper_is_allowed, proper_is_not_empty}

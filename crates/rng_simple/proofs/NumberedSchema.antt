@@ -3,22 +3,22 @@ use Rattle.std.proofs.Common.{◌≡◌, refl, ap, sym, ◌∙◌, subst, ℕ, �
 use Rattle.std.proofs.lemmas.List.{get_or_default}
 use Rattle.std.proofs.lemmas.List.Elements.{All-map, All-weaker, All-contains, Contains-get_or}
 use Rattle.std.proofs.lemmas.Option.{slice_get_within}
-use Rattle.rng_model.specs.Names.{NameClass}
-use Rattle.rng_model.specs.Tree.{Tree, Simple, as_tree}
-use Rattle.rng_model.specs.ClassSteps.{IsSimpleClassOf}
-use Rattle.rng_model.specs.Simplification.{IsSimpleFormOf}
-use Rattle.rng_graph.specs.InTwos.{nested}
-use Rattle.rng_simple.specs.SimpleOf.{simple_of}
-use Rattle.rng_model.specs.Schema.{Schema, Definition, main_start}
-use Rattle.rng_model.specs.Leaves.{LeafIn, renamed, AreLeavesBelow}
-use Rattle.rng_model.specs.Unfolding.{Leaf, Unfolds, IsTreeOf, IsBodyOf}
-use Rattle.rng_graph.specs.Expansion.{KeepsExpansion}
-use Rattle.rng_model.specs.Reached.{IsReachedBySimpleForms, from_simple_start, from_simple_body}
-use Rattle.rng_simple.specs.Renamed.{simple_renamed}
-use Rattle.rng_model.specs.SchemaForm.{Element, SimpleForm, IsElementOf, IsSimpleFormOfSchema, IsSameUpToNumbering, IsSimpleGrammarOf}
-use Rattle.rng_model.specs.SchemaForm.{IsOnlySimpleGrammarOf}
-use Rattle.rng_model.specs.Table.{Grammar}
-use Rattle.rng_simple.specs.Numbering.{no_element, element_at, AreBodies, IsNumbering}
+use Rattle.rng_model.specs.names.Names.{NameClass}
+use Rattle.rng_model.specs.simple.Tree.{Tree, Simple, as_tree}
+use Rattle.rng_model.specs.simple.ClassSteps.{IsSimpleClassOf}
+use Rattle.rng_model.specs.simple.Simplification.{IsSimpleFormOf}
+use Rattle.rng_graph.specs.plain.InTwos.{nested}
+use Rattle.rng_simple.specs.plain.SimpleOf.{simple_of}
+use Rattle.rng_model.specs.schema.Schema.{Schema, Definition, main_start}
+use Rattle.rng_model.specs.simple.Leaves.{LeafIn, renamed, AreLeavesBelow}
+use Rattle.rng_model.specs.schema.Unfolding.{Leaf, Unfolds, IsTreeOf, IsBodyOf}
+use Rattle.rng_graph.specs.plain.Expansion.{KeepsExpansion}
+use Rattle.rng_model.specs.schema.Reached.{IsReachedBySimpleForms, from_simple_start, from_simple_body}
+use Rattle.rng_simple.specs.plain.Renamed.{simple_renamed}
+use Rattle.rng_model.specs.simple.SchemaForm.{Element, SimpleForm, IsElementOf, IsSimpleFormOfSchema, IsSameUpToNumbering, IsSimpleGrammarOf}
+use Rattle.rng_model.specs.simple.SchemaForm.{IsOnlySimpleGrammarOf}
+use Rattle.rng_model.specs.simple.Table.{Grammar}
+use Rattle.rng_simple.specs.plain.Numbering.{no_element, element_at, AreBodies, IsNumbering}
 use Rattle.rng_model.proofs.Unfolding.{some_is, one_tree}
 use Rattle.rng_graph.proofs.Graphs.{found}
 use Rattle.rng_graph.proofs.GraphTables.{Contains-map}

@@ -1,16 +1,16 @@
 -- The simple form of a pattern, given those of its points, is that of its tree.
 use Rattle.std.proofs.Common.{◌≡◌, refl, ap, ◌∙◌}
-use Rattle.rng_model.specs.Tree.{Connector, choice, interleave, Tree, not_allowed, empty, text, leaf, attribute, list, data_of, data_except, value, mixed}
-use Rattle.rng_model.specs.Tree.{optional, zero_or_more, one_or_more, joined, Trees, no_trees, tree_and, Simple, s_leaf, s_empty, s_text}
-use Rattle.rng_graph.specs.InTwos.{nested}
-use Rattle.rng_simple.specs.SimpleOf.{sort_of, attribute_by, list_by, except_by, join, some_of, simple_of, join_all}
-use Rattle.rng_model.specs.Patterns.{Place, Point}
-use Rattle.rng_model.specs.Schema.{Schema}
-use Rattle.rng_model.specs.Leaves.{LeafIn, LeafAmong}
-use Rattle.rng_model.specs.Leaves as at
-use Rattle.rng_model.specs.Unfolding.{Leaf, Unfolds, UnfoldAll}
-use Rattle.rng_model.specs.Unfolding as u
-use Rattle.rng_simple.specs.SimpleWith.{simple_with, join_all_with}
+use Rattle.rng_model.specs.simple.Tree.{Connector, choice, interleave, Tree, not_allowed, empty, text, leaf, attribute, list, data_of, data_except, value, mixed}
+use Rattle.rng_model.specs.simple.Tree.{optional, zero_or_more, one_or_more, joined, Trees, no_trees, tree_and, Simple, s_leaf, s_empty, s_text}
+use Rattle.rng_graph.specs.plain.InTwos.{nested}
+use Rattle.rng_simple.specs.plain.SimpleOf.{sort_of, attribute_by, list_by, except_by, join, some_of, simple_of, join_all}
+use Rattle.rng_model.specs.schema.Patterns.{Place, Point}
+use Rattle.rng_model.specs.schema.Schema.{Schema}
+use Rattle.rng_model.specs.simple.Leaves.{LeafIn, LeafAmong}
+use Rattle.rng_model.specs.simple.Leaves as at
+use Rattle.rng_model.specs.schema.Unfolding.{Leaf, Unfolds, UnfoldAll}
+use Rattle.rng_model.specs.schema.Unfolding as u
+use Rattle.rng_simple.specs.plain.SimpleWith.{simple_with, join_all_with}
 
 module _ {L : Type 0} (s : Schema) (h : Leaf → Simple L) (g : Point → Simple L) where
   abbrev AreRight : Place → ((l : Point) → Type 0) → Type 0

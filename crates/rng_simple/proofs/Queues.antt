@@ -5,7 +5,7 @@ use Rattle.std.proofs.lemmas.List.Elements.{All-contains, All-append, Contains-a
 use Rattle.std.proofs.lemmas.List.{get_or_append_left}
 use Rattle.std.proofs.lemmas.Bool.{cases_lt}
 use Rattle.std.proofs.lemmas.Option.{slice_get_cases, slice_get_within, get_or_from_slice_get, slice_get-get_or}
-use Rattle.rng_simple.specs.Worklist.{IsReachedBy, at_start, onward, IsQueue}
+use Rattle.rng_simple.specs.plain.Worklist.{IsReachedBy, at_start, onward, IsQueue}
 
 some_at : {A : Type 0} (xs : List A) (x : A) → Contains xs x → (k : ℕ) × (k < length xs) × (slice_get xs k ≡ Some x)
 some_at xs x c = elim (slice_get_cases xs c.0).1 [

@@ -1,11 +1,11 @@
 -- Simple trees with renamed leaves, and where the leaves of two that were joined come from.
 use Rattle.std.proofs.Common.{◌≡◌, ◌⊎◌, inl, inr, refl, ap, ap₂}
-use Rattle.rng_model.specs.Tree.{Connector, choice, group, interleave, attribute, list, data_except, one_or_more, joined, no_trees, as_tree}
-use Rattle.rng_model.specs.Tree.{Simple, s_not_allowed, s_empty, s_text, s_leaf, s_attribute, s_list, s_data, s_data_except, s_value, s_one_or_more, s_joined}
-use Rattle.rng_model.specs.Leaves.{renamed, LeafIn}
-use Rattle.rng_model.specs.Leaves as f
-use Rattle.rng_simple.specs.SimpleOf.{Sort, nothing, blank, proper, sort_of, choice_by, both_by, joined_by, join}
-use Rattle.rng_simple.specs.Renamed.{simple_renamed}
+use Rattle.rng_model.specs.simple.Tree.{Connector, choice, group, interleave, attribute, list, data_except, one_or_more, joined, no_trees, as_tree}
+use Rattle.rng_model.specs.simple.Tree.{Simple, s_not_allowed, s_empty, s_text, s_leaf, s_attribute, s_list, s_data, s_data_except, s_value, s_one_or_more, s_joined}
+use Rattle.rng_model.specs.simple.Leaves.{renamed, LeafIn}
+use Rattle.rng_model.specs.simple.Leaves as f
+use Rattle.rng_simple.specs.plain.SimpleOf.{Sort, nothing, blank, proper, sort_of, choice_by, both_by, joined_by, join}
+use Rattle.rng_simple.specs.plain.Renamed.{simple_renamed}
 use Rattle.rng_simple.proofs.Sorts.{Sorted, is_nothing, is_blank, is_proper, sorted}
 
 module _ {K L : Type 0} where

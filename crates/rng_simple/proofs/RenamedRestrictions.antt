@@ -1,13 +1,13 @@
 -- The restrictions do not depend on how the elements are named: a pattern breaks one exactly if it does with other names for its leaves.
 use Rattle.std.proofs.Common.{◌≡◌, ◌⊎◌, inl, inr, refl, ap, sym, ◌∙◌, subst}
-use Rattle.rng_model.specs.Names.{NameClass}
-use Rattle.rng_model.specs.Tree as tree
-use Rattle.rng_model.specs.Tree.{Simple, s_not_allowed, s_empty, s_text, s_leaf, s_attribute, s_list, s_data, s_data_except, s_value, s_one_or_more, s_joined}
-use Rattle.rng_model.specs.Restrictions as r
-use Rattle.rng_model.specs.Restrictions.{Kind, ContentType, kind_of, StandsIn, Inside, StandsUnrepeated, OccursIn, HasContent, AreGroupable, greater}
-use Rattle.rng_model.specs.Restrictions.{BreaksAttribute, BreaksOneOrMore, BreaksList, BreaksExcept, BreaksStart, BreaksContent, BreaksAttributeNames}
-use Rattle.rng_model.specs.Restrictions.{BreaksWildcard, BreaksElementNames, BreaksText}
-use Rattle.rng_simple.specs.Renamed.{simple_renamed}
+use Rattle.rng_model.specs.names.Names.{NameClass}
+use Rattle.rng_model.specs.simple.Tree as tree
+use Rattle.rng_model.specs.simple.Tree.{Simple, s_not_allowed, s_empty, s_text, s_leaf, s_attribute, s_list, s_data, s_data_except, s_value, s_one_or_more, s_joined}
+use Rattle.rng_model.specs.restrictions.Restrictions as r
+use Rattle.rng_model.specs.restrictions.Restrictions.{Kind, ContentType, kind_of, StandsIn, Inside, StandsUnrepeated, OccursIn, HasContent, AreGroupable, greater}
+use Rattle.rng_model.specs.restrictions.Restrictions.{BreaksAttribute, BreaksOneOrMore, BreaksList, BreaksExcept, BreaksStart, BreaksContent, BreaksAttributeNames}
+use Rattle.rng_model.specs.restrictions.Restrictions.{BreaksWildcard, BreaksElementNames, BreaksText}
+use Rattle.rng_simple.specs.plain.Renamed.{simple_renamed}
 
 module _ {L : Type 0} where
   -- what stands in a pattern that stands in a third stands in this

@@ -1,10 +1,10 @@
 -- Simple trees whose leaves are renamed twice, or to themselves.
 use Rattle.std.proofs.Common.{◌≡◌, refl, ap, ap₂}
-use Rattle.rng_model.specs.Tree.{Simple, s_not_allowed, s_empty, s_text, s_leaf, s_attribute, s_list, s_data, s_data_except, s_value, s_one_or_more}
-use Rattle.rng_model.specs.Tree.{s_joined, as_tree}
-use Rattle.rng_model.specs.Leaves.{LeafIn}
-use Rattle.rng_model.specs.Leaves as at
-use Rattle.rng_simple.specs.Renamed.{simple_renamed}
+use Rattle.rng_model.specs.simple.Tree.{Simple, s_not_allowed, s_empty, s_text, s_leaf, s_attribute, s_list, s_data, s_data_except, s_value, s_one_or_more}
+use Rattle.rng_model.specs.simple.Tree.{s_joined, as_tree}
+use Rattle.rng_model.specs.simple.Leaves.{LeafIn}
+use Rattle.rng_model.specs.simple.Leaves as at
+use Rattle.rng_simple.specs.plain.Renamed.{simple_renamed}
 
 -- renaming twice
 pub renamed_twice : {A B C : Type 0} (f : B → C) (g : A → B) (u : Simple A) → simple_renamed f (simple_renamed g u) ≡ simple_renamed (λ a. f (g a)) u

@@ -1,10 +1,10 @@
 -- What a tree matches by one reading of its leaves, each tree that corresponds to it matches by another.
 use Rattle.std.proofs.Common.{List, ℕ}
-use Rattle.rng_model.specs.Names.{Name, NameClass}
-use Rattle.rng_model.specs.Tree.{Connector, Tree, Trees}
-use Rattle.rng_model.specs.Document.{Attribute, Item}
-use Rattle.rng_model.specs.Matching.{Texts, Leaves, Matches, MatchesOne, MatchesAll, Weakly}
-use Rattle.rng_model.specs.Matching as m
+use Rattle.rng_model.specs.names.Names.{Name, NameClass}
+use Rattle.rng_model.specs.simple.Tree.{Connector, Tree, Trees}
+use Rattle.rng_model.specs.matching.Document.{Attribute, Item}
+use Rattle.rng_model.specs.matching.Matching.{Texts, Leaves, Matches, MatchesOne, MatchesAll, Weakly}
+use Rattle.rng_model.specs.matching.Matching as m
 use Rattle.rng_simple.proofs.Correspondence.{Corresponds, AllCorrespond}
 use Rattle.rng_simple.proofs.Correspondence as s
 

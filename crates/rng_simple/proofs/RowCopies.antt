@@ -6,23 +6,23 @@ use Rattle.std.proofs.lemmas.Bool.{cases_lt}
 use Rattle.std.proofs.lemmas.List.{get_or_append_left, get_or_push, append-nil}
 use Rattle.std.proofs.lemmas.List.Elements.{All-append, All-weaker, Contains-append_left, Contains-append_right, Contains-append_cases}
 use Rattle.std.proofs.lemmas.Option.{slice_get_within, slice_get-get_or, get_or_from_slice_get}
-use Rattle.rng_model.specs.Tree as tree
-use Rattle.rng_model.specs.Tree.{as_tree, choice, group, interleave, s_not_allowed, s_leaf, s_attribute, s_list, s_data_except, s_one_or_more, s_joined}
-use Rattle.rng_model.specs.Leaves.{LeafIn, AreLeavesBelow}
-use Rattle.rng_model.specs.Leaves as at
-use Rattle.rng_model.specs.Table.{tree_over, IsLeafListed, IsClassPaired}
-use Rattle.rng_model.specs.Table as tables
+use Rattle.rng_model.specs.simple.Tree as tree
+use Rattle.rng_model.specs.simple.Tree.{as_tree, choice, group, interleave, s_not_allowed, s_leaf, s_attribute, s_list, s_data_except, s_one_or_more, s_joined}
+use Rattle.rng_model.specs.simple.Leaves.{LeafIn, AreLeavesBelow}
+use Rattle.rng_model.specs.simple.Leaves as at
+use Rattle.rng_model.specs.simple.Table.{tree_over, IsLeafListed, IsClassPaired}
+use Rattle.rng_model.specs.simple.Table as tables
 use Rattle.rng_model.specs.declared.simple.Simple.{Simple}
 use Rattle.rng_model.specs.declared.simple.Simple.TheVariants as simple
 use Rattle.rng_model.proofs.NumberedTrees as numbered
 use Rattle.rng_model.proofs.Unfolding.{some_is}
-use Rattle.rng_simple.specs.Copying.{tree_numbered, place_of, listed_at, AllChildren, own_elements, numbered_row, IsRowCopy, IsCopied, IsRowTree, AreCopied}
-use Rattle.rng_simple.specs.Renamed.{simple_renamed}
+use Rattle.rng_simple.specs.plain.Copying.{tree_numbered, place_of, listed_at, AllChildren, own_elements, numbered_row, IsRowCopy, IsCopied, IsRowTree, AreCopied}
+use Rattle.rng_simple.specs.plain.Renamed.{simple_renamed}
 use Rattle.std.specs.HashMap.{HashMap}
-use Rattle.rng_simple.specs.RowIndex.{IsIndex}
-use Rattle.rng_simple.specs.RowReach.{nexts}
-use Rattle.rng_simple.specs.Rows.{Labels, row_tree, class_at, datatype_at, tree_at, AreChildrenBelow, Falls, AreDistinctRows}
-use Rattle.rng_simple.specs.Worklist.{AreDistinctNumbers}
+use Rattle.rng_simple.specs.views.RowIndex.{IsIndex}
+use Rattle.rng_simple.specs.plain.RowReach.{nexts}
+use Rattle.rng_simple.specs.views.Rows.{Labels, row_tree, class_at, datatype_at, tree_at, AreChildrenBelow, Falls, AreDistinctRows}
+use Rattle.rng_simple.specs.plain.Worklist.{AreDistinctNumbers}
 use Rattle.rng_simple.specs.declared.rows.Row.{Row}
 use Rattle.rng_simple.specs.declared.rows.Row.TheVariants as row
 use Rattle.rng_model.proofs.Table.{falls_after_push}

@@ -7,7 +7,7 @@ use Rattle.std.proofs.lemmas.Option.{slice_get_within, slice_get-get_or, get_or_
 use Rattle.std.specs.HashMap.{HashMap}
 use Rattle.rng_simple.specs.declared.rows.Row.{Row}
 use Rattle.rng_simple.specs.contracts.rows.RowPartialEq.TheImpl as same
-use Rattle.rng_simple.specs.RowIndex.{IsIndex, number_of_row}
+use Rattle.rng_simple.specs.views.RowIndex.{IsIndex, number_of_row}
 
 pub row_exact : (x y : Row) → same.ghosts.eq x y ≡ true → x ≡ y
 row_exact x y e = search rules

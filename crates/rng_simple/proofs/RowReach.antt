@@ -5,15 +5,15 @@ use Rattle.std.proofs.lemmas.Bool.{cases_lt}
 use Rattle.std.proofs.lemmas.List.{get_or-map, get_or_past, length-map}
 use Rattle.std.proofs.lemmas.List.Elements.{Contains-append_cases, Contains-push_cases}
 use Rattle.std.proofs.lemmas.Option.{slice_get-get_or, slice_get_within, get_or_from_slice_get}
-use Rattle.rng_model.specs.Tree.{Simple, as_tree}
-use Rattle.rng_model.specs.Leaves.{LeafIn}
-use Rattle.rng_model.specs.Leaves as at
+use Rattle.rng_model.specs.simple.Tree.{Simple, as_tree}
+use Rattle.rng_model.specs.simple.Leaves.{LeafIn}
+use Rattle.rng_model.specs.simple.Leaves as at
 use Rattle.rng_simple.specs.declared.rows.Row.{Row}
 use Rattle.rng_simple.specs.declared.rows.Row.TheVariants as row
-use Rattle.rng_simple.specs.GrammarBy.{IsNumberReached, in_first, in_body}
-use Rattle.rng_simple.specs.Rows.{Labels, row_tree, tree_at, AreChildrenBelow, Falls}
-use Rattle.rng_simple.specs.RowReach.{nexts, row_next}
-use Rattle.rng_simple.specs.Worklist.{IsReachedBy, at_start, onward}
+use Rattle.rng_simple.specs.plain.GrammarBy.{IsNumberReached, in_first, in_body}
+use Rattle.rng_simple.specs.views.Rows.{Labels, row_tree, tree_at, AreChildrenBelow, Falls}
+use Rattle.rng_simple.specs.plain.RowReach.{nexts, row_next}
+use Rattle.rng_simple.specs.plain.Worklist.{IsReachedBy, at_start, onward}
 use Rattle.rng_simple.proofs.RowTrees.{tree_at-over_children}
 
 pub one_only : (x y : ℕ) → Contains (x ∷ []) y → x ≡ y

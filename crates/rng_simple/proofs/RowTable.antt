@@ -4,15 +4,15 @@ use Rattle.std.proofs.Common.{length-append}
 use Rattle.std.proofs.lemmas.Bool.{cases_lt, cases_eq}
 use Rattle.std.proofs.lemmas.List.{get_or_past, append-nil}
 use Rattle.std.proofs.lemmas.Option.{slice_get_within, slice_get-get_or}
-use Rattle.rng_model.specs.Names.{NameClass}
-use Rattle.rng_model.specs.Tree.{Datatype, Simple, s_not_allowed, IsSimpleBody}
-use Rattle.rng_simple.specs.SimpleOf.{proper, sort_of}
+use Rattle.rng_model.specs.names.Names.{NameClass}
+use Rattle.rng_model.specs.simple.Tree.{Datatype, Simple, s_not_allowed, IsSimpleBody}
+use Rattle.rng_simple.specs.plain.SimpleOf.{proper, sort_of}
 use Rattle.rng_simple.specs.declared.rows.Row.{Row}
 use Rattle.rng_simple.specs.declared.rows.Row.TheVariants as row
 use Rattle.rng_simple.specs.declared.row_table.RowTable.{RowTable}
-use Rattle.rng_simple.specs.RowIndex.{IsIndex, with_row}
-use Rattle.rng_simple.specs.Rows.{Labels, row_tree, trees, tree_at, AreChildrenBelow, IsLabelled, AreRows, AreMoreLabels}
-use Rattle.rng_simple.specs.RowTable.{labels_of, row_count, tree_of, IsRowTable, IsRelabelled, AreCoded}
+use Rattle.rng_simple.specs.views.RowIndex.{IsIndex, with_row}
+use Rattle.rng_simple.specs.views.Rows.{Labels, row_tree, trees, tree_at, AreChildrenBelow, IsLabelled, AreRows, AreMoreLabels}
+use Rattle.rng_simple.specs.views.RowTable.{labels_of, row_count, tree_of, IsRowTable, IsRelabelled, AreCoded}
 use Rattle.rng_simple.proofs.RowIndex.{at_end, in_front}
 use Rattle.rng_simple.proofs.RowTrees.{reads_below, tree_at-over_children, tree_of_pushed, tree_stays_after_push, length-trees, stay_labelled, trees_stay}
 

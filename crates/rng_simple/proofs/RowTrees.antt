@@ -2,14 +2,14 @@
 use Rattle.std.proofs.Common.{◌≡◌, refl, ap, ap₂, ◌∙◌, ℕ, ◌<◌, List, [], ◌∷◌, ◌++◌, length, fold, slice_get, slice_index_or, Some, arith}
 use Rattle.std.proofs.Common.{length-append, suc}
 use Rattle.std.proofs.lemmas.List.{get_or_append_left}
-use Rattle.rng_model.specs.Tree.{choice, group, interleave}
-use Rattle.rng_model.specs.Tree.{Simple, s_not_allowed, s_attribute, s_list, s_data, s_data_except, s_value, s_one_or_more, s_joined}
+use Rattle.rng_model.specs.simple.Tree.{choice, group, interleave}
+use Rattle.rng_model.specs.simple.Tree.{Simple, s_not_allowed, s_attribute, s_list, s_data, s_data_except, s_value, s_one_or_more, s_joined}
 use Rattle.rng_model.proofs.NumberedTrees as numbered
-use Rattle.rng_model.specs.Names.{any_name}
+use Rattle.rng_model.specs.names.Names.{any_name}
 use Rattle.rng_simple.specs.declared.rows.Row.{Row}
 use Rattle.rng_simple.specs.declared.rows.Row.TheVariants as row
-use Rattle.rng_simple.specs.Rows.{Labels, no_datatype, class_at, datatype_at, row_tree, with_tree, trees, tree_at, AreChildrenBelow, IsLabelled}
-use Rattle.rng_simple.specs.Rows.{Falls, AreLabelled, AreMoreLabels}
+use Rattle.rng_simple.specs.views.Rows.{Labels, no_datatype, class_at, datatype_at, row_tree, with_tree, trees, tree_at, AreChildrenBelow, IsLabelled}
+use Rattle.rng_simple.specs.views.Rows.{Falls, AreLabelled, AreMoreLabels}
 
 -- ---- one row at a time
 

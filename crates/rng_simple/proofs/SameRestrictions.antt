@@ -2,23 +2,23 @@
 use Rattle.std.proofs.Common.{◌≡◌, refl, ap, sym, ◌∙◌, subst, ℕ, zero, suc, ◌<◌, List, [], ◌∷◌, length, slice_get, Some, Contains, arith}
 use Rattle.std.proofs.lemmas.List.Elements.{All-contains}
 use Rattle.std.proofs.lemmas.Option.{slice_get_within}
-use Rattle.rng_model.specs.Lists.{Among}
-use Rattle.rng_model.specs.Lists as lists
-use Rattle.rng_model.specs.Names.{NameClass}
-use Rattle.rng_model.specs.Restrictions as r
-use Rattle.rng_model.specs.Restrictions.{BreaksRestriction, ClassIn, IsPart, StandsIn, the_start, a_body}
-use Rattle.rng_model.specs.Schema.{Schema}
-use Rattle.rng_model.specs.SchemaForm.{Element, SimpleForm, IsElementOf, IsSimpleFormOfSchema, IsSameUpToNumbering, IsSimpleGrammarOf}
-use Rattle.rng_model.specs.Leaves.{LeafIn, AreLeavesBelow, renamed}
-use Rattle.rng_model.specs.Leaves as at
-use Rattle.rng_model.specs.ClassSteps.{IsSimpleClassOf}
-use Rattle.rng_model.specs.Table.{Grammar}
-use Rattle.rng_model.specs.Tree.{Simple, s_leaf, as_tree}
-use Rattle.rng_model.specs.Unfolding.{Leaf, IsBodyOf}
+use Rattle.rng_model.specs.names.Lists.{Among}
+use Rattle.rng_model.specs.names.Lists as lists
+use Rattle.rng_model.specs.names.Names.{NameClass}
+use Rattle.rng_model.specs.restrictions.Restrictions as r
+use Rattle.rng_model.specs.restrictions.Restrictions.{BreaksRestriction, ClassIn, IsPart, StandsIn, the_start, a_body}
+use Rattle.rng_model.specs.schema.Schema.{Schema}
+use Rattle.rng_model.specs.simple.SchemaForm.{Element, SimpleForm, IsElementOf, IsSimpleFormOfSchema, IsSameUpToNumbering, IsSimpleGrammarOf}
+use Rattle.rng_model.specs.simple.Leaves.{LeafIn, AreLeavesBelow, renamed}
+use Rattle.rng_model.specs.simple.Leaves as at
+use Rattle.rng_model.specs.simple.ClassSteps.{IsSimpleClassOf}
+use Rattle.rng_model.specs.simple.Table.{Grammar}
+use Rattle.rng_model.specs.simple.Tree.{Simple, s_leaf, as_tree}
+use Rattle.rng_model.specs.schema.Unfolding.{Leaf, IsBodyOf}
 use Rattle.rng_model.proofs.SimpleTrees.{same_simple}
 use Rattle.rng_model.proofs.Unfolding.{one_tree, some_is}
 use Rattle.rng_graph.proofs.Graphs.{found}
-use Rattle.rng_simple.specs.Renamed.{simple_renamed}
+use Rattle.rng_simple.specs.plain.Renamed.{simple_renamed}
 use Rattle.rng_simple.proofs.NumberedSchema.{same_element, same_class, same_form, only_simple_grammar}
 use Rattle.rng_simple.proofs.Renamed.{as_tree_renamed}
 use Rattle.rng_simple.proofs.RenamedRestrictions.{attribute_forth, one_or_more_forth, list_forth, except_forth, start_forth, content_forth}

@@ -2,25 +2,25 @@
 use Rattle.std.proofs.Common.{◌≡◌, ◌↔◌, ◌∙◌, refl, sym, ap, subst, List, ℕ, ◌<◌, length, slice_get, get_or, Some, ◌∷◌, []}
 use Rattle.std.proofs.lemmas.List.Elements.{All-contains}
 use Rattle.std.proofs.lemmas.Option.{slice_get-get_or}
-use Rattle.rng_model.specs.Names.{NameClass, In}
-use Rattle.rng_model.specs.Tree.{Tree, Simple, s_empty, as_tree}
-use Rattle.rng_model.specs.Document.{Item}
-use Rattle.rng_model.specs.Matching.{Texts}
-use Rattle.rng_model.specs.Lex.{HasText}
-use Rattle.rng_model.specs.Table.{Nothing, Grammar, IsListed, is_listed, grammar_leaves, IsValidBy}
-use Rattle.rng_model.specs.Texts.{texts_of}
-use Rattle.rng_model.specs.DatatypeTests.{text_tests}
-use Rattle.rng_model.specs.Leaves.{renamed}
-use Rattle.rng_model.specs.Patterns.{Point}
-use Rattle.rng_model.specs.Schema.{Schema, main_start, body}
-use Rattle.rng_model.specs.Unfolding.{Leaf, Unfolds, IsBodyOf}
-use Rattle.rng_model.specs.Reached.{IsReachedBySimpleForms, from_simple_start, from_simple_body}
-use Rattle.rng_model.specs.SchemaForm.{SimpleForm, IsElementOf, IsSimpleFormOfSchema, IsSameUpToNumbering, IsSimpleGrammarOf}
-use Rattle.rng_model.specs.SchemaMatching.{IsValidOver, AreSameDocuments}
+use Rattle.rng_model.specs.names.Names.{NameClass, In}
+use Rattle.rng_model.specs.simple.Tree.{Tree, Simple, s_empty, as_tree}
+use Rattle.rng_model.specs.matching.Document.{Item}
+use Rattle.rng_model.specs.matching.Matching.{Texts}
+use Rattle.rng_model.specs.matching.Lex.{HasText}
+use Rattle.rng_model.specs.simple.Table.{Nothing, Grammar, IsListed, is_listed, grammar_leaves, IsValidBy}
+use Rattle.rng_model.specs.datatypes.Texts.{texts_of}
+use Rattle.rng_model.specs.datatypes.DatatypeTests.{text_tests}
+use Rattle.rng_model.specs.simple.Leaves.{renamed}
+use Rattle.rng_model.specs.schema.Patterns.{Point}
+use Rattle.rng_model.specs.schema.Schema.{Schema, main_start, body}
+use Rattle.rng_model.specs.schema.Unfolding.{Leaf, Unfolds, IsBodyOf}
+use Rattle.rng_model.specs.schema.Reached.{IsReachedBySimpleForms, from_simple_start, from_simple_body}
+use Rattle.rng_model.specs.simple.SchemaForm.{SimpleForm, IsElementOf, IsSimpleFormOfSchema, IsSameUpToNumbering, IsSimpleGrammarOf}
+use Rattle.rng_model.specs.matching.SchemaMatching.{IsValidOver, AreSameDocuments}
 use Rattle.rng_model.proofs.Unfolding.{some_is, one_tree}
-use Rattle.rng_graph.specs.InTwos.{nested}
+use Rattle.rng_graph.specs.plain.InTwos.{nested}
 use Rattle.rng_graph.proofs.SimpleClass.{is_only_simple_class}
-use Rattle.rng_simple.specs.SimpleOf.{simple_of}
+use Rattle.rng_simple.specs.plain.SimpleOf.{simple_of}
 use Rattle.rng_simple.proofs.SimpleForms.{has_simple_form, is_only_simple_form}
 use Rattle.rng_simple.proofs.StepMatches.{weakly}
 use Rattle.rng_simple.proofs.NestedNames.{nested_out}

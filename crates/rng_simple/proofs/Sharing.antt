@@ -1,8 +1,8 @@
 -- Interleavings and cuts of three parts, in twos from either end; and a connector with nothing on one side.
 use Rattle.std.proofs.Common.{◌≡◌, refl, ap, ◌∙◌, sym, List, [], ◌++◌, append_assoc, append-nil}
-use Rattle.rng_model.specs.Tree.{Connector, choice, group, interleave}
+use Rattle.rng_model.specs.simple.Tree.{Connector, choice, group, interleave}
 use Rattle.rng_model.proofs.Interleaving.{left_alone, right_alone, left_is_all, right_is_all}
-use Rattle.rng_model.specs.Document.{Interleaves, done, left, right, Shares, in_order, in_any_order}
+use Rattle.rng_model.specs.matching.Document.{Interleaves, done, left, right, Shares, in_order, in_any_order}
 
 pub record Regrouped {A : Type 0} (xs ys zs os : List A) : Type 0 where
   pub two : List A

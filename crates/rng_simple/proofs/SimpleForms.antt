@@ -1,8 +1,8 @@
 -- Each tree has one simple form, and the function gives it.
 use Rattle.std.proofs.Common.{◌≡◌, ap, ◌∙◌, sym}
-use Rattle.rng_model.specs.Tree.{Tree, as_tree}
-use Rattle.rng_model.specs.Simplification.{IsSimpleFormOf}
-use Rattle.rng_simple.specs.SimpleOf.{simple_of}
+use Rattle.rng_model.specs.simple.Tree.{Tree, as_tree}
+use Rattle.rng_model.specs.simple.Simplification.{IsSimpleFormOf}
+use Rattle.rng_simple.specs.plain.SimpleOf.{simple_of}
 use Rattle.rng_simple.proofs.StepSimpleOf.{steps_keep}
 use Rattle.rng_simple.proofs.NoStep.{unchanged}
 use Rattle.rng_simple.proofs.Reached.{reached}

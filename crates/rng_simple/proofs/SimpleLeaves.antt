@@ -1,20 +1,20 @@
 -- The leaves of a simple form are leaves of the tree; what is reached through simple forms is reached; and the plain function
 -- on patterns with numbers in place of leaves.
 use Rattle.std.proofs.Common.{◌≡◌, ◌⊎◌, inl, inr, refl, ap, ap₂, ◌∙◌, sym, subst}
-use Rattle.rng_model.specs.Names.{NameClass}
-use Rattle.rng_model.specs.Tree.{Datatype, Connector, choice, interleave, Tree, not_allowed, empty, text, leaf, attribute, list, data_of, data_except}
-use Rattle.rng_model.specs.Tree.{value, mixed, optional, zero_or_more, one_or_more, joined, Trees, no_trees, tree_and, Simple, s_empty, s_text, as_tree}
-use Rattle.rng_simple.specs.SimpleOf.{Sort, nothing, blank, proper, sort_of, attribute_by, list_by, except_by, one_or_more_by, join, some_of, simple_of}
-use Rattle.rng_simple.specs.SimpleOf.{join_all}
-use Rattle.rng_graph.specs.InTwos.{nested}
-use Rattle.rng_model.specs.Simplification.{IsSimpleFormOf}
-use Rattle.rng_model.specs.Schema.{Schema}
-use Rattle.rng_model.specs.Leaves.{LeafIn, LeafAmong, renamed, all_renamed}
-use Rattle.rng_model.specs.Leaves as at
-use Rattle.rng_model.specs.Unfolding.{Leaf}
-use Rattle.rng_model.specs.Reached.{IsReachedByTrees, from_start, from_element, IsReachedBySimpleForms, from_simple_start, from_simple_body}
-use Rattle.rng_simple.specs.SimpleWith.{simple_with, join_all_with}
-use Rattle.rng_simple.specs.Renamed.{simple_renamed}
+use Rattle.rng_model.specs.names.Names.{NameClass}
+use Rattle.rng_model.specs.simple.Tree.{Datatype, Connector, choice, interleave, Tree, not_allowed, empty, text, leaf, attribute, list, data_of, data_except}
+use Rattle.rng_model.specs.simple.Tree.{value, mixed, optional, zero_or_more, one_or_more, joined, Trees, no_trees, tree_and, Simple, s_empty, s_text, as_tree}
+use Rattle.rng_simple.specs.plain.SimpleOf.{Sort, nothing, blank, proper, sort_of, attribute_by, list_by, except_by, one_or_more_by, join, some_of, simple_of}
+use Rattle.rng_simple.specs.plain.SimpleOf.{join_all}
+use Rattle.rng_graph.specs.plain.InTwos.{nested}
+use Rattle.rng_model.specs.simple.Simplification.{IsSimpleFormOf}
+use Rattle.rng_model.specs.schema.Schema.{Schema}
+use Rattle.rng_model.specs.simple.Leaves.{LeafIn, LeafAmong, renamed, all_renamed}
+use Rattle.rng_model.specs.simple.Leaves as at
+use Rattle.rng_model.specs.schema.Unfolding.{Leaf}
+use Rattle.rng_model.specs.schema.Reached.{IsReachedByTrees, from_start, from_element, IsReachedBySimpleForms, from_simple_start, from_simple_body}
+use Rattle.rng_simple.specs.plain.SimpleWith.{simple_with, join_all_with}
+use Rattle.rng_simple.specs.plain.Renamed.{simple_renamed}
 use Rattle.rng_simple.proofs.Sorts.{Sorted, is_nothing, is_blank, is_proper, sorted}
 use Rattle.rng_simple.proofs.Renamed.{join_leaves, join_renamed, renamed_sort}
 use Rattle.rng_simple.proofs.SimpleForms.{is_only_simple_form}

@@ -2,23 +2,23 @@
 use Rattle.std.proofs.Common.{◌≡◌, refl, ap, ap₂, sym, ◌∙◌, ℕ, ◌<◌, ◌+◌, ◌≤◌, suc, List, [], ◌∷◌, length, map, drop, get_or, slice_index_or, rules, arith}
 use Rattle.std.proofs.Math.Seq.{drop-cons}
 use Rattle.std.proofs.lemmas.Option.{slice_get_within}
-use Rattle.rng_model.specs.Names.{NameClass}
-use Rattle.rng_model.specs.Tree.{Datatype, Connector, choice, group, interleave, Tree, empty, attribute, list, data_except, mixed, optional, zero_or_more}
-use Rattle.rng_model.specs.Tree.{one_or_more}
-use Rattle.rng_model.specs.Tree.{joined, no_trees, Simple, s_leaf, s_not_allowed, s_empty, s_text}
-use Rattle.rng_graph.specs.InTwos.{nested}
-use Rattle.rng_model.specs.Schema.{nested_from}
-use Rattle.rng_graph.specs.Graph.{Spot, of_spot}
-use Rattle.rng_graph.specs.GraphView.{trees_of, members, combined, graph_pattern_of}
+use Rattle.rng_model.specs.names.Names.{NameClass}
+use Rattle.rng_model.specs.simple.Tree.{Datatype, Connector, choice, group, interleave, Tree, empty, attribute, list, data_except, mixed, optional, zero_or_more}
+use Rattle.rng_model.specs.simple.Tree.{one_or_more}
+use Rattle.rng_model.specs.simple.Tree.{joined, no_trees, Simple, s_leaf, s_not_allowed, s_empty, s_text}
+use Rattle.rng_graph.specs.plain.InTwos.{nested}
+use Rattle.rng_model.specs.schema.Schema.{nested_from}
+use Rattle.rng_graph.specs.plain.Graph.{Spot, of_spot}
+use Rattle.rng_graph.specs.views.GraphView.{trees_of, members, combined, graph_pattern_of}
 use Rattle.rng_graph.specs.declared.graph.GraphPattern.{the_lemmas}
 use Rattle.rng_graph.specs.declared.graph.GraphPattern.TheVariants as patterns
 use Rattle.rng_simple.specs.declared.rows.Row.TheVariants as row
 use Rattle.rng_simple.specs.declared.row_table.RowTable.{RowTable}
-use Rattle.rng_simple.specs.SimpleOf.{sort_of, attribute_by, list_by, except_by, some_of, join}
-use Rattle.rng_simple.specs.SimpleWith.{simple_with, join_all_with}
-use Rattle.rng_simple.specs.GrammarBy.{spot_simple}
-use Rattle.rng_simple.specs.RowTable.{labels_of, row_count, tree_of, IsRowTable, IsGrown}
-use Rattle.rng_simple.specs.SimpleParts.{AreRowsBelow, values_in, joined_simple, none_of}
+use Rattle.rng_simple.specs.plain.SimpleOf.{sort_of, attribute_by, list_by, except_by, some_of, join}
+use Rattle.rng_simple.specs.plain.SimpleWith.{simple_with, join_all_with}
+use Rattle.rng_simple.specs.plain.GrammarBy.{spot_simple}
+use Rattle.rng_simple.specs.views.RowTable.{labels_of, row_count, tree_of, IsRowTable, IsGrown}
+use Rattle.rng_simple.specs.plain.SimpleParts.{AreRowsBelow, values_in, joined_simple, none_of}
 use Rattle.rng_simple.proofs.RowTrees.{tree_at-over_children}
 use Rattle.rng_simple.proofs.SimpleTables.{simple_reads}
 

@@ -4,15 +4,15 @@ use Rattle.std.proofs.Common.{Some, arith, length-append}
 use Rattle.std.proofs.lemmas.Bool.{cases_lt, cases_eq}
 use Rattle.std.proofs.lemmas.List.{take_more, get_or-set_same, get_or-set_other, get_or_past, get_or_append_left, get_or_push}
 use Rattle.std.proofs.lemmas.Option.{slice_get-get_or, get_or_from_slice_get}
-use Rattle.rng_model.specs.Tree.{Tree, empty, s_empty, Simple}
-use Rattle.rng_graph.specs.Graph.{Spot, Graph, Mentions, IsOrderBy, IsFilledBy}
+use Rattle.rng_model.specs.simple.Tree.{Tree, empty, s_empty, Simple}
+use Rattle.rng_graph.specs.plain.Graph.{Spot, Graph, Mentions, IsOrderBy, IsFilledBy}
 use Rattle.rng_graph.proofs.Filling.{filled_more}
 use Rattle.rng_graph.proofs.Orders.{first_in_order, mentions_earlier}
 use Rattle.rng_simple.specs.declared.row_table.RowTable.{RowTable}
-use Rattle.rng_simple.specs.GrammarBy.{spot_simple, content_simple}
-use Rattle.rng_simple.specs.SimpleWith.{simple_with}
-use Rattle.rng_simple.specs.RowTable.{row_count, tree_of, IsRowTable, IsGrown}
-use Rattle.rng_simple.specs.SimpleParts.{AreRowsBelow, values_in}
+use Rattle.rng_simple.specs.plain.GrammarBy.{spot_simple, content_simple}
+use Rattle.rng_simple.specs.plain.SimpleWith.{simple_with}
+use Rattle.rng_simple.specs.views.RowTable.{row_count, tree_of, IsRowTable, IsGrown}
+use Rattle.rng_simple.specs.plain.SimpleParts.{AreRowsBelow, values_in}
 use Rattle.rng_simple.proofs.SimpleParts.{empty_below, empty_is, stay_below}
 use Rattle.rng_simple.proofs.SimpleTables.{simple_reads}
 

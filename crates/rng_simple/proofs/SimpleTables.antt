@@ -1,20 +1,20 @@
 -- Tables of simple forms that are filled along an order are right: by definitions, and by the numbers of a graph.
 use Rattle.std.proofs.Common.{◌≡◌, refl, ap, sym, ◌∙◌, ℕ, List, length, Contains}
-use Rattle.rng_model.specs.Tree.{Tree, leaf, Simple, s_leaf, s_not_allowed}
-use Rattle.rng_model.specs.Patterns.{Place, Point}
-use Rattle.rng_model.specs.Schema.{Schema, Definition}
-use Rattle.rng_model.specs.Leaves.{LeafIn}
-use Rattle.rng_model.specs.Unfolding.{Leaf, aim, Unfolds}
-use Rattle.rng_graph.specs.Met.{IsSettled, IsOrder}
-use Rattle.rng_graph.specs.DepthWith.{of_aim, IsFilled, IsRight}
-use Rattle.rng_graph.specs.Graph.{Spot, at_element, at_definition, Graph, element_aim, definition_aim, aim_at, IsSpotBelow, IsResolved, IsGraphOf}
-use Rattle.rng_graph.specs.Graph.{of_spot, leaf_number}
+use Rattle.rng_model.specs.simple.Tree.{Tree, leaf, Simple, s_leaf, s_not_allowed}
+use Rattle.rng_model.specs.schema.Patterns.{Place, Point}
+use Rattle.rng_model.specs.schema.Schema.{Schema, Definition}
+use Rattle.rng_model.specs.simple.Leaves.{LeafIn}
+use Rattle.rng_model.specs.schema.Unfolding.{Leaf, aim, Unfolds}
+use Rattle.rng_graph.specs.plain.Met.{IsSettled, IsOrder}
+use Rattle.rng_graph.specs.plain.DepthWith.{of_aim, IsFilled, IsRight}
+use Rattle.rng_graph.specs.plain.Graph.{Spot, at_element, at_definition, Graph, element_aim, definition_aim, aim_at, IsSpotBelow, IsResolved, IsGraphOf}
+use Rattle.rng_graph.specs.plain.Graph.{of_spot, leaf_number}
 use Rattle.rng_graph.proofs.Filled.{body_right, filled_right}
 use Rattle.rng_graph.proofs.Filling.{ReadsMentions}
 use Rattle.rng_graph.proofs.Graphs.{found}
 use Rattle.rng_graph.proofs.GraphTables.{number_is, leaf_number_is, table_of}
-use Rattle.rng_simple.specs.SimpleWith.{simple_with, simple_at}
-use Rattle.rng_simple.specs.GrammarBy.{spot_simple}
+use Rattle.rng_simple.specs.plain.SimpleWith.{simple_with, simple_at}
+use Rattle.rng_simple.specs.plain.GrammarBy.{spot_simple}
 use Rattle.rng_simple.proofs.PointSimples.{simple_is}
 use Rattle.rng_simple.proofs.SimpleLeaves.{simple_same}
 

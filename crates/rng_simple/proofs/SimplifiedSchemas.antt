@@ -1,17 +1,17 @@
 -- What the parts of the simplification of a schema say together.
 use Rattle.std.proofs.Common.{inl, inr, sym, subst, arith, ℕ, ◌≤◌}
 use Rattle.std.proofs.lemmas.Bool.{cases_lt}
-use Rattle.rng_model.specs.Least.{IsLeast}
-use Rattle.rng_model.specs.Schema.{Schema, IsWellPlaced}
-use Rattle.rng_model.specs.SchemaClauses.{BreaksSchemaClause, BreaksExpansion, BreaksDepth}
-use Rattle.rng_model.specs.SchemaClauses as clauses
+use Rattle.rng_model.specs.schema.Least.{IsLeast}
+use Rattle.rng_model.specs.schema.Schema.{Schema, IsWellPlaced}
+use Rattle.rng_model.specs.schema.SchemaClauses.{BreaksSchemaClause, BreaksExpansion, BreaksDepth}
+use Rattle.rng_model.specs.schema.SchemaClauses as clauses
 use Rattle.rng_model.specs.declared.fault.SchemaFault.{SchemaFault}
 use Rattle.rng_model.specs.declared.fault.SchemaFault.TheVariants as faults
-use Rattle.rng_components.specs.Judged.{IsComponentFault, last_clause}
-use Rattle.rng_graph.specs.ExpansionOrder.{IsExpansionFault}
-use Rattle.rng_graph.specs.ReadySchema.{IsReady}
+use Rattle.rng_components.specs.plain.Judged.{IsComponentFault, last_clause}
+use Rattle.rng_graph.specs.views.ExpansionOrder.{IsExpansionFault}
+use Rattle.rng_graph.specs.plain.ReadySchema.{IsReady}
 use Rattle.rng_graph.proofs.ReadySchemas.{ready}
-use Rattle.rng_simple.specs.SimplifiedSchema.{IsSchemaFault}
+use Rattle.rng_model.specs.simple.SimplifiedSchema.{IsSchemaFault}
 
 -- no clause of components is broken
 abbrev pub KeepsComponents : Schema → Type 0

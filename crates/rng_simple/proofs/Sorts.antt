@@ -1,8 +1,8 @@
 -- Splitting a simple tree by what the rules ask of it.
 use Rattle.std.proofs.Common.{◌≡◌, refl}
-use Rattle.rng_model.specs.Tree.{not_allowed, empty}
-use Rattle.rng_model.specs.Tree.{Simple, s_not_allowed, s_empty, as_tree}
-use Rattle.rng_simple.specs.SimpleOf.{Sort, nothing, blank, proper, sort_of}
+use Rattle.rng_model.specs.simple.Tree.{not_allowed, empty}
+use Rattle.rng_model.specs.simple.Tree.{Simple, s_not_allowed, s_empty, as_tree}
+use Rattle.rng_simple.specs.plain.SimpleOf.{Sort, nothing, blank, proper, sort_of}
 
 pub data Sorted {L : Type 0} : Simple L → Sort → Type 0 where
   is_nothing : Sorted s_not_allowed nothing

@@ -1,11 +1,11 @@
 -- A step changes no list of texts that a tree has.
 use Rattle.std.proofs.Common.{◌≡◌, refl, ◌∙◌, sym, subst, List, [], ℕ, ◌⊎◌, inl, inr}
-use Rattle.rng_model.specs.Tree.{Connector, choice, group, interleave, Tree, not_allowed, empty, text, mixed, joined, Trees, no_trees, tree_and}
-use Rattle.rng_model.specs.Simplification.{RuleGroup, HasNotAllowed, Step, StepAmong}
-use Rattle.rng_model.specs.Simplification as step
-use Rattle.rng_model.specs.Document.{Interleaves, Shares, in_any_order}
-use Rattle.rng_model.specs.Matching.{Texts}
-use Rattle.rng_model.specs.Lex.{Lex, LexOne, LexAll, Repeats, once, again}
+use Rattle.rng_model.specs.simple.Tree.{Connector, choice, group, interleave, Tree, not_allowed, empty, text, mixed, joined, Trees, no_trees, tree_and}
+use Rattle.rng_model.specs.simple.Simplification.{RuleGroup, HasNotAllowed, Step, StepAmong}
+use Rattle.rng_model.specs.simple.Simplification as step
+use Rattle.rng_model.specs.matching.Document.{Interleaves, Shares, in_any_order}
+use Rattle.rng_model.specs.matching.Matching.{Texts}
+use Rattle.rng_model.specs.matching.Lex.{Lex, LexOne, LexAll, Repeats, once, again}
 use Rattle.rng_simple.proofs.Sharing.{shares_left, shares_right, nothing_right, nothing_left, with_nothing, after_nothing}
 use Rattle.rng_simple.proofs.NestedNames.{shift, unshift, either}
 

@@ -1,16 +1,16 @@
 -- The patterns of a grammar that is made of rows are told apart by their trees.
 use Rattle.std.proofs.Common.{◌≡◌, ap, ap₂, sym, ◌∙◌, ℕ, ◌<◌, List, [], length, Bool}
-use Rattle.rng_model.specs.Names.{any_name}
-use Rattle.rng_model.specs.Tree as tree
-use Rattle.rng_model.specs.Types.{datatype_of}
-use Rattle.rng_model.specs.View.{class_of}
+use Rattle.rng_model.specs.names.Names.{any_name}
+use Rattle.rng_model.specs.simple.Tree as tree
+use Rattle.rng_model.specs.datatypes.DatatypeViews.{datatype_of}
+use Rattle.rng_model.specs.names.NameViews.{class_of}
 use Rattle.rng_model.specs.declared.simple.Simple.{Simple}
-use Rattle.rng_graph.specs.InTwos.{nested}
-use Rattle.rng_simple.specs.Copying.{AreCopied, listed_at, place_of, tree_numbered}
-use Rattle.rng_simple.specs.LabelCodes.{class_code, codes_of, datatype_code, value_code}
-use Rattle.rng_simple.specs.Renamed.{simple_renamed}
-use Rattle.rng_simple.specs.RowTable.{AreCoded, IsRowTable, labels_of, row_count, value_of}
-use Rattle.rng_simple.specs.Rows.{AreDistinctRows, no_datatype, tree_at}
+use Rattle.rng_graph.specs.plain.InTwos.{nested}
+use Rattle.rng_simple.specs.plain.Copying.{AreCopied, listed_at, place_of, tree_numbered}
+use Rattle.rng_simple.specs.plain.LabelCodes.{class_code, codes_of, datatype_code, value_code}
+use Rattle.rng_simple.specs.plain.Renamed.{simple_renamed}
+use Rattle.rng_simple.specs.views.RowTable.{AreCoded, IsRowTable, labels_of, row_count, value_of}
+use Rattle.rng_simple.specs.views.Rows.{AreDistinctRows, no_datatype, tree_at}
 use Rattle.rng_simple.specs.declared.row_table.RowTable.{RowTable}
 use Rattle.rng_simple.proofs.LabelCodes.{same_class_codes}
 use Rattle.rng_simple.proofs.OneNumber.{AreDistinctLabels, one_number}

@@ -2,24 +2,24 @@
 use Rattle.std.proofs.Common.{◌≡◌, ◌↔◌, refl, ap, subst, ℕ, zero, suc, ◌<◌, List, [], ◌∷◌, length, map, slice_get, slice_index_or, Some, Bool, true}
 use Rattle.std.proofs.Common.{Contains, inl, inr, arith}
 use Rattle.std.proofs.lemmas.Option.{slice_get_within, slice_get-get_or}
-use Rattle.rng_model.specs.Lists.{Among}
-use Rattle.rng_model.specs.Lists as lists
-use Rattle.rng_model.specs.Names as names
-use Rattle.rng_model.specs.Restrictions as restrictions
-use Rattle.rng_model.specs.Restrictions.{IsPart, StandsIn, the_start, a_body}
-use Rattle.rng_model.specs.Table.{Table, grammar_of}
-use Rattle.rng_model.specs.Tree.{Simple}
-use Rattle.rng_model.specs.View.{class_of}
+use Rattle.rng_model.specs.names.Lists.{Among}
+use Rattle.rng_model.specs.names.Lists as lists
+use Rattle.rng_model.specs.names.Names as names
+use Rattle.rng_model.specs.restrictions.Restrictions as restrictions
+use Rattle.rng_model.specs.restrictions.Restrictions.{IsPart, StandsIn, the_start, a_body}
+use Rattle.rng_model.specs.simple.Table.{Table, grammar_of}
+use Rattle.rng_model.specs.simple.Tree.{Simple}
+use Rattle.rng_model.specs.names.NameViews.{class_of}
 use Rattle.rng_model.specs.declared.name.NameClass.{NameClass}
 use Rattle.rng_model.specs.declared.simple.PatternId.{PatternId}
 use Rattle.rng_model.specs.declared.simple.Simple as declared
-use Rattle.rng_simple.specs.Copying.{tree_numbered, place_of, numbered_row, AreCopied}
-use Rattle.rng_simple.specs.GrammarElements.{AreElementCopies}
-use Rattle.rng_simple.specs.RowReach.{nexts, row_next, content_of}
-use Rattle.rng_simple.specs.Rows.{Labels, row_tree, AreRows, AreChildrenBelow}
-use Rattle.rng_simple.specs.SimpleParts.{AreRowsBelow}
-use Rattle.rng_simple.specs.SimplifiedSchema.{AreAllUsed}
-use Rattle.rng_simple.specs.Worklist.{IsReachedBy, at_start, onward}
+use Rattle.rng_simple.specs.plain.Copying.{tree_numbered, place_of, numbered_row, AreCopied}
+use Rattle.rng_simple.specs.views.GrammarElements.{AreElementCopies}
+use Rattle.rng_simple.specs.plain.RowReach.{nexts, row_next, content_of}
+use Rattle.rng_simple.specs.views.Rows.{Labels, row_tree, AreRows, AreChildrenBelow}
+use Rattle.rng_simple.specs.plain.SimpleParts.{AreRowsBelow}
+use Rattle.rng_model.specs.simple.SimplifiedSchema.{AreAllUsed}
+use Rattle.rng_simple.specs.plain.Worklist.{IsReachedBy, at_start, onward}
 use Rattle.rng_simple.specs.declared.rows.Row.{Row}
 use Rattle.rng_simple.specs.declared.rows.Row.TheVariants as row
 use Rattle.rng_simple.proofs.RenamedRestrictions.{deeper}

@@ -2,20 +2,20 @@
 -- by the simple form of that. What matches is not notAllowed, so that a leaf which takes part in a match is one of the simple form
 -- too: of the elements, only those that are reached through simple forms need trees.
 use Rattle.std.proofs.Common.{◌≡◌, refl, sym, ap, subst, List, [], ℕ, ◌∷◌, Option, Some, None, inl, inr}
-use Rattle.rng_model.specs.Names.{NameClass, In}
-use Rattle.rng_model.specs.Tree.{Connector, choice, Tree, not_allowed, leaf, Trees}
-use Rattle.rng_model.specs.Document.{Attribute, Item}
-use Rattle.rng_model.specs.Matching.{Texts, Leaves, Matches, MatchesOne, MatchesAll, Weakly}
-use Rattle.rng_model.specs.Matching as m
-use Rattle.rng_model.specs.Lex.{HasText}
-use Rattle.rng_model.specs.Table.{Nothing}
-use Rattle.rng_model.specs.Patterns.{Place, Point, an_element, a_ref, a_parent_ref, a_grammar}
-use Rattle.rng_model.specs.Schema.{Schema, Definition, body}
-use Rattle.rng_model.specs.Unfolding.{Leaf, content_of, Aim, to_element, to_definition, outside, aim, Unfolds, UnfoldAll, IsBodyOf}
-use Rattle.rng_model.specs.Unfolding as u
-use Rattle.rng_model.specs.Simplification.{AnyStep, IsSimpleFormOf}
-use Rattle.rng_model.specs.ClassSteps.{IsSimpleClassOf}
-use Rattle.rng_model.specs.SchemaMatching.{IsFound, is_found, IsWrittenElement, is_written, schema_leaves}
+use Rattle.rng_model.specs.names.Names.{NameClass, In}
+use Rattle.rng_model.specs.simple.Tree.{Connector, choice, Tree, not_allowed, leaf, Trees}
+use Rattle.rng_model.specs.matching.Document.{Attribute, Item}
+use Rattle.rng_model.specs.matching.Matching.{Texts, Leaves, Matches, MatchesOne, MatchesAll, Weakly}
+use Rattle.rng_model.specs.matching.Matching as m
+use Rattle.rng_model.specs.matching.Lex.{HasText}
+use Rattle.rng_model.specs.simple.Table.{Nothing}
+use Rattle.rng_model.specs.schema.Patterns.{Place, Point, an_element, a_ref, a_parent_ref, a_grammar}
+use Rattle.rng_model.specs.schema.Schema.{Schema, Definition, body}
+use Rattle.rng_model.specs.schema.Unfolding.{Leaf, content_of, Aim, to_element, to_definition, outside, aim, Unfolds, UnfoldAll, IsBodyOf}
+use Rattle.rng_model.specs.schema.Unfolding as u
+use Rattle.rng_model.specs.simple.Simplification.{AnyStep, IsSimpleFormOf}
+use Rattle.rng_model.specs.simple.ClassSteps.{IsSimpleClassOf}
+use Rattle.rng_model.specs.matching.SchemaMatching.{IsFound, is_found, IsWrittenElement, is_written, schema_leaves}
 use Rattle.rng_model.proofs.Unfolding.{one_element, one_definition, not_both, moved, one_tree}
 use Rattle.rng_graph.proofs.SimpleClass.{has_simple_class}
 use Rattle.rng_simple.proofs.SimpleForms.{has_simple_form}

@@ -1,11 +1,11 @@
 // Rows, with new numbers, in the tables of a grammar.
 ghost use Rattle.std.specs.Prelude.{◌≡◌, ◌<◌, ◌^◌, ◌++◌, ℕ, filter, length, slice_get, string_bytes, true, IfOk, OnOk, Some};
-ghost use Rattle.rng_model.specs.Table.{IsPaired};
-ghost use Rattle.rng_model.specs.Types.{datatype_of};
-ghost use Rattle.rng_model.specs.View.{class_of};
-ghost use Rattle.rng_simple.specs.Copying.{AllChildren, AreCopied, IsRowCopy, own_elements};
-ghost use Rattle.rng_simple.specs.RowTable.{finished_labels};
-ghost use Rattle.rng_simple.specs.Rows.{AreDistinctRows, AreRows, IsLabelled, class_at, datatype_at};
+ghost use Rattle.rng_model.specs.simple.Table.{IsPaired};
+ghost use Rattle.rng_model.specs.datatypes.DatatypeViews.{datatype_of};
+ghost use Rattle.rng_model.specs.names.NameViews.{class_of};
+ghost use Rattle.rng_simple.specs.plain.Copying.{AllChildren, AreCopied, IsRowCopy, own_elements};
+ghost use Rattle.rng_simple.specs.views.RowTable.{finished_labels};
+ghost use Rattle.rng_simple.specs.views.Rows.{AreDistinctRows, AreRows, IsLabelled, class_at, datatype_at};
 
 use crate::name_class::nested;
 use crate::row_table::FinishedRows;

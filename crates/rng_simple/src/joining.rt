@@ -1,19 +1,12 @@
 // Patterns in simple form made of others in simple form, by the rules of sections 4.20 and 4.21 of the RELAX NG Specification.
 ghost use Rattle.std.specs.Prelude.{◌≡◌, ◌<◌, IfOk, OnOk};
-ghost use Rattle.rng_model.specs.Tree as tree;
-ghost use Rattle.rng_model.specs.Types.{datatype_of};
-ghost use Rattle.rng_model.specs.View.{class_of};
-ghost use Rattle.rng_graph.specs.InTwos.{nested};
-ghost use Rattle.rng_simple.specs.Joining.{connector_of};
-ghost use Rattle.rng_simple.specs.RowTable.{IsGrown, IsRowTable, row_count, tree_of};
-ghost use Rattle.rng_simple.specs.SimpleOf.{
-  attribute_by,
-  except_by,
-  join as joined,
-  list_by,
-  some_of,
-  sort_of,
-};
+ghost use Rattle.rng_model.specs.simple.Tree as tree;
+ghost use Rattle.rng_model.specs.datatypes.DatatypeViews.{datatype_of};
+ghost use Rattle.rng_model.specs.names.NameViews.{class_of};
+ghost use Rattle.rng_graph.specs.plain.InTwos.{nested};
+ghost use Rattle.rng_simple.specs.views.Joining.{connector_of};
+ghost use Rattle.rng_simple.specs.views.RowTable.{IsGrown, IsRowTable, row_count, tree_of};
+ghost use Rattle.rng_simple.specs.plain.SimpleOf.{attribute_by, except_by, join as joined, list_by, some_of, sort_of};
 
 use crate::row_table::{RowTable, Sort};
 use crate::rows::Row;

@@ -1,10 +1,10 @@
 // What tells labels apart: the parts that each is written by.
 ghost use Rattle.std.specs.Prelude.{◌≡◌, ◌∷◌, ◌++◌, [], IfOk, OnOk, map, string_bytes};
-ghost use Rattle.rng_model.specs.Names.{some_of};
-ghost use Rattle.rng_model.specs.Patterns.{without_parameters};
-ghost use Rattle.rng_model.specs.Types.{datatype_of};
-ghost use Rattle.rng_model.specs.View.{class_of};
-ghost use Rattle.rng_simple.specs.LabelCodes.{AreApart, IsPlaced, class_code, codes_of, datatype_code, part_of, value_code};
+ghost use Rattle.rng_model.specs.names.Names.{some_of};
+ghost use Rattle.rng_model.specs.schema.Patterns.{without_parameters};
+ghost use Rattle.rng_model.specs.datatypes.DatatypeViews.{datatype_of};
+ghost use Rattle.rng_model.specs.names.NameViews.{class_of};
+ghost use Rattle.rng_simple.specs.plain.LabelCodes.{AreApart, IsPlaced, class_code, codes_of, datatype_code, part_of, value_code};
 
 use indexmap::IndexSet;
 use rng_model::{Datatype, DatatypeValue, NameClass};
@@ -55,7 +55,7 @@ fn put<'a>(code: &mut Vec<LabelPart<'a>>, part: LabelPart<'a>) -> Result<(), All
 
 /// Puts the parts of a name class at the end.
 #[cycle(codes)]
-#[tactic(auto, using(crate::proofs::LabelCodes::put_after), unfolding(crate::specs::LabelCodes::class_code))]
+#[tactic(auto, using(crate::proofs::LabelCodes::put_after), unfolding(crate::specs::plain::LabelCodes::class_code))]
 pub fn put_class<'a>(code: &mut Vec<LabelPart<'a>>, class: &'a NameClass) -> Result<(), AllocError>
     ensures { OnOk result (map part_of code.new.items ≡ map part_of code.old.items ++ class_code (class_of class.now) []) }
 {

@@ -1,10 +1,10 @@
 // Which rows are reached from the row of the start.
 ghost use Rattle.std.specs.Prelude.{◌≡◌, ◌<◌, ◌↔◌, ℕ, [], ◌∷◌, length, map, slice_get, true, IfOk, Some};
-ghost use Rattle.rng_graph.specs.Search.{lists};
-ghost use Rattle.rng_simple.specs.RowReach.{content_of, nexts, row_next};
-ghost use Rattle.rng_simple.specs.RowTable.{IsRowTable, row_count};
-ghost use Rattle.rng_simple.specs.SimpleParts.{AreRowsBelow};
-ghost use Rattle.rng_simple.specs.Worklist.{IsReachedBy};
+ghost use Rattle.rng_graph.specs.plain.Search.{lists};
+ghost use Rattle.rng_simple.specs.plain.RowReach.{content_of, nexts, row_next};
+ghost use Rattle.rng_simple.specs.views.RowTable.{IsRowTable, row_count};
+ghost use Rattle.rng_simple.specs.plain.SimpleParts.{AreRowsBelow};
+ghost use Rattle.rng_simple.specs.plain.Worklist.{IsReachedBy};
 
 use crate::row_table::RowTable;
 use crate::rows::Row;

@@ -1,29 +1,13 @@
 // A table of patterns in simple form, in which equal rows have one number.
 ghost use Rattle.std.specs.Prelude.{◌≡◌, ◌<◌, length, string_bytes, IfOk, OnOk};
-ghost use Rattle.rng_model.specs.Patterns.{without_parameters};
-ghost use Rattle.rng_model.specs.Tree.{IsSimpleBody};
-ghost use Rattle.rng_model.specs.Types.{datatype_of};
-ghost use Rattle.rng_model.specs.View.{class_of};
-ghost use Rattle.rng_graph.specs.InTwos.{nested};
-ghost use Rattle.rng_simple.specs.Rows.{
-  AreChildrenBelow,
-  IsLabelled,
-  class_at,
-  datatype_at,
-  row_tree,
-  value_at,
-};
-ghost use Rattle.rng_simple.specs.RowTable.{
-  IsGrown,
-  IsRelabelled,
-  IsRowTable,
-  finished_labels,
-  labels_of,
-  row_count,
-  sort_seen,
-  tree_of,
-};
-ghost use Rattle.rng_simple.specs.SimpleOf.{sort_of};
+ghost use Rattle.rng_model.specs.schema.Patterns.{without_parameters};
+ghost use Rattle.rng_model.specs.simple.Tree.{IsSimpleBody};
+ghost use Rattle.rng_model.specs.datatypes.DatatypeViews.{datatype_of};
+ghost use Rattle.rng_model.specs.names.NameViews.{class_of};
+ghost use Rattle.rng_graph.specs.plain.InTwos.{nested};
+ghost use Rattle.rng_simple.specs.views.Rows.{AreChildrenBelow, IsLabelled, class_at, datatype_at, row_tree, value_at};
+ghost use Rattle.rng_simple.specs.views.RowTable.{IsGrown, IsRelabelled, IsRowTable, finished_labels, labels_of, row_count, sort_seen, tree_of};
+ghost use Rattle.rng_simple.specs.plain.SimpleOf.{sort_of};
 
 use crate::label_codes::{LabelPart, place_of_code, put_class, put_datatype, value_code};
 use crate::rows::{Row, number};

@@ -1,6 +1,6 @@
 // Patterns in simple form whose children have numbers, and the number of each.
 ghost use Rattle.std.specs.Prelude.{◌≡◌, slice_get, IfOk, OnOk, Some};
-ghost use Rattle.rng_simple.specs.RowIndex.{IsIndex, number_of_row, with_row};
+ghost use Rattle.rng_simple.specs.views.RowIndex.{IsIndex, number_of_row, with_row};
 
 use std::alloc::AllocError;
 use std::collections::HashMap;

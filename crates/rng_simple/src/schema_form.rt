@@ -1,16 +1,17 @@
 // The simple form of a graph.
 ghost use Rattle.std.specs.Prelude.{◌≡◌, ◌<◌, ◌^◌, length, map, take, slice_get, All, IfOk, Some};
-ghost use Rattle.rng_model.specs.Names as names;
-ghost use Rattle.rng_model.specs.Table.{AreToldApart, IsInSimpleSyntax, IsPaired, grammar_of};
-ghost use Rattle.rng_model.specs.View.{class_of};
-ghost use Rattle.rng_model.specs.Schema.{Schema};
-ghost use Rattle.rng_model.specs.SchemaForm.{IsOnlySimpleGrammarOf, IsSimpleGrammarOf};
-ghost use Rattle.rng_graph.specs.ExpansionOrder.{IsGraphOfSchema, IsWholeOrder};
-ghost use Rattle.rng_graph.specs.Graph.{IsOrderBy, Mentions};
-ghost use Rattle.rng_graph.specs.GraphView.{classes_of, graph_of};
-ghost use Rattle.rng_graph.specs.InTwos.{nested as nested_tree};
-ghost use Rattle.rng_simple.specs.GrammarElements.{AreElementCopies};
-ghost use Rattle.rng_simple.specs.SimplifiedSchema.{AreAllUsed, IsMadeTable};
+ghost use Rattle.rng_model.specs.names.Names as names;
+ghost use Rattle.rng_model.specs.simple.Table.{AreToldApart, IsInSimpleSyntax, IsPaired, grammar_of};
+ghost use Rattle.rng_model.specs.names.NameViews.{class_of};
+ghost use Rattle.rng_model.specs.schema.Schema.{Schema};
+ghost use Rattle.rng_model.specs.simple.SchemaForm.{IsOnlySimpleGrammarOf, IsSimpleGrammarOf};
+ghost use Rattle.rng_graph.specs.views.ExpansionOrder.{IsGraphOfSchema, IsWholeOrder};
+ghost use Rattle.rng_graph.specs.plain.Graph.{IsOrderBy, Mentions};
+ghost use Rattle.rng_graph.specs.views.GraphView.{classes_of, graph_of};
+ghost use Rattle.rng_graph.specs.plain.InTwos.{nested as nested_tree};
+ghost use Rattle.rng_simple.specs.views.GrammarElements.{AreElementCopies};
+ghost use Rattle.rng_model.specs.simple.SimplifiedSchema.{AreAllUsed};
+ghost use Rattle.rng_simple.specs.plain.MadeTable.{IsMadeTable};
 
 use crate::copying::copied_rows;
 use crate::name_class::nested;

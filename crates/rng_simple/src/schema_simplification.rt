@@ -1,13 +1,13 @@
 // From a schema to its simple form.
 ghost use Rattle.std.specs.Prelude.{ℕ, ◌<◌, ◌^◌, length, IfErr, IfOk, OnOk};
-ghost use Rattle.rng_load.specs.PlacedGrammars.{schema_of};
-ghost use Rattle.rng_model.specs.Schema.{IsWellPlaced};
-ghost use Rattle.rng_model.specs.SchemaClauses.{BreaksSchemaClause};
-ghost use Rattle.rng_model.specs.SchemaForm.{IsOnlySimpleGrammarOf, IsSimpleGrammarOf};
-ghost use Rattle.rng_model.specs.SchemaMatching.{AreSameDocuments};
-ghost use Rattle.rng_model.specs.Table.{AreToldApart, IsInSimpleSyntax, grammar_of};
-ghost use Rattle.rng_simple.specs.KnownDatatypes.{AreGrammarDatatypesKnown};
-ghost use Rattle.rng_simple.specs.SimplifiedSchema.{AreAllUsed, IsSchemaFault};
+ghost use Rattle.rng_load.specs.views.PlacedGrammars.{schema_of};
+ghost use Rattle.rng_model.specs.schema.Schema.{IsWellPlaced};
+ghost use Rattle.rng_model.specs.schema.SchemaClauses.{BreaksSchemaClause};
+ghost use Rattle.rng_model.specs.simple.SchemaForm.{IsOnlySimpleGrammarOf, IsSimpleGrammarOf};
+ghost use Rattle.rng_model.specs.matching.SchemaMatching.{AreSameDocuments};
+ghost use Rattle.rng_model.specs.simple.Table.{AreToldApart, IsInSimpleSyntax, grammar_of};
+ghost use Rattle.rng_model.specs.datatypes.KnownDatatypes.{AreGrammarDatatypesKnown};
+ghost use Rattle.rng_model.specs.simple.SimplifiedSchema.{AreAllUsed, IsSchemaFault};
 
 use crate::schema_form::simple_grammar;
 use rng_components::check_components;

@@ -1,10 +1,10 @@
 // The simple form of a graph's patterns, from the leaves up.
 ghost use Rattle.std.specs.Prelude.{◌≡◌, ◌<◌, map, slice_index_or, IfOk, OnOk};
-ghost use Rattle.rng_graph.specs.GraphView.{combined, graph_body_of, graph_pattern_of, members};
-ghost use Rattle.rng_simple.specs.GrammarBy.{spot_simple};
-ghost use Rattle.rng_simple.specs.Joining.{connector_of};
-ghost use Rattle.rng_simple.specs.RowTable.{IsGrown, IsRowTable, row_count, tree_of};
-ghost use Rattle.rng_simple.specs.SimpleParts.{AreRowsBelow, none_of, values_in};
+ghost use Rattle.rng_graph.specs.views.GraphView.{combined, graph_body_of, graph_pattern_of, members};
+ghost use Rattle.rng_simple.specs.plain.GrammarBy.{spot_simple};
+ghost use Rattle.rng_simple.specs.views.Joining.{connector_of};
+ghost use Rattle.rng_simple.specs.views.RowTable.{IsGrown, IsRowTable, row_count, tree_of};
+ghost use Rattle.rng_simple.specs.plain.SimpleParts.{AreRowsBelow, none_of, values_in};
 
 use crate::joining::{Connector, attribute, data, data_except, join, list, one_or_more};
 use crate::row_table::{EMPTY, RowTable};
@@ -16,7 +16,7 @@ use std::alloc::AllocError;
 ///
 /// Recurses as deep as the pattern nests.
 #[cycle(parts)]
-#[tactic(auto, using(crate::proofs::SimpleParts::empty_is, crate::proofs::SimpleParts::empty_below), unfolding(crate::specs::SimpleWith::simple_with))]
+#[tactic(auto, using(crate::proofs::SimpleParts::empty_is, crate::proofs::SimpleParts::empty_below), unfolding(crate::specs::plain::SimpleWith::simple_with))]
 pub fn simple_part<'a>(
     table: &mut RowTable<'a>,
     parts: &[usize],

@@ -1,10 +1,10 @@
 // The simple forms of all definitions and elements of a graph.
 ghost use Rattle.std.specs.Prelude.{◌≡◌, ◌<◌, ℕ, length, slice_index_or, All, IfOk, OnOk};
-ghost use Rattle.rng_graph.specs.Graph.{IsFilledBy, IsOrderBy, Mentions};
-ghost use Rattle.rng_graph.specs.GraphView.{graph_of};
-ghost use Rattle.rng_simple.specs.GrammarBy.{content_simple, spot_simple};
-ghost use Rattle.rng_simple.specs.RowTable.{IsGrown, IsRowTable, row_count, tree_of};
-ghost use Rattle.rng_simple.specs.SimpleParts.{AreRowsBelow, values_in};
+ghost use Rattle.rng_graph.specs.plain.Graph.{IsFilledBy, IsOrderBy, Mentions};
+ghost use Rattle.rng_graph.specs.views.GraphView.{graph_of};
+ghost use Rattle.rng_simple.specs.plain.GrammarBy.{content_simple, spot_simple};
+ghost use Rattle.rng_simple.specs.views.RowTable.{IsGrown, IsRowTable, row_count, tree_of};
+ghost use Rattle.rng_simple.specs.plain.SimpleParts.{AreRowsBelow, values_in};
 
 use crate::row_table::{EMPTY, RowTable};
 use crate::simple_parts::{simple_body, simple_part};

@@ -1,7 +1,7 @@
 // What is reached from a start by going on.
 ghost use Rattle.std.specs.Prelude.{◌≡◌, ◌<◌, ◌↔◌, ℕ, [], ◌∷◌, length, slice_get, slice_index_or, All, IfOk, OnOk, Some, true};
-ghost use Rattle.rng_graph.specs.Search.{AreMentionsBelow, lists};
-ghost use Rattle.rng_simple.specs.Worklist.{Adds, IsMarked, IsReachedBy};
+ghost use Rattle.rng_graph.specs.plain.Search.{AreMentionsBelow, lists};
+ghost use Rattle.rng_simple.specs.plain.Worklist.{Adds, IsMarked, IsReachedBy};
 
 use std::alloc::{AllocError, Global};
 

@@ -4,18 +4,18 @@ use Rattle.std.proofs.Common.{codes, refl, sym, ap, subst, ◌∙◌, ◌↔◌}
 use Rattle.std.specs.Str.{bytes_eq}
 use Rattle.std.proofs.lemmas.Option.{same_Some}
 use Rattle.std.proofs.lemmas.Slice.Eq.{bytes_eq-Decides}
-use Rattle.rng_model.specs.Tree.{Datatype}
-use Rattle.rng_model.specs.Facets.{no_lengths}
-use Rattle.rng_model.specs.Datatypes.{BuiltInType, plain_string, xsd_string, xsd_uri, HasType, IsKnownLibrary, IsKnownDatatype}
-use Rattle.rng_model.specs.Datatypes.{plain_string_is, string_is}
-use Rattle.rng_model.specs.DatatypeTests.{plain_type_named, xsd_type_named, type_named, with_parameters}
+use Rattle.rng_model.specs.simple.Tree.{Datatype}
+use Rattle.rng_model.specs.datatypes.Facets.{no_lengths}
+use Rattle.rng_model.specs.datatypes.Datatypes.{BuiltInType, plain_string, xsd_string, xsd_uri, HasType, IsKnownLibrary, IsKnownDatatype}
+use Rattle.rng_model.specs.datatypes.Datatypes.{plain_string_is, string_is}
+use Rattle.rng_model.specs.datatypes.DatatypeTests.{plain_type_named, xsd_type_named, type_named, with_parameters}
 use Rattle.rng_model.proofs.DatatypeTests.{library_is, differs, no_type, type_named-sound, type_named-complete, unbounded, with_parameters-none}
 use Rattle.rng_model.proofs.DatatypeTests.{named_type, type_unique}
 use Rattle.rng_types.specs.declared.builtin.TypeFault.{TypeFault}
 use Rattle.rng_types.specs.declared.builtin.TypeFault.TheVariants as faults
-use Rattle.rng_types.specs.View.{seen}
-use Rattle.rng_types.specs.Fault.{HasFault}
-use Rattle.rng_types.specs.Finding.{or_bad, chosen, find_type}
+use Rattle.rng_types.specs.views.View.{seen}
+use Rattle.rng_types.specs.views.Fault.{HasFault}
+use Rattle.rng_types.specs.views.Finding.{or_bad, chosen, find_type}
 
 -- an answer is right: the datatype is that type, or has that fault
 abbrev IsRight : Datatype → Result BuiltInType TypeFault → Type 0

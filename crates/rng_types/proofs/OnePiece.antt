@@ -9,9 +9,9 @@ use Rattle.std.proofs.lemmas.Slice.Eq.{bytes_eq-Decides}
 use Rattle.std.proofs.lemmas.Option.{same_Some}
 use Rattle.std.proofs.lemmas.Bool.{true≢false, and_right, and_left, and_parts, and_from}
 use Rattle.std.specs.Cmp.Lexicographic.{pointwise}
-use Rattle.rng_model.specs.Blanks.{pieces, collapse}
+use Rattle.rng_model.specs.datatypes.Blanks.{pieces, collapse}
 use Rattle.rng_model.proofs.Runs.{pieces-collapse, pieces_fit, spaced_length, IsUtf8-pieces}
-use Rattle.rng_types.specs.Pieces.{only}
+use Rattle.rng_types.specs.plain.Pieces.{only}
 
 joined_only : (ps : List (List ℕ)) (w : List ℕ) → Some w ≡ only ps → join_with_byte 32 ps ≡ w
 joined_only [] w e = search rules

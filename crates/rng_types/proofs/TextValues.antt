@@ -6,12 +6,12 @@ use Rattle.std.specs.Str.{encode_utf8_all}
 use Rattle.std.proofs.lemmas.Str.{encodes-chars}
 use Rattle.std.proofs.lemmas.Bool.{and_left, and_right, true≢false}
 use Rattle.std.proofs.lemmas.Slice.Eq.{bytes_eq-Decides}
-use Rattle.rng_model.specs.Blanks.{pieces, collapse}
-use Rattle.rng_model.specs.Characters.{is_name_char, is_colon, is_ncname}
-use Rattle.rng_model.specs.Facets.{Lengths, fits}
-use Rattle.rng_model.specs.Datatypes.{is_nmtoken}
-use Rattle.rng_model.specs.Values.{Value, text_if, are_equal}
-use Rattle.rng_types.specs.Pieces.{only}
+use Rattle.rng_model.specs.datatypes.Blanks.{pieces, collapse}
+use Rattle.rng_model.specs.names.Characters.{is_name_char, is_colon, is_ncname}
+use Rattle.rng_model.specs.datatypes.Facets.{Lengths, fits}
+use Rattle.rng_model.specs.datatypes.Datatypes.{is_nmtoken}
+use Rattle.rng_model.specs.datatypes.Values.{Value, text_if, are_equal}
+use Rattle.rng_types.specs.plain.Pieces.{only}
 use Rattle.rng_types.proofs.OnePiece.{collapse-only, collapse-other, all_fails, chars-spaced}
 
 pub is_some-text_if : (passes : Bool) (s : List ℕ) → is_some (text_if passes s) ≡ passes

@@ -1,4 +1,2 @@
-pub mod Pieces
-pub mod View
-pub mod Fault
-pub mod Finding
+pub mod plain
+pub mod views

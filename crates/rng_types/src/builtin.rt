@@ -1,12 +1,12 @@
 // All datatypes, and which one a schema names.
 ghost use Rattle.std.specs.Prelude.{◌≡◌, ◌↔◌, map};
-ghost use Rattle.rng_model.specs.Types.{parameter_of};
-ghost use Rattle.rng_model.specs.Datatypes.{BuiltInType, HasType, is_allowed_by, are_equal_by};
-ghost use Rattle.rng_model.specs.DatatypeTests.{plain_type_named, xsd_type_named, if_none};
+ghost use Rattle.rng_model.specs.datatypes.DatatypeViews.{parameter_of};
+ghost use Rattle.rng_model.specs.datatypes.Datatypes.{BuiltInType, HasType, is_allowed_by, are_equal_by};
+ghost use Rattle.rng_model.specs.datatypes.DatatypeTests.{plain_type_named, xsd_type_named, if_none};
 ghost use Rattle.rng_model.proofs.ValueLaws as laws;
-ghost use Rattle.rng_types.specs.View.{built_in_type_of, datatype_at, seen};
-ghost use Rattle.rng_types.specs.Fault.{HasFault};
-ghost use Rattle.rng_types.specs.Finding.{or_bad, chosen, find_type};
+ghost use Rattle.rng_types.specs.views.View.{built_in_type_of, datatype_at, seen};
+ghost use Rattle.rng_types.specs.views.Fault.{HasFault};
+ghost use Rattle.rng_types.specs.views.Finding.{or_bad, chosen, find_type};
 
 use crate::datatype::Datatype;
 use crate::parameters::{bounds, lengths};
@@ -53,7 +53,7 @@ impl Builtin {
 }
 
 // the datatype, or the first fault
-#[tactic(auto, unfolding(crate::specs::Finding::find_type))]
+#[tactic(auto, unfolding(crate::specs::views::Finding::find_type))]
 fn find_type(lib: &str, name: &str, params: &[(String, String)]) -> Result<Builtin, TypeFault>
     ensures { seen built_in_type_of result ≡ find_type lib.now name.now (map parameter_of params.now) }
 {
@@ -65,7 +65,7 @@ fn find_type(lib: &str, name: &str, params: &[(String, String)]) -> Result<Built
 }
 
 // the datatype of the library that is built in
-#[tactic(auto, unfolding(rng_model::specs::DatatypeTests::plain_type_named))]
+#[tactic(auto, unfolding(rng_model::specs::datatypes::DatatypeTests::plain_type_named))]
 fn plain(name: &str, params: &[(String, String)]) -> Result<Builtin, TypeFault>
     ensures { seen built_in_type_of result ≡ chosen (plain_type_named name.now) (map parameter_of params.now) }
 {
@@ -77,7 +77,7 @@ fn plain(name: &str, params: &[(String, String)]) -> Result<Builtin, TypeFault>
 }
 
 // the datatype of the library of XML Schema
-#[tactic(auto, unfolding(rng_model::specs::DatatypeTests::xsd_type_named))]
+#[tactic(auto, unfolding(rng_model::specs::datatypes::DatatypeTests::xsd_type_named))]
 fn xsd(name: &str, params: &[(String, String)]) -> Result<Builtin, TypeFault>
     ensures { seen built_in_type_of result ≡ chosen (xsd_type_named name.now) (map parameter_of params.now) }
 {

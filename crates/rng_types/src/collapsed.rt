@@ -1,8 +1,8 @@
 // Texts seen as their collapsed forms, which are never built.
 ghost use Rattle.std.specs.Prelude.{◌≡◌, length, option_copied};
 ghost use Rattle.std.specs.Str.{chars, bytes_eq};
-ghost use Rattle.rng_model.specs.Blanks.{pieces, collapse};
-ghost use Rattle.rng_types.specs.Pieces.{only};
+ghost use Rattle.rng_model.specs.datatypes.Blanks.{pieces, collapse};
+ghost use Rattle.rng_types.specs.plain.Pieces.{only};
 
 use rng_model::Pieces;
 

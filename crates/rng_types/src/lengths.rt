@@ -1,7 +1,7 @@
 // Bounds on how many characters a text has.
 ghost use Rattle.std.specs.Prelude.{◌≡◌};
-ghost use Rattle.rng_model.specs.Facets.{is_at_least, is_at_most, is_within};
-ghost use Rattle.rng_types.specs.View.{lengths_of};
+ghost use Rattle.rng_model.specs.datatypes.Facets.{is_at_least, is_at_most, is_within};
+ghost use Rattle.rng_types.specs.views.View.{lengths_of};
 
 /// The least and the greatest number of characters of a text, where there is one.
 ///

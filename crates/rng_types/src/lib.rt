@@ -1,6 +1,6 @@
 //! The datatypes of schemas: which texts each allows, and which texts it takes for equal.
 //!
-//! Each datatype answers by the table of `rng_model/specs/Datatypes.antt`, and proves the laws of `Datatype`: texts that
+//! Each datatype answers by the table of `rng_model/specs/datatypes/Datatypes.antt`, and proves the laws of `Datatype`: texts that
 //! are equal are allowed, and on allowed texts to be equal is an equivalence. No call takes memory.
 #![tactic(auto)]
 

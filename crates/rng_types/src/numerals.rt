@@ -3,10 +3,10 @@ ghost use Rattle.std.specs.Prelude.{◌≡◌};
 ghost use Rattle.std.specs.Char.{is_ascii_digit};
 ghost use Rattle.std.specs.List.{list_all};
 ghost use Rattle.std.specs.Str.Parse.{without_leading_sign};
-ghost use Rattle.rng_model.specs.Blanks.{collapse};
-ghost use Rattle.rng_model.specs.Facets.{is_no_less, is_no_more, is_inside};
-ghost use Rattle.rng_model.specs.Numerals.{is_decimal, truth_of, integer_of, length_of};
-ghost use Rattle.rng_types.specs.View.{bounds_of};
+ghost use Rattle.rng_model.specs.datatypes.Blanks.{collapse};
+ghost use Rattle.rng_model.specs.datatypes.Facets.{is_no_less, is_no_more, is_inside};
+ghost use Rattle.rng_model.specs.datatypes.Numerals.{is_decimal, truth_of, integer_of, length_of};
+ghost use Rattle.rng_types.specs.views.View.{bounds_of};
 
 use crate::collapsed::only_piece;
 
@@ -63,7 +63,7 @@ pub(crate) fn truth(text: &str) -> Option<bool>
 }
 
 // the truth value that the text writes
-#[tactic(auto, unfolding(rng_model::specs::Numerals::truth_of))]
+#[tactic(auto, unfolding(rng_model::specs::datatypes::Numerals::truth_of))]
 fn truth_in(text: &str) -> Option<bool>
     ensures { result ≡ truth_of text.now }
 {
@@ -85,7 +85,7 @@ pub(crate) fn integer(text: &str) -> Option<i128>
 }
 
 // the number that the text writes
-#[tactic(auto, unfolding(rng_model::specs::Numerals::integer_of))]
+#[tactic(auto, unfolding(rng_model::specs::datatypes::Numerals::integer_of))]
 fn integer_in(numeral: &str) -> Option<i128>
     ensures { result ≡ integer_of numeral.now }
 {
@@ -97,7 +97,7 @@ fn integer_in(numeral: &str) -> Option<i128>
 }
 
 // the length that the text writes
-#[tactic(auto, unfolding(rng_model::specs::Numerals::length_of))]
+#[tactic(auto, unfolding(rng_model::specs::datatypes::Numerals::length_of))]
 pub(crate) fn length(numeral: &str) -> Option<usize>
     ensures { result ≡ length_of numeral.now }
 {

@@ -1,19 +1,19 @@
 // The parameters of datatypes.
 ghost use Rattle.std.specs.Prelude.{◌≡◌, map, option_copied};
 ghost use Rattle.std.specs.List.{list_all};
-ghost use Rattle.rng_model.specs.Types.{parameter_of};
-ghost use Rattle.rng_model.specs.Numerals.{length_of, bound_of};
-ghost use Rattle.rng_model.specs.DatatypeTests.{is_named, stands_once, value_named, read_named, is_length, is_bound};
-ghost use Rattle.rng_model.specs.DatatypeTests.{takes_lengths, takes_bounds, written_lengths, written_bounds};
-ghost use Rattle.rng_types.specs.View.{lengths_of, bounds_of, seen};
-ghost use Rattle.rng_types.specs.Finding.{or_bad};
+ghost use Rattle.rng_model.specs.datatypes.DatatypeViews.{parameter_of};
+ghost use Rattle.rng_model.specs.datatypes.Numerals.{length_of, bound_of};
+ghost use Rattle.rng_model.specs.datatypes.DatatypeTests.{is_named, stands_once, value_named, read_named, is_length, is_bound};
+ghost use Rattle.rng_model.specs.datatypes.DatatypeTests.{takes_lengths, takes_bounds, written_lengths, written_bounds};
+ghost use Rattle.rng_types.specs.views.View.{lengths_of, bounds_of, seen};
+ghost use Rattle.rng_types.specs.views.Finding.{or_bad};
 
 use crate::builtin::TypeFault;
 use crate::lengths::Lengths;
 use crate::numerals::{Bounds, integer, length};
 
 // the bounds on lengths that the parameters write
-#[tactic(auto, unfolding(rng_model::specs::DatatypeTests::written_lengths))]
+#[tactic(auto, unfolding(rng_model::specs::datatypes::DatatypeTests::written_lengths))]
 pub(crate) fn lengths(params: &[(String, String)]) -> Result<Lengths, TypeFault>
     ensures { seen lengths_of result ≡ or_bad (written_lengths (map parameter_of params.now)) }
 {
@@ -28,7 +28,7 @@ pub(crate) fn lengths(params: &[(String, String)]) -> Result<Lengths, TypeFault>
 }
 
 // the bounds on numbers that the parameters write
-#[tactic(auto, unfolding(rng_model::specs::DatatypeTests::written_bounds))]
+#[tactic(auto, unfolding(rng_model::specs::datatypes::DatatypeTests::written_bounds))]
 pub(crate) fn bounds(params: &[(String, String)]) -> Result<Bounds, TypeFault>
     ensures { seen bounds_of result ≡ or_bad (written_bounds (map parameter_of params.now)) }
 {

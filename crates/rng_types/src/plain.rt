@@ -1,5 +1,5 @@
 // The datatypes of the library that is built in.
-ghost use Rattle.rng_model.specs.Datatypes.{plain_string, plain_token, is_allowed_by, are_equal_by};
+ghost use Rattle.rng_model.specs.datatypes.Datatypes.{plain_string, plain_token, is_allowed_by, are_equal_by};
 ghost use Rattle.rng_model.proofs.ValueLaws as laws;
 
 use crate::collapsed::is_same_collapsed;

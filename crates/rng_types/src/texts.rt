@@ -1,9 +1,9 @@
 // The datatypes of XML Schema whose values are texts.
 ghost use Rattle.std.specs.Prelude.{◌≡◌};
 ghost use Rattle.std.specs.Str.{chars};
-ghost use Rattle.rng_model.specs.Datatypes.{xsd_string, xsd_token, xsd_ncname, xsd_nmtoken, is_nmtoken, is_allowed_by, are_equal_by};
+ghost use Rattle.rng_model.specs.datatypes.Datatypes.{xsd_string, xsd_token, xsd_ncname, xsd_nmtoken, is_nmtoken, is_allowed_by, are_equal_by};
 ghost use Rattle.rng_model.proofs.ValueLaws as laws;
-ghost use Rattle.rng_types.specs.View.{lengths_of};
+ghost use Rattle.rng_types.specs.views.View.{lengths_of};
 
 use crate::collapsed::{char_count, collapsed_char_count, is_same_collapsed, only_piece};
 use crate::datatype::Datatype;

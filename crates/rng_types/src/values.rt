@@ -1,7 +1,7 @@
 // The datatypes of XML Schema whose values are truth values and numbers.
-ghost use Rattle.rng_model.specs.Datatypes.{xsd_boolean, xsd_integer, is_allowed_by, are_equal_by};
+ghost use Rattle.rng_model.specs.datatypes.Datatypes.{xsd_boolean, xsd_integer, is_allowed_by, are_equal_by};
 ghost use Rattle.rng_model.proofs.ValueLaws as laws;
-ghost use Rattle.rng_types.specs.View.{bounds_of};
+ghost use Rattle.rng_types.specs.views.View.{bounds_of};
 
 use crate::datatype::Datatype;
 use crate::numerals::{Bounds, integer, truth};

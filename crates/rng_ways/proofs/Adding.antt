@@ -6,22 +6,22 @@ use Rattle.std.proofs.lemmas.List.{get_or_append_left, map-append, take-append-d
 use Rattle.std.proofs.lemmas.List.Elements.{All-append, All-tail, Contains-append_cases}
 use Rattle.std.proofs.lemmas.Option.{slice_get_within, get_or_from_slice_get}
 use Rattle.std.proofs.Math.Seq.{drop-cons, take-suc}
-use Rattle.rng_model.specs.Tree.{Simple, choice, s_not_allowed, s_empty, s_text, s_leaf, s_attribute, s_list, s_data, s_data_except, s_value}
-use Rattle.rng_model.specs.Tree.{s_one_or_more, s_joined}
-use Rattle.rng_model.specs.Table.{Table}
-use Rattle.rng_matching.specs.Reading.{Reading}
-use Rattle.rng_matching.specs.Taking.{Same}
-use Rattle.rng_matching.specs.Derivatives.{Way, behind, is_not_allowed, joined_of}
-use Rattle.rng_patterns.specs.Choices.{IsAlternativeOf}
-use Rattle.rng_patterns.specs.Node.{Node}
-use Rattle.rng_patterns.specs.PatternTable.{Longer}
-use Rattle.rng_patterns.specs.Reduced.{HasAlternative}
-use Rattle.rng_patterns.specs.Trees.{tree_of}
+use Rattle.rng_model.specs.simple.Tree.{Simple, choice, s_not_allowed, s_empty, s_text, s_leaf, s_attribute, s_list, s_data, s_data_except, s_value}
+use Rattle.rng_model.specs.simple.Tree.{s_one_or_more, s_joined}
+use Rattle.rng_model.specs.simple.Table.{Table}
+use Rattle.rng_model.specs.matching.Reading.{Reading}
+use Rattle.rng_matching.specs.plain.Taking.{Same}
+use Rattle.rng_matching.specs.plain.Derivatives.{Way, behind, is_not_allowed, joined_of}
+use Rattle.rng_patterns.specs.views.Choices.{IsAlternativeOf}
+use Rattle.rng_patterns.specs.views.Node.{Node}
+use Rattle.rng_patterns.specs.views.PatternTable.{Longer}
+use Rattle.rng_patterns.specs.plain.Reduced.{HasAlternative}
+use Rattle.rng_patterns.specs.views.Trees.{tree_of}
 use Rattle.rng_patterns.specs.declared.pattern.PatternNumber.{PatternNumber}
 use Rattle.rng_patterns.proofs.Choices.{only_one}
 use Rattle.rng_patterns.proofs.Trees.{Longer-length, tree_stays}
-use Rattle.rng_ways.specs.Kinds.{IsLeafOf, Obeys, connector_of}
-use Rattle.rng_ways.specs.Ways.{AreInside, AreKept, IsHoleInside, IsInside, IsTakenOut, Offers, StandFor, way_by, ways_by, filled}
+use Rattle.rng_ways.specs.plain.Kinds.{IsLeafOf, Obeys, connector_of}
+use Rattle.rng_ways.specs.plain.Ways.{AreInside, AreKept, IsHoleInside, IsInside, IsTakenOut, Offers, StandFor, way_by, ways_by, filled}
 use Rattle.rng_ways.specs.declared.way.Way as numbered
 use Rattle.rng_ways.specs.declared.way.Hole.{Hole}
 use Rattle.rng_ways.specs.declared.way.Hole.TheVariants as holes

@@ -3,23 +3,23 @@ use Rattle.std.proofs.Common.{◌≡◌, ◌∙◌, ◌+◌, ◌<◌, ℕ, zero,
 use Rattle.std.proofs.Common.{subst, sym, refl, ap, true, arith, get_or, take}
 use Rattle.std.proofs.lemmas.List.{map-append, take_more}
 use Rattle.std.proofs.lemmas.Option.{slice_get_cases}
-use Rattle.rng_keys.specs.Keys.{Keys, key_of}
-use Rattle.rng_model.specs.Names.{Name}
-use Rattle.rng_model.specs.Table.{Table}
-use Rattle.rng_model.specs.Tree.{Simple, s_joined}
-use Rattle.rng_model.specs.Document.{Attribute, Item, Interleaves}
-use Rattle.rng_model.specs.Document as document
-use Rattle.rng_model.specs.View.{class_of, name_of}
+use Rattle.rng_keys.specs.plain.Keys.{Keys, key_of}
+use Rattle.rng_model.specs.names.Names.{Name}
+use Rattle.rng_model.specs.simple.Table.{Table}
+use Rattle.rng_model.specs.simple.Tree.{Simple, s_joined}
+use Rattle.rng_model.specs.matching.Document.{Attribute, Item, Interleaves}
+use Rattle.rng_model.specs.matching.Document as document
+use Rattle.rng_model.specs.names.NameViews.{class_of, name_of}
 use Rattle.rng_model.specs.declared.simple.Simple as row
 use Rattle.rng_model.specs.declared.simple.Simple.TheVariants as simple
-use Rattle.rng_names.specs.Holding.{holds}
-use Rattle.rng_matching.specs.Reading.{Reading}
-use Rattle.rng_matching.specs.Taking.{Takes}
-use Rattle.rng_matching.specs.Taking as t
-use Rattle.rng_patterns.specs.Facts.{IsWithin, joined_spans}
-use Rattle.rng_patterns.specs.Node.{Node, node_of}
-use Rattle.rng_patterns.specs.PatternTable.{Longer}
-use Rattle.rng_patterns.specs.Trees.{attribute_found, choice_from, choice_over, tree_of, tree_over}
+use Rattle.rng_names.specs.plain.Holding.{holds}
+use Rattle.rng_model.specs.matching.Reading.{Reading}
+use Rattle.rng_matching.specs.plain.Taking.{Takes}
+use Rattle.rng_matching.specs.plain.Taking as t
+use Rattle.rng_patterns.specs.plain.Facts.{IsWithin, joined_spans}
+use Rattle.rng_patterns.specs.views.Node.{Node, node_of}
+use Rattle.rng_patterns.specs.views.PatternTable.{Longer}
+use Rattle.rng_patterns.specs.views.Trees.{attribute_found, choice_from, choice_over, tree_of, tree_over}
 use Rattle.rng_patterns.specs.declared.pattern.Pattern.{Pattern}
 use Rattle.rng_patterns.specs.declared.pattern.Pattern.TheVariants as pattern
 use Rattle.rng_patterns.specs.declared.pattern.PatternNumber.{PatternNumber}
@@ -27,9 +27,9 @@ use Rattle.rng_patterns.specs.declared.pattern.Span.{Span}
 use Rattle.rng_patterns.proofs.KnownFacts.{joined_first, joined_second}
 use Rattle.rng_patterns.proofs.Trees.{Longer-length, tree_stays}
 use Rattle.rng_ways.proofs.Nodes.{IsStringLeaf, a_datatype, a_list, a_value, an_except, found_string}
-use Rattle.rng_ways.specs.Kinds.{reading_of}
-use Rattle.rng_ways.specs.Takers.{AreAttributes, AreAttributesTold, AreCandidates, AreSpansOf, HasAttribute, IsAttributeAt, IsSpanOf, IsTold}
-use Rattle.rng_ways.specs.Ways.{AreWaysOf}
+use Rattle.rng_model.specs.matching.GrammarReading.{reading_of}
+use Rattle.rng_ways.specs.plain.Takers.{AreAttributes, AreAttributesTold, AreCandidates, AreSpansOf, HasAttribute, IsAttributeAt, IsSpanOf, IsTold}
+use Rattle.rng_ways.specs.plain.Ways.{AreWaysOf}
 use Rattle.rng_ways.specs.declared.takers.Takers.{Takers}
 use Rattle.rng_ways.specs.declared.way.Candidates.{Candidates}
 use Rattle.rng_ways.specs.declared.way.Candidates.TheVariants as candidates

@@ -1,25 +1,25 @@
 -- Patterns without attributes, and what is left once all attributes of a tag are taken.
 use Rattle.std.proofs.Common.{◌≡◌, ℕ, ◌<◌, ◌↔◌, ⊎_elim, List, [], ◌∷◌, ◌++◌, length, map, get_or, zero, suc, refl, sym, subst, arith, Bool, true, false, ◌||◌}
 use Rattle.std.proofs.lemmas.List.Elements.{Contains-get_or, Contains-append_left, Contains-append_right, Contains-append_cases}
-use Rattle.rng_model.specs.Document.{Attribute, Item}
-use Rattle.rng_model.specs.Tree.{Simple, choice, group, interleave, s_not_allowed, s_empty, s_text, s_leaf, s_attribute, s_list, s_data, s_data_except}
-use Rattle.rng_model.specs.Tree.{s_value, s_one_or_more, s_joined}
-use Rattle.rng_matching.specs.Reading.{Reading}
-use Rattle.rng_matching.specs.Taking.{Takes, Same}
-use Rattle.rng_matching.specs.Taking as t
-use Rattle.rng_matching.specs.Restricted.{HasNoAttribute, HasTexts, MayBeExcepted, MayBeListed}
-use Rattle.rng_matching.specs.Derivatives.{closed, joined_of, repeat_of}
+use Rattle.rng_model.specs.matching.Document.{Attribute, Item}
+use Rattle.rng_model.specs.simple.Tree.{Simple, choice, group, interleave, s_not_allowed, s_empty, s_text, s_leaf, s_attribute, s_list, s_data, s_data_except}
+use Rattle.rng_model.specs.simple.Tree.{s_value, s_one_or_more, s_joined}
+use Rattle.rng_model.specs.matching.Reading.{Reading}
+use Rattle.rng_matching.specs.plain.Taking.{Takes, Same}
+use Rattle.rng_matching.specs.plain.Taking as t
+use Rattle.rng_matching.specs.plain.Restricted.{HasNoAttribute, HasTexts, MayBeExcepted, MayBeListed}
+use Rattle.rng_matching.specs.plain.Derivatives.{closed, joined_of, repeat_of}
 use Rattle.rng_matching.proofs.FreeForms.{choice_all}
 use Rattle.rng_matching.proofs.Hereditary.{IsHereditary}
 use Rattle.rng_matching.proofs.Same.{choice_of-same, group_of-same, interleave_of-same, or_not_allowed, repeat_of-same, same, same_back, same_choice}
 use Rattle.rng_matching.proofs.Same.{same_group}
 use Rattle.rng_matching.proofs.Same.{same_interleave, same_repeat, same_through}
-use Rattle.rng_patterns.specs.Choices.{SomeTakes}
-use Rattle.rng_patterns.specs.Reduced.{has_attribute}
-use Rattle.rng_patterns.specs.Trees.{choice_from, choice_over}
+use Rattle.rng_patterns.specs.views.Choices.{SomeTakes}
+use Rattle.rng_patterns.specs.plain.Reduced.{has_attribute}
+use Rattle.rng_patterns.specs.views.Trees.{choice_from, choice_over}
 use Rattle.rng_patterns.specs.declared.pattern.PatternNumber.{PatternNumber}
 use Rattle.rng_patterns.proofs.Choices.{only_one}
-use Rattle.rng_ways.specs.Closing.{IsBareOfAttributes}
+use Rattle.rng_ways.specs.plain.Closing.{IsBareOfAttributes}
 
 -- ---- nothing is wanted from a pattern without attributes
 

@@ -3,28 +3,30 @@ use Rattle.std.proofs.Common.{◌≡◌, ℕ, zero, suc, ◌<◌, ◌↔◌, ◌
 use Rattle.std.proofs.Common.{All, Bool, true, false, Contains, Bor}
 use Rattle.std.proofs.lemmas.List.{map-append}
 use Rattle.std.proofs.lemmas.List.Elements.{All-append, Contains-get_or, Contains-append_left, Contains-append_right, Contains-append_cases}
-use Rattle.rng_model.specs.Lists.{Among, here, there}
-use Rattle.rng_model.specs.Tree.{Simple, s_not_allowed}
-use Rattle.rng_model.specs.Document.{Attribute, Item, a_text}
-use Rattle.rng_model.specs.Table.{Table}
-use Rattle.rng_model.specs.View.{attribute_of, name_of}
+use Rattle.rng_model.specs.names.Lists.{Among, here, there}
+use Rattle.rng_model.specs.simple.Tree.{Simple, s_not_allowed}
+use Rattle.rng_model.specs.matching.Document.{Attribute, Item, a_text}
+use Rattle.rng_model.specs.simple.Table.{Table}
+use Rattle.rng_model.specs.documents.DocumentViews.{attribute_of}
+use Rattle.rng_model.specs.names.NameViews.{name_of}
 use Rattle.rng_model.specs.declared.document.Attr.{Attr}
 use Rattle.rng_model.specs.declared.name.Name.{Name}
-use Rattle.rng_matching.specs.Reading.{Reading}
-use Rattle.rng_matching.specs.Taking.{Takes}
-use Rattle.rng_matching.specs.Derivatives.{Way}
+use Rattle.rng_model.specs.matching.Reading.{Reading}
+use Rattle.rng_matching.specs.plain.Taking.{Takes}
+use Rattle.rng_matching.specs.plain.Derivatives.{Way}
 use Rattle.rng_matching.proofs.FreeForms.{item_among, item_way, attribute_among, attribute_way}
-use Rattle.rng_patterns.specs.Choices.{IsAlternativeOf, SomeTakes}
-use Rattle.rng_patterns.specs.Node.{Node}
-use Rattle.rng_patterns.specs.PatternTable.{Longer}
-use Rattle.rng_patterns.specs.Reduced.{HasAlternative}
-use Rattle.rng_patterns.specs.Trees.{tree_of}
+use Rattle.rng_patterns.specs.views.Choices.{IsAlternativeOf, SomeTakes}
+use Rattle.rng_patterns.specs.views.Node.{Node}
+use Rattle.rng_patterns.specs.views.PatternTable.{Longer}
+use Rattle.rng_patterns.specs.plain.Reduced.{HasAlternative}
+use Rattle.rng_patterns.specs.views.Trees.{tree_of}
 use Rattle.rng_patterns.specs.declared.pattern.PatternNumber.{PatternNumber}
 use Rattle.rng_patterns.proofs.Choices.{only_one}
 use Rattle.rng_patterns.proofs.Trees.{Longer-length, Longer-trans, tree_stays}
-use Rattle.rng_ways.specs.After.{AreFor, AreRests, AreThoseBehind, AreWaysFor, IsLeft, TellsTaken, attributes_of, items_of, place_of}
-use Rattle.rng_ways.specs.Kinds.{Obeys, reading_of, rest_of_leaf, takes_kind}
-use Rattle.rng_ways.specs.Ways.{AreWaysOf, IsInside, Offers, way_by, ways_by}
+use Rattle.rng_ways.specs.plain.After.{AreFor, AreRests, AreThoseBehind, AreWaysFor, IsLeft, TellsTaken, attributes_of, items_of, place_of}
+use Rattle.rng_ways.specs.plain.Kinds.{Obeys, rest_of_leaf, takes_kind}
+use Rattle.rng_model.specs.matching.GrammarReading.{reading_of}
+use Rattle.rng_ways.specs.plain.Ways.{AreWaysOf, IsInside, Offers, way_by, ways_by}
 use Rattle.rng_ways.specs.declared.way.First.{First}
 use Rattle.rng_ways.specs.declared.way.First.TheVariants as firsts
 use Rattle.rng_ways.specs.declared.way.Kind.TheVariants as kinds

@@ -6,26 +6,26 @@ use Rattle.std.proofs.Math.ListN.{get_or-map}
 use Rattle.std.proofs.Math.Seq.{take-suc}
 use Rattle.std.proofs.lemmas.List.{length-map, map-append}
 use Rattle.std.proofs.lemmas.List.Elements.{All-append}
-use Rattle.rng_model.specs.Document.{Attribute, Item}
-use Rattle.rng_model.specs.Table.{Table}
-use Rattle.rng_model.specs.Tree.{Simple, s_not_allowed, s_empty, s_text, s_leaf, s_attribute, s_list, s_data, s_data_except}
-use Rattle.rng_model.specs.Tree.{s_value, s_one_or_more, s_joined}
-use Rattle.rng_matching.specs.Reading.{Reading}
-use Rattle.rng_matching.specs.Taking.{Same, Takes}
-use Rattle.rng_matching.specs.Restricted.{HasTexts, MayBeListed}
-use Rattle.rng_matching.specs.Derivatives.{closed, joined_of, repeat_of}
+use Rattle.rng_model.specs.matching.Document.{Attribute, Item}
+use Rattle.rng_model.specs.simple.Table.{Table}
+use Rattle.rng_model.specs.simple.Tree.{Simple, s_not_allowed, s_empty, s_text, s_leaf, s_attribute, s_list, s_data, s_data_except}
+use Rattle.rng_model.specs.simple.Tree.{s_value, s_one_or_more, s_joined}
+use Rattle.rng_model.specs.matching.Reading.{Reading}
+use Rattle.rng_matching.specs.plain.Taking.{Same, Takes}
+use Rattle.rng_matching.specs.plain.Restricted.{HasTexts, MayBeListed}
+use Rattle.rng_matching.specs.plain.Derivatives.{closed, joined_of, repeat_of}
 use Rattle.rng_matching.proofs.FreeForms.{choice_all}
 use Rattle.rng_matching.proofs.Hereditary.{HasTexts-hereditary, group_of-keeps, interleave_of-keeps}
 use Rattle.rng_matching.proofs.Same.{same, same_through}
-use Rattle.rng_patterns.specs.Choices.{IsAlternativeOf, SomeTakes}
-use Rattle.rng_patterns.specs.Node.{Node}
-use Rattle.rng_patterns.specs.PatternTable.{Adds, Longer}
-use Rattle.rng_patterns.specs.Reduced.{HasAlternative, has_attribute}
-use Rattle.rng_patterns.specs.Trees.{choice_over, tree_of}
+use Rattle.rng_patterns.specs.views.Choices.{IsAlternativeOf, SomeTakes}
+use Rattle.rng_patterns.specs.views.Node.{Node}
+use Rattle.rng_patterns.specs.views.PatternTable.{Adds, Longer}
+use Rattle.rng_patterns.specs.plain.Reduced.{HasAlternative, has_attribute}
+use Rattle.rng_patterns.specs.views.Trees.{choice_over, tree_of}
 use Rattle.rng_patterns.specs.declared.pattern.PatternNumber.{PatternNumber}
 use Rattle.rng_patterns.proofs.Trees.{Longer-length, tree_stays}
-use Rattle.rng_ways.specs.Closing.{IsBareOfAttributes, IsClosed}
-use Rattle.rng_ways.specs.Kinds.{IsAlone, connector_of}
+use Rattle.rng_ways.specs.plain.Closing.{IsBareOfAttributes, IsClosed}
+use Rattle.rng_ways.specs.plain.Kinds.{IsAlone, connector_of}
 use Rattle.rng_ways.specs.declared.way.Joint.{Joint}
 use Rattle.rng_ways.specs.declared.way.Joint.TheVariants as joints
 use Rattle.rng_ways.proofs.Bareness.{bare_hereditary, bare_repeat, closed_group, closed_interleave, closed_over, closed_repeat, member_has, some_more}

@@ -1,25 +1,26 @@
 -- Ways of a whole, of those of its sides: the law, and what is kept.
 use Rattle.std.proofs.Common.{◌≡◌, ℕ, List, [], ◌∷◌, ◌++◌, map, refl, sym, ap, subst, arith, true, false, cond}
 use Rattle.std.proofs.lemmas.List.{append-nil}
-use Rattle.rng_model.specs.Tree.{Simple, choice, group, s_not_allowed}
-use Rattle.rng_model.specs.Tree.{s_one_or_more, s_joined}
-use Rattle.rng_model.specs.Table.{Table}
-use Rattle.rng_matching.specs.Reading.{Reading}
-use Rattle.rng_matching.specs.Taking.{Same}
-use Rattle.rng_matching.specs.Restricted.{RepeatsWell}
-use Rattle.rng_matching.specs.Derivatives.{Way, behind, group_of, is_nullable, item_ways, joined_of, more_of}
+use Rattle.rng_model.specs.simple.Tree.{Simple, choice, group, s_not_allowed}
+use Rattle.rng_model.specs.simple.Tree.{s_one_or_more, s_joined}
+use Rattle.rng_model.specs.simple.Table.{Table}
+use Rattle.rng_model.specs.matching.Reading.{Reading}
+use Rattle.rng_matching.specs.plain.Taking.{Same}
+use Rattle.rng_matching.specs.plain.Restricted.{RepeatsWell}
+use Rattle.rng_matching.specs.plain.Derivatives.{Way, behind, group_of, is_nullable, item_ways, joined_of, more_of}
 use Rattle.rng_matching.proofs.FreeForms.{choice_all, choice_all-append}
 use Rattle.rng_matching.proofs.Hereditary.{IsHereditary, RepeatsWell-hereditary, each_behind, group_of-keeps, interleave_of-keeps}
 use Rattle.rng_matching.proofs.Same.{group_associative, group_of-same, interleave_of-same, or_not_allowed, same, same_back, same_choice, same_group}
 use Rattle.rng_matching.proofs.Same.{same_through}
 use Rattle.rng_matching.proofs.ItemWays as items
 use Rattle.rng_matching.proofs.AttributeWays as attributes
-use Rattle.rng_patterns.specs.Node.{Node}
-use Rattle.rng_patterns.specs.PatternTable.{Longer}
-use Rattle.rng_patterns.specs.Trees.{choice_from, choice_over, tree_of}
+use Rattle.rng_patterns.specs.views.Node.{Node}
+use Rattle.rng_patterns.specs.views.PatternTable.{Longer}
+use Rattle.rng_patterns.specs.views.Trees.{choice_from, choice_over, tree_of}
 use Rattle.rng_patterns.specs.declared.pattern.PatternNumber.{PatternNumber}
-use Rattle.rng_ways.specs.Kinds.{HasNoOrder, IsLeafOf, IsOfItems, Obeys, connector_of, reading_of, takes_kind}
-use Rattle.rng_ways.specs.Ways.{AreKept, AreWays, AreWaysOf, StandFor, filled, ways_by}
+use Rattle.rng_ways.specs.plain.Kinds.{HasNoOrder, IsLeafOf, IsOfItems, Obeys, connector_of, takes_kind}
+use Rattle.rng_model.specs.matching.GrammarReading.{reading_of}
+use Rattle.rng_ways.specs.plain.Ways.{AreKept, AreWays, AreWaysOf, StandFor, filled, ways_by}
 use Rattle.rng_ways.specs.declared.way.Way as numbered
 use Rattle.rng_ways.specs.declared.way.Hole.TheVariants as holes
 use Rattle.rng_ways.specs.declared.way.Joint.{Joint}

@@ -1,23 +1,23 @@
 -- The ways of a group that begins with copies of a pattern that may be left out: those of a copy, and those of what stands behind all of them.
 use Rattle.std.proofs.Common.{◌≡◌, ◌∙◌, ◌⊎◌, ◌≤◌, inl, inr, ⊎_elim, ℕ, List, [], ◌∷◌, ◌++◌, append-nil, append_assoc, refl, sym, ap, subst, arith}
-use Rattle.rng_model.specs.Lists.{Among, here, there}
-use Rattle.rng_model.specs.Tree.{Simple, group, s_joined}
-use Rattle.rng_model.specs.Document.{Item}
-use Rattle.rng_model.specs.Document as document
-use Rattle.rng_matching.specs.Blanks.{IsBare}
-use Rattle.rng_matching.specs.Derivatives as tree
-use Rattle.rng_matching.specs.Derivatives.{behind, item_ways}
-use Rattle.rng_matching.specs.Reading.{Reading}
-use Rattle.rng_matching.specs.Taking.{Same, Takes}
-use Rattle.rng_matching.specs.Taking as t
-use Rattle.rng_matching.specs.Ways.{AreItemWays, TakesItem}
+use Rattle.rng_model.specs.names.Lists.{Among, here, there}
+use Rattle.rng_model.specs.simple.Tree.{Simple, group, s_joined}
+use Rattle.rng_model.specs.matching.Document.{Item}
+use Rattle.rng_model.specs.matching.Document as document
+use Rattle.rng_matching.specs.plain.Blanks.{IsBare}
+use Rattle.rng_matching.specs.plain.Derivatives as tree
+use Rattle.rng_matching.specs.plain.Derivatives.{behind, item_ways}
+use Rattle.rng_model.specs.matching.Reading.{Reading}
+use Rattle.rng_matching.specs.plain.Taking.{Same, Takes}
+use Rattle.rng_matching.specs.plain.Taking as t
+use Rattle.rng_matching.specs.plain.Ways.{AreItemWays, TakesItem}
 use Rattle.rng_matching.proofs.FreeForms.{item_among, item_way}
 use Rattle.rng_matching.proofs.Hereditary.{IsHereditary}
 use Rattle.rng_matching.proofs.ItemWays.{group_ways, item_in_first, item_of_both, item_ways-are}
 use Rattle.rng_matching.proofs.Same.{same, same_through}
 use Rattle.rng_matching.proofs.Tools.{bare_cut}
-use Rattle.rng_patterns.specs.Copies.{AreCopies, IsBehindCopies, IsOfCopies, IsOpened, as_it_is, both, copies_before, nothing_before, once_more, one}
-use Rattle.rng_ways.specs.Kinds.{weight}
+use Rattle.rng_patterns.specs.plain.Copies.{AreCopies, IsBehindCopies, IsOfCopies, IsOpened, as_it_is, both, copies_before, nothing_before, once_more, one}
+use Rattle.rng_ways.specs.plain.Kinds.{weight}
 use Rattle.rng_ways.proofs.Composing.{HandsOn, opened_hands_on, opened_same}
 use Rattle.rng_ways.proofs.Weights.{opened_less, right_less}
 

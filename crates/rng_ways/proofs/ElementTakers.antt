@@ -2,28 +2,30 @@
 use Rattle.std.proofs.Common.{◌≡◌, ◌∙◌, ◌+◌, ◌<◌, ℕ, zero, suc, ◌⊎◌, inl, inr, ⊎_elim, List, [], ◌∷◌, ◌++◌, slice_get, slice_set, Some, None}
 use Rattle.std.proofs.Common.{subst, sym, refl, true, false, arith}
 use Rattle.std.proofs.lemmas.Option.{slice_get_cases}
-use Rattle.rng_keys.specs.Keys.{Keys, key_of}
-use Rattle.rng_model.specs.Names.{Name}
-use Rattle.rng_model.specs.Table.{Table}
-use Rattle.rng_model.specs.Texts.{is_blank}
-use Rattle.rng_model.specs.Tree.{Simple}
-use Rattle.rng_model.specs.Document.{Attribute, Item, Items, a_text, an_element, AllTexts, no_texts, text_and, Interleaves, Padded}
-use Rattle.rng_model.specs.Document as document
-use Rattle.rng_model.specs.View.{class_of, name_of}
+use Rattle.rng_keys.specs.plain.Keys.{Keys, key_of}
+use Rattle.rng_model.specs.names.Names.{Name}
+use Rattle.rng_model.specs.simple.Table.{Table}
+use Rattle.rng_model.specs.datatypes.Texts.{is_blank}
+use Rattle.rng_model.specs.simple.Tree.{Simple}
+use Rattle.rng_model.specs.matching.Document.{Attribute, Item, Items, a_text, an_element, AllTexts, no_texts, text_and, Interleaves, Padded}
+use Rattle.rng_model.specs.matching.Document as document
+use Rattle.rng_model.specs.names.NameViews.{class_of, name_of}
 use Rattle.rng_model.specs.declared.name.NameClass.{NameClass}
 use Rattle.rng_model.specs.declared.simple.PatternId.{PatternId}
-use Rattle.rng_names.specs.Holding.{holds}
-use Rattle.rng_matching.specs.Reading.{Reading, has_name}
-use Rattle.rng_matching.specs.Taking.{Takes}
-use Rattle.rng_matching.specs.Taking as t
-use Rattle.rng_patterns.specs.Facts.{HasElement, IsWithin, joined_spans, one_span}
-use Rattle.rng_patterns.specs.Node.{Node}
+use Rattle.rng_names.specs.plain.Holding.{holds}
+use Rattle.rng_model.specs.matching.Reading.{Reading}
+use Rattle.rng_matching.specs.plain.Reading.{has_name}
+use Rattle.rng_matching.specs.plain.Taking.{Takes}
+use Rattle.rng_matching.specs.plain.Taking as t
+use Rattle.rng_patterns.specs.plain.Facts.{HasElement, IsWithin, joined_spans, one_span}
+use Rattle.rng_patterns.specs.views.Node.{Node}
 use Rattle.rng_patterns.specs.declared.pattern.Span.{Span}
 use Rattle.rng_patterns.proofs.KnownFacts.{joined_first, joined_second, one_within}
-use Rattle.rng_ways.specs.Kinds.{IsElementNamed, reading_of}
-use Rattle.rng_ways.specs.KnownWays.{IsElementKind}
-use Rattle.rng_ways.specs.Takers.{AreAllTold, AreElements, AreOfKey, IsTold}
-use Rattle.rng_ways.specs.Ways.{AreWaysOf}
+use Rattle.rng_ways.specs.plain.Kinds.{IsElementNamed}
+use Rattle.rng_model.specs.matching.GrammarReading.{reading_of}
+use Rattle.rng_ways.specs.views.KnownWays.{IsElementKind}
+use Rattle.rng_ways.specs.plain.Takers.{AreAllTold, AreElements, AreOfKey, IsTold}
+use Rattle.rng_ways.specs.plain.Ways.{AreWaysOf}
 use Rattle.rng_ways.specs.declared.takers.Takers.{Takers}
 use Rattle.rng_ways.specs.declared.way.Kind.{Kind}
 use Rattle.rng_ways.specs.declared.way.Kind.TheVariants as kinds

@@ -2,33 +2,34 @@
 -- subsequences of what it takes, or begins with copies of the first one.
 use Rattle.std.proofs.Common.{◌≡◌, ◌↔◌, ◌⊎◌, ◌<◌, inl, inr, ⊎_elim, ℕ, List, [], ◌∷◌, ◌++◌, length, append-nil, refl, sym, ap, subst}
 use Rattle.std.proofs.lemmas.List.Elements.{All-contains, All-contains_itself}
-use Rattle.rng_model.specs.Lists.{Among}
-use Rattle.rng_model.specs.Tree.{Simple, choice, group, s_empty, s_joined, s_one_or_more}
-use Rattle.rng_model.specs.Document.{Attribute, Item}
-use Rattle.rng_model.specs.Table.{Table}
-use Rattle.rng_matching.specs.Blanks.{IsBare}
-use Rattle.rng_matching.specs.Reading.{Reading}
-use Rattle.rng_matching.specs.Taking.{Same, Takes}
-use Rattle.rng_matching.specs.Derivatives as tree
-use Rattle.rng_matching.specs.Derivatives.{behind, group_of, more_of}
-use Rattle.rng_matching.specs.Ways.{AreItemWays, TakesItem}
+use Rattle.rng_model.specs.names.Lists.{Among}
+use Rattle.rng_model.specs.simple.Tree.{Simple, choice, group, s_empty, s_joined, s_one_or_more}
+use Rattle.rng_model.specs.matching.Document.{Attribute, Item}
+use Rattle.rng_model.specs.simple.Table.{Table}
+use Rattle.rng_matching.specs.plain.Blanks.{IsBare}
+use Rattle.rng_model.specs.matching.Reading.{Reading}
+use Rattle.rng_matching.specs.plain.Taking.{Same, Takes}
+use Rattle.rng_matching.specs.plain.Derivatives as tree
+use Rattle.rng_matching.specs.plain.Derivatives.{behind, group_of, more_of}
+use Rattle.rng_matching.specs.plain.Ways.{AreItemWays, TakesItem}
 use Rattle.rng_matching.proofs.FreeForms.{item_among, item_way}
 use Rattle.rng_matching.proofs.ItemWays.{item_in_first, item_in_second}
 use Rattle.rng_matching.proofs.RepeatedAttributes.{MayBeAll, repeated_ways}
 use Rattle.rng_matching.proofs.Same.{group_of-same}
-use Rattle.rng_patterns.specs.Choices.{IsAlternativeOf, SomeTakes}
-use Rattle.rng_patterns.specs.Copies.{IsBehindCopies, IsOfCopies}
-use Rattle.rng_patterns.specs.Facts.{LosesFirst}
-use Rattle.rng_patterns.specs.Node.{Node}
-use Rattle.rng_patterns.specs.PatternTable.{Longer}
-use Rattle.rng_patterns.specs.Reduced.{HasAlternative}
-use Rattle.rng_patterns.specs.Trees.{tree_of}
+use Rattle.rng_patterns.specs.views.Choices.{IsAlternativeOf, SomeTakes}
+use Rattle.rng_patterns.specs.plain.Copies.{IsBehindCopies, IsOfCopies}
+use Rattle.rng_patterns.specs.plain.Facts.{LosesFirst}
+use Rattle.rng_patterns.specs.views.Node.{Node}
+use Rattle.rng_patterns.specs.views.PatternTable.{Longer}
+use Rattle.rng_patterns.specs.plain.Reduced.{HasAlternative}
+use Rattle.rng_patterns.specs.views.Trees.{tree_of}
 use Rattle.rng_patterns.specs.declared.pattern.PatternNumber.{PatternNumber}
 use Rattle.rng_patterns.proofs.Taking.{choice_of_two}
 use Rattle.rng_patterns.proofs.Trees.{tree_stays}
-use Rattle.rng_ways.specs.FewerWays.{AreRepeated, AreUncovered, IsCovered}
-use Rattle.rng_ways.specs.Kinds.{IsLeafOf, IsOfItems, Obeys, reading_of}
-use Rattle.rng_ways.specs.Ways.{AreInside, AreKept, AreWays, AreWaysOf, IsInside, StandFor, filled, way_by, ways_by}
+use Rattle.rng_ways.specs.plain.FewerWays.{AreRepeated, AreUncovered, IsCovered}
+use Rattle.rng_ways.specs.plain.Kinds.{IsLeafOf, IsOfItems, Obeys}
+use Rattle.rng_model.specs.matching.GrammarReading.{reading_of}
+use Rattle.rng_ways.specs.plain.Ways.{AreInside, AreKept, AreWays, AreWaysOf, IsInside, StandFor, filled, way_by, ways_by}
 use Rattle.rng_ways.specs.declared.way.Hole.TheVariants as holes
 use Rattle.rng_ways.specs.declared.way.Joint.TheVariants as joints
 use Rattle.rng_ways.specs.declared.way.Kind.{Kind}

@@ -2,13 +2,13 @@
 use Rattle.std.proofs.Common.{inl, inr, ⊎_elim, List, [], ◌∷◌, ◌++◌, refl, sym, ap, subst, arith}
 use Rattle.std.specs.List.{Contains}
 use Rattle.std.proofs.lemmas.List.Elements.{Contains-append_left, Contains-push, Contains-push_cases}
-use Rattle.rng_model.specs.Table.{Table}
-use Rattle.rng_matching.specs.Reading.{Reading}
-use Rattle.rng_matching.specs.Taking.{Takes}
-use Rattle.rng_patterns.specs.Node.{Node}
-use Rattle.rng_patterns.specs.Trees.{tree_of}
+use Rattle.rng_model.specs.simple.Table.{Table}
+use Rattle.rng_model.specs.matching.Reading.{Reading}
+use Rattle.rng_matching.specs.plain.Taking.{Takes}
+use Rattle.rng_patterns.specs.views.Node.{Node}
+use Rattle.rng_patterns.specs.views.Trees.{tree_of}
 use Rattle.rng_patterns.specs.declared.pattern.PatternNumber.{PatternNumber}
-use Rattle.rng_ways.specs.FewerWays.{AreRepeated, AreUncovered, HasOptionalRest, IsCovered, IsOptional}
+use Rattle.rng_ways.specs.plain.FewerWays.{AreRepeated, AreUncovered, HasOptionalRest, IsCovered, IsOptional}
 use Rattle.rng_ways.specs.declared.way.Way.{Way}
 use Rattle.rng_ways.proofs.Joining.{way_to}
 

@@ -5,23 +5,23 @@ use Rattle.std.proofs.lemmas.List.{take_all}
 use Rattle.std.proofs.lemmas.List.Elements.{All-append, All-contains, Contains-append_cases, Contains-append_left, Contains-append_right, Contains-push}
 use Rattle.std.proofs.lemmas.List.Elements.{Contains-push_cases}
 use Rattle.std.proofs.Math.Seq.{take-suc}
-use Rattle.rng_model.specs.Lists.{Among, here, there}
-use Rattle.rng_model.specs.Tree.{Simple}
-use Rattle.rng_model.specs.Document.{Attribute, Item}
-use Rattle.rng_model.specs.Table.{Table}
-use Rattle.rng_matching.specs.Reading.{Reading}
-use Rattle.rng_matching.specs.Taking.{Takes}
-use Rattle.rng_matching.specs.Derivatives as tree
-use Rattle.rng_matching.specs.Ways.{EachWay}
-use Rattle.rng_patterns.specs.Choices.{IsAlternativeOf, SomeTakes}
-use Rattle.rng_patterns.specs.Node.{Node}
-use Rattle.rng_patterns.specs.PatternTable.{Longer}
-use Rattle.rng_patterns.specs.Reduced.{HasAlternative}
-use Rattle.rng_patterns.specs.Trees.{tree_of}
+use Rattle.rng_model.specs.names.Lists.{Among, here, there}
+use Rattle.rng_model.specs.simple.Tree.{Simple}
+use Rattle.rng_model.specs.matching.Document.{Attribute, Item}
+use Rattle.rng_model.specs.simple.Table.{Table}
+use Rattle.rng_model.specs.matching.Reading.{Reading}
+use Rattle.rng_matching.specs.plain.Taking.{Takes}
+use Rattle.rng_matching.specs.plain.Derivatives as tree
+use Rattle.rng_matching.specs.plain.Ways.{EachWay}
+use Rattle.rng_patterns.specs.views.Choices.{IsAlternativeOf, SomeTakes}
+use Rattle.rng_patterns.specs.views.Node.{Node}
+use Rattle.rng_patterns.specs.views.PatternTable.{Longer}
+use Rattle.rng_patterns.specs.plain.Reduced.{HasAlternative}
+use Rattle.rng_patterns.specs.views.Trees.{tree_of}
 use Rattle.rng_patterns.specs.declared.pattern.PatternNumber.{PatternNumber}
 use Rattle.rng_patterns.proofs.Trees.{Longer-length, Longer-trans, tree_stays}
-use Rattle.rng_ways.specs.Kinds.{IsLeafOf, Obeys}
-use Rattle.rng_ways.specs.Ways.{AreInside, AreRestsBehind, IsInside, Offers, StandFor, way_by, ways_by}
+use Rattle.rng_ways.specs.plain.Kinds.{IsLeafOf, Obeys}
+use Rattle.rng_ways.specs.plain.Ways.{AreInside, AreRestsBehind, IsInside, Offers, StandFor, way_by, ways_by}
 use Rattle.rng_ways.specs.declared.way.Way.{Way}
 use Rattle.rng_ways.proofs.Adding.{one_inside}
 use Rattle.rng_ways.proofs.Kept.{Obeys-hereditary, alternative_has, has_of_alternatives}

@@ -1,15 +1,15 @@
 -- What patterns obey at a place is kept by ways, and by choices.
 use Rattle.std.proofs.Common.{ℕ, inl, inr, List, [], ◌∷◌, ◌++◌, refl, sym, subst}
 use Rattle.std.specs.List.{Contains}
-use Rattle.rng_model.specs.Tree.{Simple, choice, group, interleave, s_not_allowed, s_empty, s_text, s_leaf, s_attribute, s_list, s_data, s_data_except}
-use Rattle.rng_model.specs.Tree.{s_value, s_one_or_more, s_joined}
-use Rattle.rng_matching.specs.Derivatives.{Way}
-use Rattle.rng_matching.specs.Ways.{EachWay}
+use Rattle.rng_model.specs.simple.Tree.{Simple, choice, group, interleave, s_not_allowed, s_empty, s_text, s_leaf, s_attribute, s_list, s_data, s_data_except}
+use Rattle.rng_model.specs.simple.Tree.{s_value, s_one_or_more, s_joined}
+use Rattle.rng_matching.specs.plain.Derivatives.{Way}
+use Rattle.rng_matching.specs.plain.Ways.{EachWay}
 use Rattle.rng_matching.proofs.Hereditary.{IsHereditary, IsRestricted-hereditary, HasTexts-hereditary}
-use Rattle.rng_patterns.specs.Choices.{IsAlternativeOf}
-use Rattle.rng_patterns.specs.Reduced.{HasAlternative}
+use Rattle.rng_patterns.specs.views.Choices.{IsAlternativeOf}
+use Rattle.rng_patterns.specs.plain.Reduced.{HasAlternative}
 use Rattle.rng_patterns.specs.declared.pattern.PatternNumber.{PatternNumber}
-use Rattle.rng_ways.specs.Kinds.{Obeys}
+use Rattle.rng_ways.specs.plain.Kinds.{Obeys}
 use Rattle.rng_ways.specs.declared.way.Place.{Place}
 use Rattle.rng_ways.specs.declared.way.Place.TheVariants as places
 

@@ -2,17 +2,17 @@
 use Rattle.std.proofs.Common.{◌≡◌, ◌⊎◌, ◌<◌, List, Some, None, length, ⊎_elim, sym, subst, arith}
 use Rattle.std.specs.HashMap.{HashMap, IsEmpty}
 use Rattle.std.specs.Map.{lookup}
-use Rattle.rng_matching.specs.Derivatives.{closed}
-use Rattle.rng_matching.specs.Restricted.{HasTexts, MayBeListed}
-use Rattle.rng_matching.specs.Taking.{Same}
-use Rattle.rng_patterns.specs.Node.{Node}
-use Rattle.rng_patterns.specs.PatternTable.{Longer}
-use Rattle.rng_patterns.specs.Trees.{tree_of}
+use Rattle.rng_matching.specs.plain.Derivatives.{closed}
+use Rattle.rng_matching.specs.plain.Restricted.{HasTexts, MayBeListed}
+use Rattle.rng_matching.specs.plain.Taking.{Same}
+use Rattle.rng_patterns.specs.views.Node.{Node}
+use Rattle.rng_patterns.specs.views.PatternTable.{Longer}
+use Rattle.rng_patterns.specs.views.Trees.{tree_of}
 use Rattle.rng_patterns.specs.declared.pattern.PatternNumber.{PatternNumber}
 use Rattle.rng_patterns.specs.contracts.pattern.PatternNumberPartialEq.TheImpl as same
 use Rattle.rng_patterns.proofs.Trees.{Longer-length, tree_stays}
-use Rattle.rng_ways.specs.Closing.{IsBareOfAttributes, IsClosed}
-use Rattle.rng_ways.specs.KnownRests.{AreRestsOf, HasRest, IsRestOf}
+use Rattle.rng_ways.specs.plain.Closing.{IsBareOfAttributes, IsClosed}
+use Rattle.rng_ways.specs.views.KnownRests.{AreRestsOf, HasRest, IsRestOf}
 
 module _ (old new : List Node) (longer : Longer old new) where
   -- what is left of a pattern that stood before

@@ -2,17 +2,17 @@
 use Rattle.std.proofs.Common.{◌≡◌, ◌∙◌, ◌+◌, ◌<◌, ◌≤◌, ◌↔◌, ℕ, List, Option, Some, None, Ok, Err, ⊎_elim, slice_get, refl, sym, ap, subst, arith}
 use Rattle.std.proofs.lemmas.Bool.{cases_lt}
 use Rattle.std.proofs.lemmas.Option.{slice_get_within}
-use Rattle.rng_model.specs.Table.{Table}
-use Rattle.rng_model.specs.Tree.{Datatype}
-use Rattle.rng_model.specs.Datatypes.{BuiltInType, HasType}
-use Rattle.rng_model.specs.DatatypeTests.{known_allows, known_equates, type_of}
+use Rattle.rng_model.specs.simple.Table.{Table}
+use Rattle.rng_model.specs.simple.Tree.{Datatype}
+use Rattle.rng_model.specs.datatypes.Datatypes.{BuiltInType, HasType}
+use Rattle.rng_model.specs.datatypes.DatatypeTests.{known_allows, known_equates, type_of}
 use Rattle.rng_model.specs.declared.simple.Simple.{Simple}
 use Rattle.rng_model.proofs.DatatypeTests.{type_of-complete, type_of-sound}
-use Rattle.rng_types.specs.View.{built_in_type_of, seen}
+use Rattle.rng_types.specs.views.View.{built_in_type_of, seen}
 use Rattle.rng_types.specs.declared.builtin.Builtin.{Builtin}
 use Rattle.rng_types.specs.declared.builtin.TypeFault.{TypeFault}
 use Rattle.rng_patterns.proofs.Taking.{past_end}
-use Rattle.rng_ways.specs.Datatypes.{AreDatatypesOf, type_at, type_named_by}
+use Rattle.rng_ways.specs.views.Datatypes.{AreDatatypesOf, type_at, type_named_by}
 use Rattle.rng_ways.specs.declared.datatypes.Datatypes.{Datatypes}
 use Rattle.rng_ways.proofs.KnownWays.{some_is}
 

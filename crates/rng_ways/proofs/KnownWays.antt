@@ -6,23 +6,24 @@ use Rattle.std.proofs.lemmas.Bool.Decides.{Decides-eqb}
 use Rattle.std.specs.HashMap.{HashMap, IsEmpty, get}
 use Rattle.std.specs.Map.{lookup}
 use Rattle.smallvec.specs.SmallVec.{SmallVec}
-use Rattle.rng_keys.specs.Keys.{Keys, name_at}
+use Rattle.rng_keys.specs.plain.Keys.{Keys, name_at}
 use Rattle.rng_keys.specs.declared.name_keys.NameKey.{NameKey}
 use Rattle.rng_keys.specs.contracts.name_keys.NameKeyPartialEq.TheImpl as same_key
-use Rattle.rng_model.specs.Names.{Name}
-use Rattle.rng_model.specs.Table.{Table}
-use Rattle.rng_model.specs.Tree.{Simple}
-use Rattle.rng_matching.specs.Ways.{AreAttributeWays, AreItemWays, EachWay, IsItemLeaf}
-use Rattle.rng_patterns.specs.Node.{Node}
-use Rattle.rng_patterns.specs.PatternTable.{Longer}
-use Rattle.rng_patterns.specs.Trees.{tree_of}
+use Rattle.rng_model.specs.names.Names.{Name}
+use Rattle.rng_model.specs.simple.Table.{Table}
+use Rattle.rng_model.specs.simple.Tree.{Simple}
+use Rattle.rng_matching.specs.plain.Ways.{AreAttributeWays, AreItemWays, EachWay, IsItemLeaf}
+use Rattle.rng_patterns.specs.views.Node.{Node}
+use Rattle.rng_patterns.specs.views.PatternTable.{Longer}
+use Rattle.rng_patterns.specs.views.Trees.{tree_of}
 use Rattle.rng_patterns.specs.declared.pattern.PatternNumber.{PatternNumber}
 use Rattle.rng_patterns.specs.contracts.pattern.PatternNumberPartialEq.TheImpl as same
 use Rattle.rng_patterns.proofs.Trees.{Longer-length, tree_stays}
-use Rattle.rng_ways.specs.Kinds.{IsElementNamed, IsNamed, Obeys, reading_of}
-use Rattle.rng_ways.specs.KnownWays.{AreAllKnown, AreKnown, AreKnownByKey, AreKnownFor, AreThoseOf, HasForKey, HasKnown, IsAttributeKind, IsElementKind}
-use Rattle.rng_ways.specs.KnownWays.{KeepsOtherKeys}
-use Rattle.rng_ways.specs.Ways.{AreWaysOf, ways_by}
+use Rattle.rng_ways.specs.plain.Kinds.{IsElementNamed, IsNamed, Obeys}
+use Rattle.rng_model.specs.matching.GrammarReading.{reading_of}
+use Rattle.rng_ways.specs.views.KnownWays.{AreAllKnown, AreKnown, AreKnownByKey, AreKnownFor, AreThoseOf, HasForKey, HasKnown, IsAttributeKind, IsElementKind}
+use Rattle.rng_ways.specs.views.KnownWays.{KeepsOtherKeys}
+use Rattle.rng_ways.specs.plain.Ways.{AreWaysOf, ways_by}
 use Rattle.rng_ways.specs.declared.known.Known.{Known}
 use Rattle.rng_ways.specs.declared.way.Kind.{Kind}
 use Rattle.rng_ways.specs.declared.way.Kind.TheVariants as kinds

@@ -6,32 +6,33 @@ use Rattle.std.proofs.Common.{Option, Some, None, refl, sym, ap, ap₂, subst, s
 use Rattle.std.specs.Borrow.{Bor}
 use Rattle.std.proofs.lemmas.Bool.{cases_lt}
 use Rattle.std.proofs.lemmas.List.Elements.{All-append, All-cons, All-nil}
-use Rattle.rng_keys.specs.Keys.{Keys, KeysServe, key_of, name_at}
-use Rattle.rng_keys.specs.Keys as keyed
-use Rattle.rng_model.specs.Document.{Attribute, Item, Interleaves, SharesName}
-use Rattle.rng_model.specs.Document as document
-use Rattle.rng_model.specs.Names.{In, Name, NameClass}
-use Rattle.rng_model.specs.Table.{Table}
-use Rattle.rng_model.specs.Tree.{Simple, s_not_allowed, s_empty, s_text, s_leaf, s_attribute, s_list, s_data, s_data_except, s_value, s_one_or_more}
-use Rattle.rng_model.specs.Tree.{s_joined}
-use Rattle.rng_model.specs.View.{class_of, name_of}
-use Rattle.rng_model.specs.WellFormed.{Distinct, HasNoName}
-use Rattle.rng_model.specs.WellFormed as formed
+use Rattle.rng_keys.specs.plain.Keys.{Keys, KeysServe, key_of, name_at}
+use Rattle.rng_keys.specs.plain.Keys as keyed
+use Rattle.rng_model.specs.matching.Document.{Attribute, Item, Interleaves, SharesName}
+use Rattle.rng_model.specs.matching.Document as document
+use Rattle.rng_model.specs.names.Names.{In, Name, NameClass}
+use Rattle.rng_model.specs.simple.Table.{Table}
+use Rattle.rng_model.specs.simple.Tree.{Simple, s_not_allowed, s_empty, s_text, s_leaf, s_attribute, s_list, s_data, s_data_except, s_value, s_one_or_more}
+use Rattle.rng_model.specs.simple.Tree.{s_joined}
+use Rattle.rng_model.specs.names.NameViews.{class_of, name_of}
+use Rattle.rng_model.specs.matching.WellFormed.{Distinct, HasNoName}
+use Rattle.rng_model.specs.matching.WellFormed as formed
 use Rattle.rng_model.specs.declared.name.Name as declared
 use Rattle.rng_model.specs.declared.simple.Simple as row
 use Rattle.rng_model.specs.declared.simple.Simple.TheVariants as simple
-use Rattle.rng_names.specs.Holding.{holds, same_name}
+use Rattle.rng_names.specs.plain.Holding.{holds, same_name}
 use Rattle.rng_names.proofs.Holding.{holds-Decides, same_name-Decides}
-use Rattle.rng_matching.specs.Reading.{Reading}
-use Rattle.rng_matching.specs.Taking.{Takes}
-use Rattle.rng_matching.specs.Taking as t
-use Rattle.rng_matching.specs.Ways.{AreAttributeWays, TakesAttribute}
-use Rattle.rng_matching.specs.Derivatives.{Way}
-use Rattle.rng_patterns.specs.Node.{Node}
-use Rattle.rng_patterns.specs.Node as node
-use Rattle.rng_patterns.specs.Trees.{attribute_found, choice_from, tree_in, tree_of, tree_over, trees, with_tree}
-use Rattle.rng_ways.specs.Kinds.{IsNamed, reading_of}
-use Rattle.rng_ways.specs.Ways.{AreWaysOf, ways_by}
+use Rattle.rng_model.specs.matching.Reading.{Reading}
+use Rattle.rng_matching.specs.plain.Taking.{Takes}
+use Rattle.rng_matching.specs.plain.Taking as t
+use Rattle.rng_matching.specs.plain.Ways.{AreAttributeWays, TakesAttribute}
+use Rattle.rng_matching.specs.plain.Derivatives.{Way}
+use Rattle.rng_patterns.specs.views.Node.{Node}
+use Rattle.rng_patterns.specs.views.Node as node
+use Rattle.rng_patterns.specs.views.Trees.{attribute_found, choice_from, tree_in, tree_of, tree_over, trees, with_tree}
+use Rattle.rng_ways.specs.plain.Kinds.{IsNamed}
+use Rattle.rng_model.specs.matching.GrammarReading.{reading_of}
+use Rattle.rng_ways.specs.plain.Ways.{AreWaysOf, ways_by}
 use Rattle.rng_ways.specs.declared.way.Kind.TheVariants as kinds
 use Rattle.rng_ways.specs.declared.way.Way as numbered
 use Rattle.rng_ways.proofs.Nodes.{IsStringLeaf, a_datatype, a_list, a_value, an_except, found_string}

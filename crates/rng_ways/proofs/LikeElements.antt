@@ -1,15 +1,15 @@
 -- Elements of one name and one body take the same.
 use Rattle.std.proofs.Common.{◌≡◌, ◌∙◌, ⊎_elim, ℕ, List, [], ◌∷◌, ◌++◌, length, refl, sym, ap, subst, slice_get, Some}
-use Rattle.rng_model.specs.Names as names
-use Rattle.rng_model.specs.Table.{Table}
-use Rattle.rng_model.specs.View.{class_of, name_of}
+use Rattle.rng_model.specs.names.Names as names
+use Rattle.rng_model.specs.simple.Table.{Table}
+use Rattle.rng_model.specs.names.NameViews.{class_of, name_of}
 use Rattle.rng_model.specs.declared.name.Name as declared
 use Rattle.rng_model.specs.declared.name.NameClass.TheVariants as classes
 use Rattle.rng_model.specs.declared.simple.ElementId.{ElementId}
 use Rattle.rng_model.specs.declared.simple.PatternId.{PatternId}
-use Rattle.rng_names.specs.Holding.{holds}
+use Rattle.rng_names.specs.plain.Holding.{holds}
 use Rattle.rng_names.proofs.Views.{name_class_is}
-use Rattle.rng_ways.specs.Alike.{AreAlike, IsAlike}
+use Rattle.rng_ways.specs.plain.Alike.{AreAlike, IsAlike}
 use Rattle.rng_ways.proofs.AttributeTakers.{pushed_cases}
 use Rattle.rng_ways.proofs.Rows.{body_there, class_there}
 

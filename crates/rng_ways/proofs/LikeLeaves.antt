@@ -1,17 +1,18 @@
 -- A ref to an element may stand for that to another one that takes the same.
 use Rattle.std.proofs.Common.{◌≡◌, inl, inr, ℕ, List, [], ◌∷◌, sym, subst, true}
-use Rattle.rng_model.specs.Document.{Attribute, Item, list_of}
-use Rattle.rng_model.specs.Table.{Table}
-use Rattle.rng_model.specs.Tree.{Simple, s_leaf}
-use Rattle.rng_model.specs.View.{name_of}
-use Rattle.rng_matching.specs.Taking.{Takes, WeaklyMatches}
-use Rattle.rng_matching.specs.Taking as t
-use Rattle.rng_matching.specs.Derivatives.{Way}
-use Rattle.rng_matching.specs.Ways.{TakesItem}
+use Rattle.rng_model.specs.matching.Document.{Attribute, Item, list_of}
+use Rattle.rng_model.specs.simple.Table.{Table}
+use Rattle.rng_model.specs.simple.Tree.{Simple, s_leaf}
+use Rattle.rng_model.specs.names.NameViews.{name_of}
+use Rattle.rng_matching.specs.plain.Taking.{Takes, WeaklyMatches}
+use Rattle.rng_matching.specs.plain.Taking as t
+use Rattle.rng_matching.specs.plain.Derivatives.{Way}
+use Rattle.rng_matching.specs.plain.Ways.{TakesItem}
 use Rattle.rng_matching.proofs.ItemWays.{ways_that_take_the_same}
-use Rattle.rng_ways.specs.Alike.{AreLikeLeaves, IsAlike}
-use Rattle.rng_ways.specs.Kinds.{IsElementNamed, Obeys, reading_of, rest_of_leaf, takes_kind}
-use Rattle.rng_ways.specs.Ways.{AreKept, AreWays}
+use Rattle.rng_ways.specs.plain.Alike.{AreLikeLeaves, IsAlike}
+use Rattle.rng_ways.specs.plain.Kinds.{IsElementNamed, Obeys, rest_of_leaf, takes_kind}
+use Rattle.rng_model.specs.matching.GrammarReading.{reading_of}
+use Rattle.rng_ways.specs.plain.Ways.{AreKept, AreWays}
 use Rattle.rng_ways.specs.declared.way.Kind.{Kind}
 use Rattle.rng_ways.specs.declared.way.Kind.TheVariants as kinds
 use Rattle.rng_ways.specs.declared.way.Place.{Place}

@@ -1,20 +1,20 @@
 -- Patterns of a table, one by one: which are leaves, and what takes something of a kind.
 use Rattle.std.proofs.Common.{◌≡◌, ℕ, List, [], ◌∷◌, map, slice_get, refl, sym, ap, ◌∙◌, subst, arith, false, Option, Some, None}
-use Rattle.rng_model.specs.Tree.{Simple, s_not_allowed, s_empty, s_text, s_leaf, s_attribute, s_list, s_data, s_data_except}
-use Rattle.rng_model.specs.Tree.{s_value, s_one_or_more, s_joined}
-use Rattle.rng_model.specs.Names.{NameClass}
-use Rattle.rng_model.specs.Table.{Table}
+use Rattle.rng_model.specs.simple.Tree.{Simple, s_not_allowed, s_empty, s_text, s_leaf, s_attribute, s_list, s_data, s_data_except}
+use Rattle.rng_model.specs.simple.Tree.{s_value, s_one_or_more, s_joined}
+use Rattle.rng_model.specs.names.Names.{NameClass}
+use Rattle.rng_model.specs.simple.Table.{Table}
 use Rattle.rng_model.specs.declared.simple.Simple as row
 use Rattle.rng_model.specs.declared.simple.Simple.TheVariants as simple
-use Rattle.rng_matching.specs.Reading.{Reading}
-use Rattle.rng_patterns.specs.Node.{Node, node_of}
-use Rattle.rng_patterns.specs.Node as node
-use Rattle.rng_patterns.specs.PatternTable.{ArePartsBelow, IsPatternTable}
-use Rattle.rng_patterns.specs.Trees.{attribute_found, data_found, tree_of, tree_over}
+use Rattle.rng_model.specs.matching.Reading.{Reading}
+use Rattle.rng_patterns.specs.views.Node.{Node, node_of}
+use Rattle.rng_patterns.specs.views.Node as node
+use Rattle.rng_patterns.specs.views.PatternTable.{ArePartsBelow, IsPatternTable}
+use Rattle.rng_patterns.specs.views.Trees.{attribute_found, data_found, tree_of, tree_over}
 use Rattle.rng_patterns.specs.declared.pattern.Pattern.{Pattern}
 use Rattle.rng_patterns.specs.declared.pattern.Pattern.TheVariants as pattern
 use Rattle.rng_patterns.proofs.Trees.{tree_of-over_parts}
-use Rattle.rng_ways.specs.Kinds.{IsAlone, rest_of_leaf, takes_kind}
+use Rattle.rng_ways.specs.plain.Kinds.{IsAlone, rest_of_leaf, takes_kind}
 use Rattle.rng_ways.specs.declared.way.Kind.{Kind}
 use Rattle.rng_ways.specs.declared.way.Kind.TheVariants as kinds
 

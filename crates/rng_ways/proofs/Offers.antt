@@ -1,23 +1,23 @@
 -- What lists of ways offer: put together, in longer tables, with rests joined.
 use Rattle.std.proofs.Common.{◌≡◌, ℕ, ◌↔◌, ◌⊎◌, inl, inr, ⊎_elim, List, [], ◌∷◌, ◌++◌, refl, sym, ap₂, ◌∙◌, subst, arith}
 use Rattle.std.proofs.lemmas.List.Elements.{All-tail}
-use Rattle.rng_model.specs.Lists.{Among, here, there}
-use Rattle.rng_model.specs.Tree.{Simple, choice, s_not_allowed, s_joined}
-use Rattle.rng_model.specs.Document.{Attribute, Item}
-use Rattle.rng_model.specs.Table.{Table}
-use Rattle.rng_matching.specs.Reading.{Reading}
-use Rattle.rng_matching.specs.Taking.{Takes, Same}
-use Rattle.rng_matching.specs.Taking as t
-use Rattle.rng_matching.specs.Derivatives.{Way}
-use Rattle.rng_matching.specs.Ways.{TakesItem, TakesAttribute}
+use Rattle.rng_model.specs.names.Lists.{Among, here, there}
+use Rattle.rng_model.specs.simple.Tree.{Simple, choice, s_not_allowed, s_joined}
+use Rattle.rng_model.specs.matching.Document.{Attribute, Item}
+use Rattle.rng_model.specs.simple.Table.{Table}
+use Rattle.rng_model.specs.matching.Reading.{Reading}
+use Rattle.rng_matching.specs.plain.Taking.{Takes, Same}
+use Rattle.rng_matching.specs.plain.Taking as t
+use Rattle.rng_matching.specs.plain.Derivatives.{Way}
+use Rattle.rng_matching.specs.plain.Ways.{TakesItem, TakesAttribute}
 use Rattle.rng_matching.proofs.FreeForms.{item_among, item_way, attribute_among, attribute_way}
 use Rattle.rng_matching.proofs.ItemWays as items
 use Rattle.rng_matching.proofs.AttributeWays as attributes
-use Rattle.rng_patterns.specs.Node.{Node}
-use Rattle.rng_patterns.specs.PatternTable.{Longer}
-use Rattle.rng_patterns.specs.Trees.{tree_of}
+use Rattle.rng_patterns.specs.views.Node.{Node}
+use Rattle.rng_patterns.specs.views.PatternTable.{Longer}
+use Rattle.rng_patterns.specs.views.Trees.{tree_of}
 use Rattle.rng_patterns.proofs.Trees.{Longer-length, tree_stays}
-use Rattle.rng_ways.specs.Ways.{AreInside, AreWays, IsInside, Offers, ways_by}
+use Rattle.rng_ways.specs.plain.Ways.{AreInside, AreWays, IsInside, Offers, ways_by}
 use Rattle.rng_ways.specs.declared.way.Way as numbered
 use Rattle.rng_ways.specs.declared.way.Kind.{Kind}
 use Rattle.rng_ways.specs.declared.way.Kind.TheVariants as kinds

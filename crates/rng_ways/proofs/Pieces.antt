@@ -2,25 +2,26 @@
 use Rattle.std.proofs.Common.{◌≡◌, ◌∙◌, ℕ, ◌<◌, ◌≤◌, ◌+◌, ◌↔◌, inl, inr, List, [], ◌∷◌, drop, get_or, length, map, slice_index_or, refl, sym, subst}
 use Rattle.std.proofs.Common.{Bool, true, false, ◌&&◌, ◌||◌, Bor}
 use Rattle.std.proofs.lemmas.List.{drop_all, drop_more}
-use Rattle.rng_model.specs.Tree.{Simple}
-use Rattle.rng_model.specs.Document.{Item, a_text, no_texts, text_and}
-use Rattle.rng_model.specs.Table.{Table, tree_at}
-use Rattle.rng_model.specs.Texts.{is_blank}
+use Rattle.rng_model.specs.simple.Tree.{Simple}
+use Rattle.rng_model.specs.matching.Document.{Item, a_text, no_texts, text_and}
+use Rattle.rng_model.specs.simple.Table.{Table, tree_at}
+use Rattle.rng_model.specs.datatypes.Texts.{is_blank}
 use Rattle.rng_model.specs.declared.simple.PatternId.{PatternId}
-use Rattle.rng_matching.specs.Reading.{Reading}
-use Rattle.rng_matching.specs.Taking.{Takes, WeaklyTakes, Same}
-use Rattle.rng_matching.specs.Taking as t
-use Rattle.rng_matching.specs.Restricted.{IsRestricted, MayBeListed}
-use Rattle.rng_matching.specs.Blanks.{IsBare, strings_alone}
+use Rattle.rng_model.specs.matching.Reading.{Reading}
+use Rattle.rng_matching.specs.plain.Taking.{Takes, WeaklyTakes, Same}
+use Rattle.rng_matching.specs.plain.Taking as t
+use Rattle.rng_matching.specs.plain.Restricted.{IsRestricted, MayBeListed}
+use Rattle.rng_matching.specs.plain.Blanks.{IsBare, strings_alone}
 use Rattle.rng_matching.proofs.Texts.{all_texts, no_lists}
 use Rattle.rng_matching.proofs.Tools.{both, either_left, either_right, in_both, in_either}
-use Rattle.rng_patterns.specs.Node.{Node}
-use Rattle.rng_patterns.specs.Taking.{tree_by}
-use Rattle.rng_patterns.specs.Trees.{tree_of}
+use Rattle.rng_patterns.specs.views.Node.{Node}
+use Rattle.rng_patterns.specs.views.Taking.{tree_by}
+use Rattle.rng_patterns.specs.views.Trees.{tree_of}
 use Rattle.rng_patterns.specs.declared.pattern.PatternNumber.{PatternNumber}
-use Rattle.rng_ways.specs.After.{IsLeft}
-use Rattle.rng_ways.specs.Kinds.{Obeys, reading_of}
-use Rattle.rng_ways.specs.Starting.{IsReady}
+use Rattle.rng_ways.specs.plain.After.{IsLeft}
+use Rattle.rng_ways.specs.plain.Kinds.{Obeys}
+use Rattle.rng_model.specs.matching.GrammarReading.{reading_of}
+use Rattle.rng_ways.specs.plain.Starting.{IsReady}
 use Rattle.rng_ways.specs.declared.way.First.TheVariants as firsts
 use Rattle.rng_ways.specs.declared.way.Place.TheVariants as places
 

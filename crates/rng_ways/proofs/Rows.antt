@@ -3,17 +3,17 @@ use Rattle.std.proofs.Common.{◌≡◌, ℕ, ap, ◌∙◌, Bool, false, slice_
 use Rattle.std.specs.Option.{option_map}
 use Rattle.std.specs.Bool.{Decides, one_answer}
 use Rattle.std.proofs.lemmas.Option.{slice_get-map}
-use Rattle.rng_model.specs.Names.{Name, In}
-use Rattle.rng_model.specs.Names as names
-use Rattle.rng_model.specs.Tree.{Simple}
-use Rattle.rng_model.specs.Table.{Table, tree_at}
-use Rattle.rng_model.specs.View.{class_of}
+use Rattle.rng_model.specs.names.Names.{Name, In}
+use Rattle.rng_model.specs.names.Names as names
+use Rattle.rng_model.specs.simple.Tree.{Simple}
+use Rattle.rng_model.specs.simple.Table.{Table, tree_at}
+use Rattle.rng_model.specs.names.NameViews.{class_of}
 use Rattle.rng_model.specs.declared.name.NameClass.{NameClass}
 use Rattle.rng_model.specs.declared.simple.PatternId.{PatternId}
-use Rattle.rng_names.specs.Holding.{holds}
+use Rattle.rng_names.specs.plain.Holding.{holds}
 use Rattle.rng_names.proofs.Holding.{holds-Decides}
-use Rattle.rng_matching.specs.Reading.{body_in, body_of, has_name, named_in}
-use Rattle.rng_ways.specs.Kinds.{reading_of}
+use Rattle.rng_matching.specs.plain.Reading.{body_in, body_of, has_name, named_in}
+use Rattle.rng_model.specs.matching.GrammarReading.{reading_of}
 
 -- a test that decides membership is the one of the class
 pub decides_holds : (b : Bool) (c : names.NameClass) (q : Name) → Decides b (In c q) → b ≡ holds c q

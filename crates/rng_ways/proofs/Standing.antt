@@ -2,13 +2,13 @@
 use Rattle.std.proofs.Common.{◌≡◌, ◌∙◌, ℕ, ◌↔◌, List, [], ◌∷◌, ◌++◌, refl, sym, ap, subst}
 use Rattle.std.proofs.lemmas.List.{map-append}
 use Rattle.std.proofs.lemmas.List.Elements.{All-append}
-use Rattle.rng_model.specs.Tree.{Simple}
-use Rattle.rng_model.specs.Table.{Table}
-use Rattle.rng_matching.specs.Derivatives.{Way, behind}
-use Rattle.rng_patterns.specs.Node.{Node}
-use Rattle.rng_patterns.specs.PatternTable.{Longer}
-use Rattle.rng_patterns.specs.Trees.{tree_of}
-use Rattle.rng_ways.specs.Ways.{AreInside, AreKept, IsInside, Offers, StandFor, way_by, ways_by}
+use Rattle.rng_model.specs.simple.Tree.{Simple}
+use Rattle.rng_model.specs.simple.Table.{Table}
+use Rattle.rng_matching.specs.plain.Derivatives.{Way, behind}
+use Rattle.rng_patterns.specs.views.Node.{Node}
+use Rattle.rng_patterns.specs.views.PatternTable.{Longer}
+use Rattle.rng_patterns.specs.views.Trees.{tree_of}
+use Rattle.rng_ways.specs.plain.Ways.{AreInside, AreKept, IsInside, Offers, StandFor, way_by, ways_by}
 use Rattle.rng_ways.specs.declared.way.Way as numbered
 use Rattle.rng_ways.proofs.Kept.{each_both, each_first, each_second}
 use Rattle.rng_ways.proofs.Offers.{append_offers, inside_longer, ways_stay}

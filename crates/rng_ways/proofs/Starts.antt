@@ -1,43 +1,45 @@
 -- After a start tag: bodies of leaves, in order.
 use Rattle.std.proofs.Common.{◌≡◌, ◌∙◌, ℕ, ◌<◌, ◌+◌, ◌↔◌, ◌⊎◌, inl, inr, ⊎_elim, suc, List, [], ◌∷◌, ◌++◌, length, map, take, get_or, refl, sym, ap, subst}
 use Rattle.std.proofs.Common.{arith, Bool, true, false, cond, Some, None, slice_get}
-use Rattle.rng_model.specs.Names.{Name}
-use Rattle.rng_model.specs.Document.{Attribute, Item}
-use Rattle.rng_model.specs.Tree.{Simple, s_not_allowed, s_empty, s_text, s_leaf, s_attribute, s_list, s_data, s_data_except, s_value, s_one_or_more, s_joined}
+use Rattle.rng_model.specs.names.Names.{Name}
+use Rattle.rng_model.specs.matching.Document.{Attribute, Item}
+use Rattle.rng_model.specs.simple.Tree.{Simple, s_not_allowed, s_empty, s_text, s_leaf, s_attribute, s_list, s_data, s_data_except, s_value, s_one_or_more, s_joined}
 use Rattle.std.proofs.lemmas.Option.{get_or_from_slice_get, slice_get_within}
-use Rattle.rng_model.specs.Table.{IsTable, Table}
+use Rattle.rng_model.specs.simple.Table.{IsTable, Table}
 use Rattle.rng_model.specs.declared.name.NameClass.{NameClass}
 use Rattle.rng_model.specs.declared.simple.PatternId.{PatternId}
 use Rattle.std.proofs.Math.Seq.{take-suc}
 use Rattle.std.proofs.lemmas.List.{append-nil, map-append}
 use Rattle.std.proofs.lemmas.List.Elements.{All-append}
-use Rattle.rng_model.specs.Document.{an_element, list_of}
-use Rattle.rng_model.specs.Table.{tree_at}
-use Rattle.rng_matching.specs.Restricted.{IsRestricted, IsRestrictedBody}
-use Rattle.rng_matching.specs.Ways.{AreItemWays, EachWay, IsItemLeaf}
+use Rattle.rng_model.specs.matching.Document.{an_element, list_of}
+use Rattle.rng_model.specs.simple.Table.{tree_at}
+use Rattle.rng_matching.specs.plain.Restricted.{IsRestricted, IsRestrictedBody}
+use Rattle.rng_matching.specs.plain.Ways.{AreItemWays, EachWay, IsItemLeaf}
 use Rattle.rng_matching.proofs.Starts.{bodies_in, bodies_out}
-use Rattle.rng_patterns.specs.PatternTable.{Longer}
+use Rattle.rng_patterns.specs.views.PatternTable.{Longer}
 use Rattle.rng_patterns.specs.declared.pattern.PatternNumber.{PatternNumber}
 use Rattle.rng_patterns.proofs.Trees.{Longer-length, tree_stays}
-use Rattle.rng_ways.specs.Kinds.{IsElementNamed, Obeys, reading_of}
-use Rattle.rng_ways.specs.Starting.{AreBodies, AreStarts, HasRestrictedBodies, IsBodyOf, IsReady, IsRestrictedBodyNamed}
-use Rattle.rng_ways.specs.Ways.{AreInside, IsInside, way_by, ways_by}
+use Rattle.rng_ways.specs.plain.Kinds.{IsElementNamed, Obeys}
+use Rattle.rng_model.specs.matching.GrammarReading.{reading_of}
+use Rattle.rng_ways.specs.plain.Starting.{AreBodies, AreStarts, HasRestrictedBodies, IsBodyOf, IsReady, IsRestrictedBodyNamed}
+use Rattle.rng_ways.specs.plain.Ways.{AreInside, IsInside, way_by, ways_by}
 use Rattle.rng_ways.specs.declared.way.Way as numbered
 use Rattle.rng_ways.proofs.Adding.{one_inside}
 use Rattle.rng_ways.proofs.Kept.{each_both, each_first, each_second}
-use Rattle.rng_patterns.specs.Node.{Node, node_of}
-use Rattle.rng_patterns.specs.Node as node
-use Rattle.rng_patterns.specs.PatternTable.{ArePartsBelow, IsPatternTable}
-use Rattle.rng_patterns.specs.Trees.{tree_of, tree_over}
+use Rattle.rng_patterns.specs.views.Node.{Node, node_of}
+use Rattle.rng_patterns.specs.views.Node as node
+use Rattle.rng_patterns.specs.views.PatternTable.{ArePartsBelow, IsPatternTable}
+use Rattle.rng_patterns.specs.views.Trees.{tree_of, tree_over}
 use Rattle.rng_patterns.specs.declared.pattern.Pattern.{Pattern}
 use Rattle.rng_patterns.specs.declared.pattern.Pattern.TheVariants as pattern
 use Rattle.rng_ways.proofs.Nodes.{IsAttribute, IsStringLeaf, a_datatype, a_list, a_value, an_attribute, an_except, found_attribute, found_string, is_over}
 use Rattle.rng_ways.proofs.Nodes.{parts_there}
-use Rattle.rng_matching.specs.Reading.{Reading, body_of, has_name}
-use Rattle.rng_matching.specs.Taking.{Takes, Same, WeaklyTakes}
-use Rattle.rng_matching.specs.Taking as t
-use Rattle.rng_matching.specs.Derivatives.{Way, bodies_of, started}
-use Rattle.rng_matching.specs.Ways.{Opens}
+use Rattle.rng_model.specs.matching.Reading.{Reading}
+use Rattle.rng_matching.specs.plain.Reading.{body_of, has_name}
+use Rattle.rng_matching.specs.plain.Taking.{Takes, Same, WeaklyTakes}
+use Rattle.rng_matching.specs.plain.Taking as t
+use Rattle.rng_matching.specs.plain.Derivatives.{Way, bodies_of, started}
+use Rattle.rng_matching.specs.plain.Ways.{Opens}
 
 module _ (g : Reading) (xs : List Attribute) (kids ns : List Item) where
   pub opens_first : (ws vs : List Way) → Opens g xs kids ns ws → Opens g xs kids ns (ws ++ vs)

@@ -1,25 +1,25 @@
 -- The attributes of a tag, one after the other.
 use Rattle.std.proofs.Common.{◌≡◌, ℕ, ◌<◌, ◌≤◌, ◌+◌, ◌↔◌, List, [], ◌∷◌, drop, get_or, length, map, sym, subst, Bor}
 use Rattle.std.proofs.lemmas.List.{drop_all, drop_more}
-use Rattle.rng_model.specs.Tree.{Simple, s_not_allowed, s_empty, s_text, s_leaf, s_attribute, s_list, s_data, s_data_except}
-use Rattle.rng_model.specs.Tree.{s_value, s_one_or_more, s_joined}
-use Rattle.rng_model.specs.Document.{Attribute, Item}
-use Rattle.rng_model.specs.WellFormed.{Distinct, one_more}
-use Rattle.rng_model.specs.Table.{Table}
-use Rattle.rng_model.specs.View.{attribute_of}
+use Rattle.rng_model.specs.simple.Tree.{Simple, s_not_allowed, s_empty, s_text, s_leaf, s_attribute, s_list, s_data, s_data_except}
+use Rattle.rng_model.specs.simple.Tree.{s_value, s_one_or_more, s_joined}
+use Rattle.rng_model.specs.matching.Document.{Attribute, Item}
+use Rattle.rng_model.specs.matching.WellFormed.{Distinct, one_more}
+use Rattle.rng_model.specs.simple.Table.{Table}
+use Rattle.rng_model.specs.documents.DocumentViews.{attribute_of}
 use Rattle.rng_model.specs.declared.document.Attr.{Attr}
-use Rattle.rng_matching.specs.Taking.{Takes}
-use Rattle.rng_matching.specs.Restricted.{HasNoAttribute, IsRestricted, RepeatsWell}
+use Rattle.rng_matching.specs.plain.Taking.{Takes}
+use Rattle.rng_matching.specs.plain.Restricted.{HasNoAttribute, IsRestricted, RepeatsWell}
 use Rattle.rng_matching.proofs.Attributes.{closed_in, closed_out}
 use Rattle.rng_matching.proofs.Hereditary.{none_is_ungrouped}
-use Rattle.rng_patterns.specs.Node.{Node}
-use Rattle.rng_patterns.specs.PatternTable.{Longer}
-use Rattle.rng_patterns.specs.Trees.{tree_of}
+use Rattle.rng_patterns.specs.views.Node.{Node}
+use Rattle.rng_patterns.specs.views.PatternTable.{Longer}
+use Rattle.rng_patterns.specs.views.Trees.{tree_of}
 use Rattle.rng_patterns.specs.declared.pattern.PatternNumber.{PatternNumber}
 use Rattle.rng_patterns.proofs.Trees.{Longer-refl, Longer-trans}
-use Rattle.rng_ways.specs.After.{IsLeft, IsLeftOfTag}
-use Rattle.rng_ways.specs.Closing.{IsBareOfAttributes, IsClosed}
-use Rattle.rng_ways.specs.Kinds.{reading_of}
+use Rattle.rng_ways.specs.plain.After.{IsLeft, IsLeftOfTag}
+use Rattle.rng_ways.specs.plain.Closing.{IsBareOfAttributes, IsClosed}
+use Rattle.rng_model.specs.matching.GrammarReading.{reading_of}
 use Rattle.rng_ways.specs.declared.way.First.TheVariants as firsts
 
 -- what has no attribute repeats none

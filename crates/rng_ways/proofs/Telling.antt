@@ -1,29 +1,29 @@
 -- Whether leaves take a string or an attribute, sort by sort.
 use Rattle.std.proofs.Common.{Bor, ◌≡◌, ◌∙◌, ℕ, ◌↔◌, List, [], ◌∷◌, map, refl, sym, subst, Bool, true, false, not, ◌&&◌, Some}
-use Rattle.rng_model.specs.Tree.{Simple, Datatype, s_not_allowed, s_empty, s_text, s_leaf, s_attribute, s_list, s_data, s_data_except, s_value, s_one_or_more}
-use Rattle.rng_model.specs.Tree.{s_joined}
-use Rattle.rng_model.specs.Names.{NameClass, some_of}
-use Rattle.rng_model.specs.Document.{Item, a_text, no_texts, text_and}
-use Rattle.rng_model.specs.Table.{Table}
-use Rattle.rng_model.specs.View.{attribute_of}
+use Rattle.rng_model.specs.simple.Tree.{Simple, Datatype, s_not_allowed, s_empty, s_text, s_leaf, s_attribute, s_list, s_data, s_data_except, s_value, s_one_or_more}
+use Rattle.rng_model.specs.simple.Tree.{s_joined}
+use Rattle.rng_model.specs.names.Names.{NameClass, some_of}
+use Rattle.rng_model.specs.matching.Document.{Item, a_text, no_texts, text_and}
+use Rattle.rng_model.specs.simple.Table.{Table}
+use Rattle.rng_model.specs.documents.DocumentViews.{attribute_of}
 use Rattle.rng_model.specs.declared.document.Attr.{Attr}
 use Rattle.rng_model.specs.declared.simple.Simple as row
 use Rattle.rng_model.specs.declared.simple.Simple.TheVariants as simple
-use Rattle.rng_names.specs.Holding.{holds}
-use Rattle.rng_matching.specs.Reading.{Reading}
-use Rattle.rng_matching.specs.Taking.{Takes, WeaklyTakes}
-use Rattle.rng_matching.specs.Taking as t
-use Rattle.rng_matching.specs.Restricted.{IsRestricted, MayBeExcepted, MayBeListed}
-use Rattle.rng_matching.specs.Derivatives.{is_excepted}
-use Rattle.rng_matching.specs.Ways.{IsItemLeaf, IsAttributeLeaf}
+use Rattle.rng_names.specs.plain.Holding.{holds}
+use Rattle.rng_model.specs.matching.Reading.{Reading}
+use Rattle.rng_matching.specs.plain.Taking.{Takes, WeaklyTakes}
+use Rattle.rng_matching.specs.plain.Taking as t
+use Rattle.rng_matching.specs.plain.Restricted.{IsRestricted, MayBeExcepted, MayBeListed}
+use Rattle.rng_matching.specs.plain.Derivatives.{is_excepted}
+use Rattle.rng_matching.specs.plain.Ways.{IsItemLeaf, IsAttributeLeaf}
 use Rattle.rng_matching.proofs.Excepts.{excepted_in, excepted_out}
-use Rattle.rng_patterns.specs.Node.{node_of}
-use Rattle.rng_patterns.specs.PatternTable.{ArePartsBelow}
-use Rattle.rng_patterns.specs.Trees.{attribute_found, data_found, no_attribute, no_data, tree_over}
+use Rattle.rng_patterns.specs.views.Node.{node_of}
+use Rattle.rng_patterns.specs.views.PatternTable.{ArePartsBelow}
+use Rattle.rng_patterns.specs.views.Trees.{attribute_found, data_found, no_attribute, no_data, tree_over}
 use Rattle.rng_patterns.specs.declared.pattern.Pattern.{Pattern}
 use Rattle.rng_patterns.specs.declared.pattern.Pattern.TheVariants as pattern
-use Rattle.rng_ways.specs.After.{TellsTaken}
-use Rattle.rng_ways.specs.Kinds.{Obeys}
+use Rattle.rng_ways.specs.plain.After.{TellsTaken}
+use Rattle.rng_ways.specs.plain.Kinds.{Obeys}
 use Rattle.rng_ways.specs.declared.way.First.TheVariants as firsts
 use Rattle.rng_ways.specs.declared.way.Place.{Place}
 use Rattle.rng_ways.specs.declared.way.Place.TheVariants as places

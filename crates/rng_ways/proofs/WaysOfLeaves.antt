@@ -1,23 +1,24 @@
 -- Leaves: which may take something of a kind, and their ways.
 use Rattle.std.proofs.Common.{◌≡◌, ℕ, List, [], ◌∷◌, refl, sym, ◌∙◌, subst, Bool, true, false}
-use Rattle.rng_model.specs.Names.{Name}
-use Rattle.rng_model.specs.Tree.{Simple, s_not_allowed, s_empty, s_text, s_leaf, s_attribute, s_list, s_data, s_data_except}
-use Rattle.rng_model.specs.Tree.{s_value, s_one_or_more, s_joined}
-use Rattle.rng_model.specs.Document.{Attribute, Item, a_text, an_element, AllTexts, no_texts, text_and, Padded}
-use Rattle.rng_model.specs.Document as document
-use Rattle.rng_names.specs.Holding.{holds}
-use Rattle.rng_matching.specs.Reading.{Reading, has_name}
-use Rattle.rng_matching.specs.Taking.{Takes}
-use Rattle.rng_matching.specs.Taking as t
-use Rattle.rng_matching.specs.Blanks.{IsBare, cons, strings_alone, no_blanks}
-use Rattle.rng_matching.specs.Derivatives.{Way, item_ways, attribute_ways}
-use Rattle.rng_matching.specs.Ways.{AreItemWays, AreAttributeWays, IsItemLeaf, IsAttributeLeaf}
+use Rattle.rng_model.specs.names.Names.{Name}
+use Rattle.rng_model.specs.simple.Tree.{Simple, s_not_allowed, s_empty, s_text, s_leaf, s_attribute, s_list, s_data, s_data_except}
+use Rattle.rng_model.specs.simple.Tree.{s_value, s_one_or_more, s_joined}
+use Rattle.rng_model.specs.matching.Document.{Attribute, Item, a_text, an_element, AllTexts, no_texts, text_and, Padded}
+use Rattle.rng_model.specs.matching.Document as document
+use Rattle.rng_names.specs.plain.Holding.{holds}
+use Rattle.rng_model.specs.matching.Reading.{Reading}
+use Rattle.rng_matching.specs.plain.Reading.{has_name}
+use Rattle.rng_matching.specs.plain.Taking.{Takes}
+use Rattle.rng_matching.specs.plain.Taking as t
+use Rattle.rng_matching.specs.plain.Blanks.{IsBare, cons, strings_alone, no_blanks}
+use Rattle.rng_matching.specs.plain.Derivatives.{Way, item_ways, attribute_ways}
+use Rattle.rng_matching.specs.plain.Ways.{AreItemWays, AreAttributeWays, IsItemLeaf, IsAttributeLeaf}
 use Rattle.rng_matching.proofs.ItemWays.{item_ways-are}
 use Rattle.rng_matching.proofs.AttributeWays.{attribute_ways-are}
 use Rattle.rng_matching.proofs.Hereditary.{item_ways-keep, attribute_ways-keep}
-use Rattle.rng_model.specs.View.{name_of}
-use Rattle.rng_ways.specs.Kinds.{IsAlone, IsElementNamed, IsLeafOf, IsNamed, IsText, Obeys, rest_of_leaf, takes_kind}
-use Rattle.rng_ways.specs.Ways.{AreKept, AreWays}
+use Rattle.rng_model.specs.names.NameViews.{name_of}
+use Rattle.rng_ways.specs.plain.Kinds.{IsAlone, IsElementNamed, IsLeafOf, IsNamed, IsText, Obeys, rest_of_leaf, takes_kind}
+use Rattle.rng_ways.specs.plain.Ways.{AreKept, AreWays}
 use Rattle.rng_ways.specs.declared.way.Kind.{Kind}
 use Rattle.rng_ways.specs.declared.way.Kind.TheVariants as kinds
 use Rattle.rng_ways.specs.declared.way.Place.{Place}

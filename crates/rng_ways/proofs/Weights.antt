@@ -1,11 +1,11 @@
 -- The weight of a side is less than that of the whole.
 use Rattle.std.proofs.Common.{ℕ, ◌<◌, ◌≤◌, ◌+◌, ◌*◌, suc, zero, List, [], ◌∷◌, length, get_or, arith, Bool, true, false, cond}
-use Rattle.rng_model.specs.Tree.{Connector, Simple, choice, group, interleave, s_not_allowed, s_empty, s_text, s_leaf, s_attribute, s_list, s_data}
-use Rattle.rng_model.specs.Tree.{s_data_except}
-use Rattle.rng_model.specs.Tree.{s_value, s_one_or_more, s_joined}
-use Rattle.rng_matching.specs.Derivatives.{group_of, is_empty, is_not_allowed}
-use Rattle.rng_patterns.specs.Trees.{choice_from, choice_over}
-use Rattle.rng_ways.specs.Kinds.{weight}
+use Rattle.rng_model.specs.simple.Tree.{Connector, Simple, choice, group, interleave, s_not_allowed, s_empty, s_text, s_leaf, s_attribute, s_list, s_data}
+use Rattle.rng_model.specs.simple.Tree.{s_data_except}
+use Rattle.rng_model.specs.simple.Tree.{s_value, s_one_or_more, s_joined}
+use Rattle.rng_matching.specs.plain.Derivatives.{group_of, is_empty, is_not_allowed}
+use Rattle.rng_patterns.specs.views.Trees.{choice_from, choice_over}
+use Rattle.rng_ways.specs.plain.Kinds.{weight}
 
 pub left_less : (k : Connector) (p q : Simple ℕ) → weight p + 1 ≤ weight (s_joined k p q)
 left_less choice p q = omega arith

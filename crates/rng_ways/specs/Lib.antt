@@ -1,12 +1,2 @@
-pub mod Kinds
-pub mod Alike
-pub mod Takers
-pub mod Ways
-pub mod Datatypes
-pub mod Closing
-pub mod KnownRests
-pub mod KnownWays
-pub mod Starting
-pub mod After
-pub mod FewerWays
-pub mod Excepts
+pub mod plain
+pub mod views

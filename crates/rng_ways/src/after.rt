@@ -1,20 +1,21 @@
 // What is left of a pattern after a string, and after attributes.
 ghost use Rattle.std.specs.Prelude.{◌≡◌, ◌↔◌, ◌<◌, true, [], ◌∷◌, IfOk, OnOk, length, map, slice_get};
-ghost use Rattle.rng_model.specs.Blanks.{pieces};
-ghost use Rattle.rng_model.specs.Document.{a_text};
-ghost use Rattle.rng_model.specs.Table.{tree_at};
-ghost use Rattle.rng_model.specs.View.{attribute_of};
-ghost use Rattle.rng_model.specs.Texts.{is_blank};
-ghost use Rattle.rng_matching.specs.LevelStates.{IsAfterText};
-ghost use Rattle.rng_matching.specs.Restricted.{IsRestricted, MayBeListed};
-ghost use Rattle.rng_matching.specs.Taking.{Takes, WeaklyTakes};
-ghost use Rattle.rng_patterns.specs.PatternTable.{Longer};
-ghost use Rattle.rng_patterns.specs.Trees.{attribute_found, data_found, tree_of};
-ghost use Rattle.rng_ways.specs.After.{AreRests, AreWaysFor, IsLeft, IsLeftOfTag, TellsTaken};
-ghost use Rattle.rng_ways.specs.Kinds.{reading_of, takes_kind};
-ghost use Rattle.rng_ways.specs.Starting.{IsReady};
-ghost use Rattle.rng_ways.specs.KnownWays.{AreAllKnown};
-ghost use Rattle.rng_ways.specs.Ways.{AreInside, AreWaysOf};
+ghost use Rattle.rng_model.specs.datatypes.Blanks.{pieces};
+ghost use Rattle.rng_model.specs.matching.Document.{a_text};
+ghost use Rattle.rng_model.specs.simple.Table.{tree_at};
+ghost use Rattle.rng_model.specs.documents.DocumentViews.{attribute_of};
+ghost use Rattle.rng_model.specs.datatypes.Texts.{is_blank};
+ghost use Rattle.rng_matching.specs.plain.LevelStates.{IsAfterText};
+ghost use Rattle.rng_matching.specs.plain.Restricted.{IsRestricted, MayBeListed};
+ghost use Rattle.rng_matching.specs.plain.Taking.{Takes, WeaklyTakes};
+ghost use Rattle.rng_patterns.specs.views.PatternTable.{Longer};
+ghost use Rattle.rng_patterns.specs.views.Trees.{attribute_found, data_found, tree_of};
+ghost use Rattle.rng_ways.specs.plain.After.{AreRests, AreWaysFor, IsLeft, IsLeftOfTag, TellsTaken};
+ghost use Rattle.rng_model.specs.matching.GrammarReading.{reading_of};
+ghost use Rattle.rng_ways.specs.plain.Kinds.{takes_kind};
+ghost use Rattle.rng_ways.specs.plain.Starting.{IsReady};
+ghost use Rattle.rng_ways.specs.views.KnownWays.{AreAllKnown};
+ghost use Rattle.rng_ways.specs.plain.Ways.{AreInside, AreWaysOf};
 ghost use Rattle.rng_ways.specs.declared.way.Kind.TheVariants as kinds;
 ghost use Rattle.rng_ways.specs.declared.way.First.TheVariants as firsts;
 

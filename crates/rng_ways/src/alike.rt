@@ -1,8 +1,8 @@
 // Elements of a grammar that take the same.
 ghost use Rattle.std.specs.Prelude.{◌≡◌, IfOk, IfSome, Some, slice_get, true};
-ghost use Rattle.rng_model.specs.View.{name_of};
+ghost use Rattle.rng_model.specs.names.NameViews.{name_of};
 ghost use Rattle.rng_model.specs.declared.name.NameClass.TheVariants as classes;
-ghost use Rattle.rng_ways.specs.Alike.{AreAlike, IsAlike};
+ghost use Rattle.rng_ways.specs.plain.Alike.{AreAlike, IsAlike};
 
 use rng_keys::{NameKey, NameKeys};
 use rng_model::{ElementId, Name, NameClass, OutOfMemory, PatternId, SimpleGrammar};

@@ -1,10 +1,10 @@
 // Ways that are known for keys of names.
 ghost use Rattle.std.specs.Prelude.{◌≡◌, ◌<◌, IfOk, OnOk, length};
-ghost use Rattle.rng_patterns.specs.PatternTable.{Longer};
-ghost use Rattle.rng_patterns.specs.Trees.{tree_of};
-ghost use Rattle.rng_ways.specs.KnownWays.{AreKnownFor, KeepsOtherKeys};
-ghost use Rattle.rng_ways.specs.Takers.{AreCandidates};
-ghost use Rattle.rng_ways.specs.Ways.{AreWaysOf};
+ghost use Rattle.rng_patterns.specs.views.PatternTable.{Longer};
+ghost use Rattle.rng_patterns.specs.views.Trees.{tree_of};
+ghost use Rattle.rng_ways.specs.views.KnownWays.{AreKnownFor, KeepsOtherKeys};
+ghost use Rattle.rng_ways.specs.plain.Takers.{AreCandidates};
+ghost use Rattle.rng_ways.specs.plain.Ways.{AreWaysOf};
 
 use crate::known::KnownByKey;
 use crate::way::{Candidates, Kind, Ways};

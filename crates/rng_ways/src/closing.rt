@@ -1,11 +1,11 @@
 // Patterns once all attributes of a tag are taken.
 ghost use Rattle.std.specs.Prelude.{◌≡◌, ◌<◌, IfOk, OnOk, length, true};
-ghost use Rattle.rng_model.specs.Table.{Table};
-ghost use Rattle.rng_patterns.specs.PatternTable.{Longer};
-ghost use Rattle.rng_patterns.specs.Reduced.{has_attribute};
-ghost use Rattle.rng_patterns.specs.Trees.{tree_of};
-ghost use Rattle.rng_ways.specs.Closing.{IsChoice, IsClosed};
-ghost use Rattle.rng_ways.specs.KnownRests.{AreRestsOf};
+ghost use Rattle.rng_model.specs.simple.Table.{Table};
+ghost use Rattle.rng_patterns.specs.views.PatternTable.{Longer};
+ghost use Rattle.rng_patterns.specs.plain.Reduced.{has_attribute};
+ghost use Rattle.rng_patterns.specs.views.Trees.{tree_of};
+ghost use Rattle.rng_ways.specs.plain.Closing.{IsChoice, IsClosed};
+ghost use Rattle.rng_ways.specs.views.KnownRests.{AreRestsOf};
 
 use crate::rests::{KnownRests, keep_rest, known_rest};
 use crate::ways::copied;

@@ -1,8 +1,8 @@
 // The datatypes that a grammar names.
 ghost use Rattle.std.specs.Prelude.{◌≡◌, ℕ, IfOk, OnOk, None, option_map};
-ghost use Rattle.rng_model.specs.DatatypeTests.{known_allows, known_equates, type_of};
-ghost use Rattle.rng_types.specs.View.{built_in_type_of, datatype_at};
-ghost use Rattle.rng_ways.specs.Datatypes.{AreDatatypesOf, type_at, type_named_by};
+ghost use Rattle.rng_model.specs.datatypes.DatatypeTests.{known_allows, known_equates, type_of};
+ghost use Rattle.rng_types.specs.views.View.{built_in_type_of, datatype_at};
+ghost use Rattle.rng_ways.specs.views.Datatypes.{AreDatatypesOf, type_at, type_named_by};
 
 use rng_model::{OutOfMemory, PatternId, Simple, SimpleGrammar};
 use rng_types::{Builtin, Datatype as _};

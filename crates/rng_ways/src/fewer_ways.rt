@@ -1,7 +1,7 @@
 // Ways that others stand in for.
 ghost use Rattle.std.specs.Prelude.{◌≡◌, ◌<◌, All, IfOk, length, true};
-ghost use Rattle.rng_ways.specs.FewerWays.{AreRepeated, AreUncovered, HasOptionalRest};
-ghost use Rattle.rng_ways.specs.Ways.{AreInside, IsInside};
+ghost use Rattle.rng_ways.specs.plain.FewerWays.{AreRepeated, AreUncovered, HasOptionalRest};
+ghost use Rattle.rng_ways.specs.plain.Ways.{AreInside, IsInside};
 
 use crate::way::{Way, Ways};
 use rng_model::OutOfMemory;

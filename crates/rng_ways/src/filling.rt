@@ -1,12 +1,12 @@
 // Ways of a whole, of those of its sides.
 ghost use Rattle.std.specs.Prelude.{◌≡◌, ◌<◌, ◌++◌, ◌∷◌, [], All, Some, IfOk, OnOk, IfSome, IfNone, length, slice_get};
-ghost use Rattle.rng_model.specs.Table.{Table};
-ghost use Rattle.rng_matching.specs.Derivatives.{behind, joined_of};
-ghost use Rattle.rng_patterns.specs.PatternTable.{Adds, Longer};
-ghost use Rattle.rng_patterns.specs.Trees.{tree_of};
+ghost use Rattle.rng_model.specs.simple.Table.{Table};
+ghost use Rattle.rng_matching.specs.plain.Derivatives.{behind, joined_of};
+ghost use Rattle.rng_patterns.specs.views.PatternTable.{Adds, Longer};
+ghost use Rattle.rng_patterns.specs.views.Trees.{tree_of};
 ghost use Rattle.rng_ways.specs.declared.way.Way.{Way};
-ghost use Rattle.rng_ways.specs.Kinds.{connector_of};
-ghost use Rattle.rng_ways.specs.Ways.{AreInside, AreRestsBehind, IsInside, IsHoleInside, IsTakenOut, StandFor, filled, ways_by};
+ghost use Rattle.rng_ways.specs.plain.Kinds.{connector_of};
+ghost use Rattle.rng_ways.specs.plain.Ways.{AreInside, AreRestsBehind, IsInside, IsHoleInside, IsTakenOut, StandFor, filled, ways_by};
 
 use crate::way::{Hole, Joint, Rests, Way, Ways};
 use rng_model::OutOfMemory;

@@ -1,10 +1,10 @@
 // Ways that are known of patterns.
 ghost use Rattle.std.specs.Prelude.{◌≡◌, ◌⊎◌, IfOk, IfSome, List, OnOk};
-ghost use Rattle.rng_keys.specs.Keys.{Keys, KeysServe};
-ghost use Rattle.rng_model.specs.Table.{Table};
-ghost use Rattle.rng_patterns.specs.Node.{Node};
+ghost use Rattle.rng_keys.specs.plain.Keys.{Keys, KeysServe};
+ghost use Rattle.rng_model.specs.simple.Table.{Table};
+ghost use Rattle.rng_patterns.specs.views.Node.{Node};
 ghost use Rattle.rng_patterns.specs.declared.pattern.PatternNumber.{PatternNumber};
-ghost use Rattle.rng_ways.specs.KnownWays.{AreAllKnown, HasKnown};
+ghost use Rattle.rng_ways.specs.views.KnownWays.{AreAllKnown, HasKnown};
 ghost use Rattle.rng_ways.specs.declared.way.Way.{Way};
 
 use crate::alike::alike_elements;

@@ -1,14 +1,15 @@
 // The ways of leaves.
 ghost use Rattle.std.specs.Prelude.{◌≡◌, ◌<◌, IfOk, IfSome, OnOk, length, slice_get, if◌then◌else◌};
-ghost use Rattle.rng_model.specs.Table.{Table};
-ghost use Rattle.rng_model.specs.Tree.{group, s_joined, s_leaf, s_text};
-ghost use Rattle.rng_matching.specs.Reading.{Reading};
-ghost use Rattle.rng_patterns.specs.PatternTable.{Adds, Longer};
-ghost use Rattle.rng_patterns.specs.Trees.{attribute_found, tree_of};
-ghost use Rattle.rng_ways.specs.Kinds.{IsAlone, reading_of, rest_of_leaf, takes_kind};
-ghost use Rattle.rng_ways.specs.Alike.{IsLikeLeaf};
-ghost use Rattle.rng_ways.specs.Takers.{AreCandidates};
-ghost use Rattle.rng_ways.specs.Ways.{AreWaysOf};
+ghost use Rattle.rng_model.specs.simple.Table.{Table};
+ghost use Rattle.rng_model.specs.simple.Tree.{group, s_joined, s_leaf, s_text};
+ghost use Rattle.rng_model.specs.matching.Reading.{Reading};
+ghost use Rattle.rng_patterns.specs.views.PatternTable.{Adds, Longer};
+ghost use Rattle.rng_patterns.specs.views.Trees.{attribute_found, tree_of};
+ghost use Rattle.rng_ways.specs.plain.Kinds.{IsAlone, rest_of_leaf, takes_kind};
+ghost use Rattle.rng_model.specs.matching.GrammarReading.{reading_of};
+ghost use Rattle.rng_ways.specs.plain.Alike.{IsLikeLeaf};
+ghost use Rattle.rng_ways.specs.plain.Takers.{AreCandidates};
+ghost use Rattle.rng_ways.specs.plain.Ways.{AreWaysOf};
 ghost use Rattle.rng_ways.specs.declared.way.Kind as kinds;
 
 use crate::way::{Candidates, Kind, Way, Ways};

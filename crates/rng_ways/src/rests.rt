@@ -1,7 +1,7 @@
 // What is left of patterns once a tag is closed, kept.
 ghost use Rattle.std.specs.Prelude.{◌≡◌, ◌⊎◌, IfSome, OnOk};
 ghost use Rattle.rng_patterns.specs.declared.pattern.PatternNumber.{PatternNumber};
-ghost use Rattle.rng_ways.specs.KnownRests.{HasRest};
+ghost use Rattle.rng_ways.specs.views.KnownRests.{HasRest};
 
 use rng_model::OutOfMemory;
 use rng_patterns::PatternNumber;

@@ -1,10 +1,10 @@
 // Where the attributes of patterns stand in a grammar.
 ghost use Rattle.std.specs.Prelude.{◌≡◌, ◌<◌, All, List, OnOk, length, map};
-ghost use Rattle.rng_model.specs.Table.{Table};
-ghost use Rattle.rng_model.specs.Tree.{Connector, s_joined};
-ghost use Rattle.rng_patterns.specs.Node.{Node};
-ghost use Rattle.rng_patterns.specs.Trees.{choice_over, tree_of};
-ghost use Rattle.rng_ways.specs.Takers.{AreSpansOf, IsSpanOf};
+ghost use Rattle.rng_model.specs.simple.Table.{Table};
+ghost use Rattle.rng_model.specs.simple.Tree.{Connector, s_joined};
+ghost use Rattle.rng_patterns.specs.views.Node.{Node};
+ghost use Rattle.rng_patterns.specs.views.Trees.{choice_over, tree_of};
+ghost use Rattle.rng_ways.specs.plain.Takers.{AreSpansOf, IsSpanOf};
 
 use rng_model::OutOfMemory;
 use rng_patterns::{Pattern, PatternNumber, PatternTable, Span};

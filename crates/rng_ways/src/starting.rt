@@ -1,15 +1,15 @@
 // Patterns after a start tag.
 ghost use Rattle.std.specs.Prelude.{◌≡◌, [], ◌<◌, IfOk, OnOk, length, slice_index_or};
-ghost use Rattle.rng_keys.specs.Keys.{name_at};
-ghost use Rattle.rng_model.specs.View.{name_of};
-ghost use Rattle.rng_patterns.specs.PatternTable.{Longer};
-ghost use Rattle.rng_patterns.specs.Trees.{tree_of};
-ghost use Rattle.rng_ways.specs.Alike.{AreAlike};
-ghost use Rattle.rng_ways.specs.KnownWays.{AreAllKnown, AreKnownByKey, IsElementKind};
+ghost use Rattle.rng_keys.specs.plain.Keys.{name_at};
+ghost use Rattle.rng_model.specs.names.NameViews.{name_of};
+ghost use Rattle.rng_patterns.specs.views.PatternTable.{Longer};
+ghost use Rattle.rng_patterns.specs.views.Trees.{tree_of};
+ghost use Rattle.rng_ways.specs.plain.Alike.{AreAlike};
+ghost use Rattle.rng_ways.specs.views.KnownWays.{AreAllKnown, AreKnownByKey, IsElementKind};
 ghost use Rattle.rng_ways.specs.declared.way.Kind.{Kind};
-ghost use Rattle.rng_ways.specs.Ways.{AreInside, AreWaysOf};
-ghost use Rattle.rng_ways.specs.Starting.{AreBodies, AreStarts, IsBodyOf, IsReady};
-ghost use Rattle.rng_ways.specs.Takers.{AreOfKey};
+ghost use Rattle.rng_ways.specs.plain.Ways.{AreInside, AreWaysOf};
+ghost use Rattle.rng_ways.specs.plain.Starting.{AreBodies, AreStarts, IsBodyOf, IsReady};
+ghost use Rattle.rng_ways.specs.plain.Takers.{AreOfKey};
 
 use crate::by_key::ways_by_key;
 use crate::known::{Known, KnownByKey};

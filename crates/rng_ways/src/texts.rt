@@ -1,10 +1,10 @@
 // Which texts excepts have.
 ghost use Rattle.std.specs.Prelude.{◌≡◌, ◌<◌, IfOk, OnOk, length};
-ghost use Rattle.rng_model.specs.Table.{tree_at};
-ghost use Rattle.rng_matching.specs.Derivatives.{is_excepted};
-ghost use Rattle.rng_ways.specs.Datatypes.{AreDatatypesOf};
-ghost use Rattle.rng_ways.specs.Excepts.{AreWithout, IsChoiceAt};
-ghost use Rattle.rng_ways.specs.Kinds.{reading_of};
+ghost use Rattle.rng_model.specs.simple.Table.{tree_at};
+ghost use Rattle.rng_matching.specs.plain.Derivatives.{is_excepted};
+ghost use Rattle.rng_ways.specs.views.Datatypes.{AreDatatypesOf};
+ghost use Rattle.rng_ways.specs.plain.Excepts.{AreWithout, IsChoiceAt};
+ghost use Rattle.rng_model.specs.matching.GrammarReading.{reading_of};
 
 use crate::datatypes::Datatypes;
 use rng_model::{OutOfMemory, PatternId, Simple, SimpleGrammar};

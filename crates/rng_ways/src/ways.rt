@@ -1,13 +1,13 @@
 // The ways of a pattern: the leaves by which it may begin, each with what is left then.
 ghost use Rattle.std.specs.Prelude.{◌≡◌, ◌<◌, ◌≤◌, [], All, IfOk, OnOk, length, map, true};
-ghost use Rattle.rng_model.specs.Table.{Table};
-ghost use Rattle.rng_model.specs.Tree.{group, s_joined, s_one_or_more};
-ghost use Rattle.rng_patterns.specs.PatternTable.{Longer};
-ghost use Rattle.rng_patterns.specs.Trees.{choice_over, tree_of};
-ghost use Rattle.rng_ways.specs.Kinds.{HasNoOrder, IsOfItems, connector_of};
-ghost use Rattle.rng_ways.specs.KnownWays.{AreKnown};
-ghost use Rattle.rng_ways.specs.Takers.{AreCandidates};
-ghost use Rattle.rng_ways.specs.Ways.{AreWaysOf, IsHoleInside, filled};
+ghost use Rattle.rng_model.specs.simple.Table.{Table};
+ghost use Rattle.rng_model.specs.simple.Tree.{group, s_joined, s_one_or_more};
+ghost use Rattle.rng_patterns.specs.views.PatternTable.{Longer};
+ghost use Rattle.rng_patterns.specs.views.Trees.{choice_over, tree_of};
+ghost use Rattle.rng_ways.specs.plain.Kinds.{HasNoOrder, IsOfItems, connector_of};
+ghost use Rattle.rng_ways.specs.views.KnownWays.{AreKnown};
+ghost use Rattle.rng_ways.specs.plain.Takers.{AreCandidates};
+ghost use Rattle.rng_ways.specs.plain.Ways.{AreWaysOf, IsHoleInside, filled};
 ghost use Rattle.rng_ways.specs.declared.way.Kind as kinds;
 
 use crate::fewer_ways::{repeated_ways, uncovered};

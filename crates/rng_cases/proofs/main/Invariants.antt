@@ -1,5 +1,5 @@
 use Rattle.std.specs.Prelude.{All, IfSome}
-use Rattle.rng_model.specs.Table.{IsOfFirstKind}
+use Rattle.rng_model.specs.simple.Table.{IsOfFirstKind}
 use Rattle.rng_cases.proofs.main.Given as goal
 
 abbrev pub invariant-rows : goal.invariant-rows

@@ -1,6 +1,6 @@
 use Rattle.std.proofs.Common.{All}
-use Rattle.rng_matching.specs.Laws.{BreaksNone}
-use Rattle.rng_model.specs.Table.{grammar_of}
+use Rattle.rng_model.specs.restrictions.BreaksNone.{BreaksNone}
+use Rattle.rng_model.specs.simple.Table.{grammar_of}
 use Rattle.rng_matcher_cases.proofs.grammars_of.Given as goal
 
 abbrev pub invariant-schemas : goal.invariant-schemas

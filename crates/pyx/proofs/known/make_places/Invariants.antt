@@ -1,6 +1,6 @@
 use Rattle.std.proofs.Common.{ℕ, ◌-◌, length}
-use Rattle.pyx.specs.TagReader.{Declared}
-use Rattle.pyx.specs.ElementView.{AreKnown}
+use Rattle.pyx.specs.plain.TagReader.{Declared}
+use Rattle.pyx.specs.views.ElementView.{AreKnown}
 use Rattle.pyx.proofs.known.make_places.Given as goal
 
 abbrev pub invariant-places : goal.invariant-places

@@ -1,10 +1,10 @@
 use Rattle.std.proofs.Common.{◌≡◌, ◌≤◌, ◌∙◌, arith, refl, sym, ap, length}
 use Rattle.std.specs.List.{list_all}
 use Rattle.std.specs.Str.{chars}
-use Rattle.rng_model.specs.Characters.{is_xml_char}
-use Rattle.pyx.specs.LineReader.{said_of, kind_of}
-use Rattle.pyx.specs.Pieces.{ended_line}
-use Rattle.pyx.specs.View.{line_of}
+use Rattle.rng_model.specs.names.Characters.{is_xml_char}
+use Rattle.pyx.specs.plain.LineReader.{said_of, kind_of}
+use Rattle.pyx.specs.plain.Pieces.{ended_line}
+use Rattle.pyx.specs.views.View.{line_of}
 use Rattle.pyx.proofs.LineClauses.{said_ended}
 use Rattle.pyx.proofs.PlainTexts.{good_text, odd_text}
 use Rattle.pyx.proofs.TextCuts.{read_when_utf8, read_when_not}

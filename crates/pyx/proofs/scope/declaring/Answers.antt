@@ -1,7 +1,7 @@
 use Rattle.std.proofs.Common.{◌≡◌, arith, ap, sym, ◌∙◌, length}
 use Rattle.std.proofs.lemmas.Bool.{eqb-true}
 use Rattle.std.proofs.lemmas.List.{length-map}
-use Rattle.pyx.specs.ElementView.{written_attribute}
+use Rattle.pyx.specs.views.ElementView.{written_attribute}
 use Rattle.pyx.proofs.OpenStack.{passed_over}
 use Rattle.pyx.proofs.scope.declaring.Goals as goal
 

@@ -1,6 +1,6 @@
 use Rattle.std.proofs.Common.{◌≡◌, ◌≤◌, ℕ, List, Option, length}
-use Rattle.pyx.specs.TagReader.{namespace_of}
-use Rattle.pyx.specs.ElementView.{scope_of}
+use Rattle.pyx.specs.plain.TagReader.{namespace_of}
+use Rattle.pyx.specs.views.ElementView.{scope_of}
 use Rattle.pyx.proofs.scope.declaring.Given as goal
 
 abbrev pub invariant-elements : goal.invariant-elements

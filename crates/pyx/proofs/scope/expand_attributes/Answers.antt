@@ -1,7 +1,7 @@
 use Rattle.std.proofs.Common.{◌≡◌, ◌∙◌, [], sym, refl}
 use Rattle.std.proofs.lemmas.Bool.{eqb-true}
 use Rattle.std.proofs.lemmas.List.{nil_from_length}
-use Rattle.pyx.specs.TagReader.{expanded}
+use Rattle.pyx.specs.plain.TagReader.{expanded}
 use Rattle.pyx.proofs.scope.expand_attributes.Goals as goal
 
 pub returns-then-is_empty : goal.returns-then-is_empty

@@ -2,9 +2,10 @@ use Rattle.std.proofs.Common.{◌≡◌, ◌∙◌, [], ◌∷◌, ◌++◌, map
 use Rattle.std.proofs.lemmas.List.{map_push, map-append}
 use Rattle.std.proofs.lemmas.Result.{err_from_is_err_and}
 use Rattle.std.specs.Vec.Iter.{into_iter_items}
-use Rattle.rng_model.specs.View.{attribute_of, name_of}
-use Rattle.pyx.specs.TagReader.{attribute_name, expanded}
-use Rattle.pyx.specs.ElementView.{scope_of, written_attribute}
+use Rattle.rng_model.specs.documents.DocumentViews.{attribute_of}
+use Rattle.rng_model.specs.names.NameViews.{name_of}
+use Rattle.pyx.specs.plain.TagReader.{attribute_name, expanded}
+use Rattle.pyx.specs.views.ElementView.{scope_of, written_attribute}
 use Rattle.pyx.proofs.ExpandedAttributes.{one_more, is_stuck, resolved_some, refuses_all}
 use Rattle.pyx.proofs.scope.fill.Goals as goal
 

@@ -1,8 +1,8 @@
 use Rattle.std.proofs.Common.{◌≡◌, ◌++◌, Some, map}
 use Rattle.std.specs.Vec.Iter.{into_iter_items}
-use Rattle.rng_model.specs.View.{attribute_of}
-use Rattle.pyx.specs.TagReader.{expanded}
-use Rattle.pyx.specs.ElementView.{scope_of, written_attribute}
+use Rattle.rng_model.specs.documents.DocumentViews.{attribute_of}
+use Rattle.pyx.specs.plain.TagReader.{expanded}
+use Rattle.pyx.specs.views.ElementView.{scope_of, written_attribute}
 use Rattle.pyx.proofs.scope.fill.Given as goal
 
 abbrev pub invariant-others : goal.invariant-others

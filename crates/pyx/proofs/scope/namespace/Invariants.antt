@@ -1,7 +1,7 @@
 use Rattle.std.proofs.Common.{◌≡◌, length}
 use Rattle.std.specs.Option.{option_map}
-use Rattle.pyx.specs.TagReader.{namespace_of}
-use Rattle.pyx.specs.ElementView.{scope_of}
+use Rattle.pyx.specs.plain.TagReader.{namespace_of}
+use Rattle.pyx.specs.views.ElementView.{scope_of}
 use Rattle.pyx.proofs.scope.namespace.Given as goal
 
 abbrev pub invariant-elements : goal.invariant-elements

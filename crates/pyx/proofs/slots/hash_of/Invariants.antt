@@ -1,5 +1,5 @@
 use Rattle.std.proofs.Common.{◌≡◌, take, fold}
-use Rattle.pyx.specs.Slots.{hashed}
+use Rattle.pyx.specs.plain.Slots.{hashed}
 use Rattle.pyx.proofs.slots.hash_of.Given as goal
 
 abbrev pub invariant-bytes : goal.invariant-bytes

@@ -1,7 +1,7 @@
 use Rattle.std.proofs.Common.{◌≡◌, ◌++◌, map, drop}
-use Rattle.rnc_grammar.specs.FileTree.{components_of, patterns_of}
-use Rattle.rnc_grammar.specs.Mentions.{mentions_of_components, mentions_of_patterns}
-use Rattle.rnc_grammar.specs.View.{component_of, mentioned_file_of, pattern_of}
+use Rattle.rnc_model.specs.declarations.FileTree.{components_of, patterns_of}
+use Rattle.rnc_model.specs.loading.Mentions.{mentions_of_components, mentions_of_patterns}
+use Rattle.rnc_grammar.specs.views.View.{component_of, mentioned_file_of, pattern_of}
 use Rattle.rnc_grammar.proofs.mentions.+mentions.Given as goal
 
 abbrev pub invariant-push_from_components-loop-component : goal.invariant-push_from_components-loop-component

@@ -1,7 +1,7 @@
 use Rattle.std.proofs.Common.{◌≡◌, map, drop}
-use Rattle.rnc_grammar.specs.Declarations as declarations
-use Rattle.rnc_grammar.specs.Resolved.{scope_view}
-use Rattle.rnc_syntax.specs.SyntaxView as syntax
+use Rattle.rnc_model.specs.declarations.Declarations as declarations
+use Rattle.rnc_grammar.specs.views.Resolved.{scope_view}
+use Rattle.rnc_syntax.specs.views.SyntaxView as syntax
 use Rattle.rnc_grammar.proofs.resolving.scope_of.Given as goal
 
 abbrev pub invariant-loop-declaration : goal.invariant-loop-declaration

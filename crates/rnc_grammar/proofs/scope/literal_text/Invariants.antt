@@ -1,6 +1,6 @@
 use Rattle.std.proofs.Common.{◌≡◌, ◌++◌, map, drop, string_bytes}
-use Rattle.rnc_syntax.specs.Syntax.{joined_text}
-use Rattle.rnc_syntax.specs.SyntaxView as syntax
+use Rattle.rnc_model.specs.grammar.Syntax.{joined_text}
+use Rattle.rnc_syntax.specs.views.SyntaxView as syntax
 use Rattle.rnc_grammar.proofs.scope.literal_text.Given as goal
 
 abbrev pub invariant-loop-segment : goal.invariant-loop-segment

@@ -1,5 +1,5 @@
 use Rattle.std.proofs.Common.{arith, subst, sym}
-use Rattle.rnc_syntax.specs.Sentence.{nesting_limit, BreaksNesting, NestsWithin}
+use Rattle.rnc_model.specs.grammar.Sentence.{nesting_limit, BreaksNesting, NestsWithin}
 use Rattle.rnc_syntax.proofs.Lexemes.{all_lexemes}
 use Rattle.rnc_syntax.proofs.NestingSteps.{began, broken, keeps_back, breaks_back, exceeds_now, stays_few}
 use Rattle.rnc_syntax.proofs.nesting.nests_within_limit.Goals as goal

@@ -1,8 +1,8 @@
 use Rattle.std.proofs.Common.{◌+◌, ◌≤◌, drop, length}
-use Rattle.rnc_text.specs.Cut.{tokens_of}
-use Rattle.rnc_syntax.specs.Lexeme.{lexemes}
-use Rattle.rnc_syntax.specs.Reading.{lexemes_in}
-use Rattle.rnc_syntax.specs.Sentence.{nesting_limit, BreaksNesting, NestsWithin}
+use Rattle.rnc_model.specs.tokens.Cut.{tokens_of}
+use Rattle.rnc_model.specs.tokens.Lexeme.{lexemes}
+use Rattle.rnc_syntax.specs.plain.Reading.{lexemes_in}
+use Rattle.rnc_model.specs.grammar.Sentence.{nesting_limit, BreaksNesting, NestsWithin}
 use Rattle.rnc_syntax.proofs.NestingSteps.{Exceeds, Within}
 use Rattle.rnc_syntax.proofs.nesting.nests_within_limit.Given as goal
 

@@ -1,7 +1,7 @@
 use Rattle.std.proofs.Common.{ap, ◌∙◌}
-use Rattle.rnc_syntax.specs.Productions.{file_with, inside_at}
-use Rattle.rnc_syntax.specs.Sentence.{nesting_limit}
-use Rattle.rnc_syntax.specs.Fault.{told}
+use Rattle.rnc_syntax.specs.plain.Productions.{file_with, inside_at}
+use Rattle.rnc_model.specs.grammar.Sentence.{nesting_limit}
+use Rattle.rnc_syntax.specs.views.Fault.{told}
 use Rattle.rnc_syntax.proofs.Lexemes.{all_lexemes}
 use Rattle.rnc_syntax.proofs.SyntaxTrees.{stop_told}
 use Rattle.rnc_syntax.proofs.sentence.read.Goals as goal

@@ -1,9 +1,10 @@
 use Rattle.std.proofs.Common.{subst}
-use Rattle.rnc_text.specs.Cut.{tokens_of}
-use Rattle.rnc_syntax.specs.Fault.{Gives, unless_memory}
-use Rattle.rnc_syntax.specs.Lexeme.{lexemes}
-use Rattle.rnc_syntax.specs.Sentence.{nesting_limit}
-use Rattle.rnc_syntax.specs.SyntaxView.{file_of}
+use Rattle.rnc_model.specs.tokens.Cut.{tokens_of}
+use Rattle.rng_model.specs.plain.Answers.{Gives}
+use Rattle.rnc_syntax.specs.views.Fault.{unless_memory}
+use Rattle.rnc_model.specs.tokens.Lexeme.{lexemes}
+use Rattle.rnc_model.specs.grammar.Sentence.{nesting_limit}
+use Rattle.rnc_syntax.specs.views.SyntaxView.{file_of}
 use Rattle.rnc_syntax.proofs.FaultNumberFiles.{stuck}
 use Rattle.rnc_syntax.proofs.SyntaxTrees.{is_fault, is_tree, fault_given, only_grammar, only_tree, tree_given}
 use Rattle.rnc_syntax.proofs.sentence.read_syntax.Goals as goal

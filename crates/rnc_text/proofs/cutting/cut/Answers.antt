@@ -1,8 +1,8 @@
 use Rattle.std.proofs.Common.{◌≡◌, ◌∙◌, Some, sym, ap, refl}
 use Rattle.std.proofs.lemmas.Bool.{eqb-true}
 use Rattle.std.proofs.lemmas.List.{map-append}
-use Rattle.rnc_text.specs.Cut.{token_of, tokens_of}
-use Rattle.rnc_text.specs.Cursors.{told}
+use Rattle.rnc_model.specs.tokens.Cut.{token_of, tokens_of}
+use Rattle.rnc_text.specs.plain.Cursors.{told}
 use Rattle.rnc_text.proofs.Decoded.{not_empty}
 use Rattle.rnc_text.proofs.Cuts.{cut_none, cut_gap, cut_token, cut_done, cut_stops, shorter_rest}
 use Rattle.rnc_text.proofs.cutting.cut.Goals as goal

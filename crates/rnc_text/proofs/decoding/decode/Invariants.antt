@@ -2,7 +2,7 @@ use Rattle.std.proofs.Common.{◌≤◌, length}
 use denote.Text.{Utf8}
 use denote.Shadow.{shadow}
 use Rattle.std.specs.Str.{chars}
-use Rattle.rnc_text.specs.Decoding.{Decodes}
+use Rattle.rnc_model.specs.characters.Decoding.{Decodes}
 use Rattle.rnc_text.proofs.decoding.decode.Given as goal
 
 abbrev pub invariant-rest : goal.invariant-rest

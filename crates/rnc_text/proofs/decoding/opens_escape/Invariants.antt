@@ -2,7 +2,7 @@ use Rattle.std.proofs.Common.{◌≡◌, length, false}
 use denote.Text.{Utf8}
 use denote.Shadow.{shadow}
 use Rattle.std.specs.Str.{chars}
-use Rattle.rnc_text.specs.DecodingSteps.{opens_from}
+use Rattle.rnc_text.specs.plain.DecodingSteps.{opens_from}
 use Rattle.rnc_text.proofs.decoding.opens_escape.Given as goal
 
 abbrev pub invariant-letters : goal.invariant-letters

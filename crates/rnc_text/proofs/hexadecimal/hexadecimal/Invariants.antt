@@ -2,7 +2,7 @@ use Rattle.std.proofs.Common.{◌≡◌, ◌-◌, ◌<◌, ◌≤◌}
 use denote.Text.{Utf8}
 use denote.Shadow.{shadow}
 use Rattle.std.specs.Str.{chars}
-use Rattle.rnc_text.specs.DecodingSteps.{hexadecimal_end}
+use Rattle.rnc_text.specs.plain.DecodingSteps.{hexadecimal_end}
 use Rattle.rnc_text.proofs.HexadecimalSteps.{most}
 use Rattle.rnc_text.proofs.hexadecimal.hexadecimal.Given as goal
 

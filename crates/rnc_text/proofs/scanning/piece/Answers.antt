@@ -1,9 +1,9 @@
 use Rattle.std.proofs.Common.{◌≡◌, ℕ, List, [], ◌∷◌, Some, false, refl, sym, ap, subst, ◌∙◌, inl, inr}
-use Rattle.rnc_text.specs.Tokens.{gap}
-use Rattle.rnc_text.specs.CutSteps.{front, starts_ncname, triple_at}
-use Rattle.rnc_text.specs.Cursors.{remaining, IsPast}
-use Rattle.rnc_text.specs.declared.character.Character.TheVariants.{LineEnd, Ordinary}
-use Rattle.rnc_text.specs.declared.character.Character.{Character}
+use Rattle.rnc_model.specs.tokens.Tokens.{gap}
+use Rattle.rnc_text.specs.plain.CutSteps.{front, starts_ncname, triple_at}
+use Rattle.rnc_text.specs.plain.Cursors.{remaining, IsPast}
+use Rattle.rnc_model.specs.declared.character.Character.TheVariants.{LineEnd, Ordinary}
+use Rattle.rnc_model.specs.declared.character.Character.{Character}
 use Rattle.rnc_text.specs.declared.scanning.Class.TheVariants as classes
 use Rattle.rnc_text.proofs.Cursors.{past_then}
 use Rattle.rnc_text.proofs.Scans.{piece_none, piece_line, piece_name, piece_blank, piece_hash, piece_backslash, piece_quote, piece_sign, IsOther, or_left}

@@ -1,10 +1,10 @@
 use Rattle.std.proofs.Common.{[], ◌∷◌, ◌++◌, sym, ap, ◌∙◌}
-use Rattle.rnc_text.specs.Tokens.{word_kind}
-use Rattle.rnc_text.specs.CutSteps.{front, star_at}
-use Rattle.rnc_text.specs.Cursors.{remaining}
-use Rattle.rnc_text.specs.declared.character.Character.TheVariants.{Ordinary}
+use Rattle.rnc_model.specs.tokens.Tokens.{word_kind}
+use Rattle.rnc_text.specs.plain.CutSteps.{front, star_at}
+use Rattle.rnc_text.specs.plain.Cursors.{remaining}
+use Rattle.rnc_model.specs.declared.character.Character.TheVariants.{Ordinary}
 use Rattle.rnc_text.specs.declared.scanning.Class.TheVariants as classes
-use Rattle.rnc_text.specs.declared.token.TokenKind.TheVariants as kinds
+use Rattle.rnc_model.specs.declared.token.TokenKind.TheVariants as kinds
 use Rattle.rnc_text.proofs.Scans.{colon_past, local_found, local_none, finds_token, finds_at, token_told}
 use Rattle.rnc_text.proofs.scanning.qualified.Goals as goal
 

@@ -1,9 +1,9 @@
 use Rattle.std.proofs.Common.{[], ◌∷◌, ◌++◌}
-use Rattle.rnc_text.specs.CutSteps.{front}
-use Rattle.rnc_text.specs.Cursors.{remaining}
-use Rattle.rnc_text.specs.declared.character.Character.TheVariants.{Ordinary}
+use Rattle.rnc_text.specs.plain.CutSteps.{front}
+use Rattle.rnc_text.specs.plain.Cursors.{remaining}
+use Rattle.rnc_model.specs.declared.character.Character.TheVariants.{Ordinary}
 use Rattle.rnc_text.specs.declared.scanning.Class.TheVariants as classes
-use Rattle.rnc_text.specs.declared.token.TokenKind.TheVariants as kinds
+use Rattle.rnc_model.specs.declared.token.TokenKind.TheVariants as kinds
 use Rattle.rnc_text.proofs.Cursors.{past_then}
 use Rattle.rnc_text.proofs.Scans.{segment_none, segment_some, finds_token, token_told}
 use Rattle.rnc_text.proofs.scanning.segment.Goals as goal

@@ -4,7 +4,7 @@ use Rattle.std.proofs.lemmas.Result.{IfOk-weaker}
 use Rattle.clap.specs.Lexer.{usize_max}
 use Rattle.clap.specs.Words.{App, FailsBy, app_of, fault_of, is_simple, is_simple_and_free, matches_of, rule_of, with_rule}
 use Rattle.clap.proofs.OnLiterals.{clap_on_literals}
-use Rattle.rncv_cli.specs.CommandLineForm.{bare_form, command_rule, files_rule, form}
+use Rattle.rncv_cli.specs.plain.CommandLineForm.{bare_form, command_rule, files_rule, form}
 use Rattle.rncv_cli.proofs.command_line.parsed.Goals as goal
 
 is_simple_form : is_simple form ≡ true

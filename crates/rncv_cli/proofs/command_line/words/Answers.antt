@@ -2,7 +2,7 @@ use Rattle.std.proofs.Common.{rules, ◌≡◌, ◌≤◌, ◌∙◌, sym, lengt
 use Rattle.std.proofs.lemmas.List.{length-map}
 use Rattle.clap.specs.Lexer.{usize_max}
 use Rattle.clap.specs.Words.{fault_of, matches_of}
-use Rattle.rncv_cli.specs.CommandLineForm.{command_in, files_in, form}
+use Rattle.rncv_cli.specs.plain.CommandLineForm.{command_in, files_in, form}
 use Rattle.rncv_cli.specs.declared.fault.Fault.{Fault}
 use Rattle.rncv_cli.specs.declared.fault.Fault.TheVariants.{Memory, Usage}
 use Rattle.rncv_cli.proofs.CommandLine.{all_utf8, is_accepted, is_command_line}

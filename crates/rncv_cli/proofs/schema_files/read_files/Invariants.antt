@@ -1,6 +1,6 @@
 use Rattle.std.proofs.Common.{◌≡◌, ◌≤◌, length, map}
 use Rattle.std.specs.List.{All}
-use Rattle.rncv_cli.specs.Answering.{read_limit}
+use Rattle.rncv_cli.specs.plain.Answering.{read_limit}
 use Rattle.rncv_cli.proofs.schema_files.read_files.Given as goal
 
 abbrev pub invariant-loop-name : goal.invariant-loop-name

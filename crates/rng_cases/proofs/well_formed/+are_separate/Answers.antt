@@ -1,7 +1,7 @@
 use Rattle.std.proofs.Common.{subst, sym, map, ◌∙◌}
-use Rattle.rng_model.specs.View.{item_of}
-use Rattle.rng_model.specs.WellFormed.{Separate}
-use Rattle.rng_cases.specs.Separate.{StaysSeparate}
+use Rattle.rng_model.specs.documents.DocumentViews.{item_of}
+use Rattle.rng_model.specs.matching.WellFormed.{Separate}
+use Rattle.rng_cases.specs.plain.Separate.{StaysSeparate}
 use Rattle.rng_cases.proofs.WellFormed.{element_stays, first_of, none_of, nothing_stays, on_true, rest_of}
 use Rattle.rng_cases.proofs.well_formed.+are_separate.Goals as goal
 

@@ -1,6 +1,6 @@
 use Rattle.std.proofs.Common.{subst, map, ◌<◌, ◌≤◌, ℕ, arith, length, get_or}
-use Rattle.rng_model.specs.WellFormed.{Distinct, IsWellFormed, Separate}
-use Rattle.rng_model.specs.View.{attribute_of, item_of}
+use Rattle.rng_model.specs.matching.WellFormed.{Distinct, IsWellFormed, Separate}
+use Rattle.rng_model.specs.documents.DocumentViews.{attribute_of, item_of}
 use Rattle.rng_model.specs.declared.document.Item.{Item}
 use Rattle.rng_cases.proofs.WellFormed.{whole_well_formed}
 use Rattle.rng_cases.proofs.well_formed.+is_well_formed.Goals as goal

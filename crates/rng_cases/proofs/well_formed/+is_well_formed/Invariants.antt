@@ -1,7 +1,7 @@
 use Rattle.std.proofs.Common.{ℕ, ◌<◌, get_or}
-use Rattle.rng_model.specs.View.{item_of}
+use Rattle.rng_model.specs.documents.DocumentViews.{item_of}
 use Rattle.rng_model.specs.declared.document.Item.{Item}
-use Rattle.rng_model.specs.WellFormed.{IsWellFormed}
+use Rattle.rng_model.specs.matching.WellFormed.{IsWellFormed}
 use Rattle.rng_cases.proofs.well_formed.+is_well_formed.Given as goal
 
 abbrev pub invariant-children : goal.invariant-children

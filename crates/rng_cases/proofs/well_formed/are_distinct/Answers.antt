@@ -1,7 +1,7 @@
 use Rattle.std.proofs.Common.{arith, subst, sym}
 use Rattle.std.proofs.lemmas.List.{length-map}
-use Rattle.rng_model.specs.WellFormed.{Distinct}
-use Rattle.rng_model.specs.View.{attribute_of}
+use Rattle.rng_model.specs.matching.WellFormed.{Distinct}
+use Rattle.rng_model.specs.documents.DocumentViews.{attribute_of}
 use Rattle.rng_cases.proofs.WellFormed.{not_same, single, two_distinct, two_of}
 use Rattle.rng_cases.proofs.well_formed.are_distinct.Goals as goal
 

@@ -1,7 +1,7 @@
 use Rattle.std.proofs.Common.{◌≡◌, drop, map}
-use Rattle.rng_model.specs.SchemaView.{schema_component_of}
-use Rattle.rng_components.specs.GrammarTests.{some_has}
-use Rattle.rng_components.specs.RuleTests.{rule_test}
+use Rattle.rng_model.specs.views.SchemaView.{schema_component_of}
+use Rattle.rng_components.specs.plain.GrammarTests.{some_has}
+use Rattle.rng_components.specs.plain.RuleTests.{rule_test}
 use Rattle.rng_components.proofs.checking.break_rule.Given as goal
 
 abbrev pub invariant-loop-component : goal.invariant-loop-component

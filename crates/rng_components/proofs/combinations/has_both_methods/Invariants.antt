@@ -1,7 +1,7 @@
 use Rattle.std.proofs.Common.{◌≡◌, ◌&&◌, drop, map}
 use Rattle.std.specs.List.{list_any}
-use Rattle.rng_model.specs.SchemaView.{schema_component_of}
-use Rattle.rng_components.specs.GrammarTests.{both_methods, is_choice, is_interleaved_as}
+use Rattle.rng_model.specs.views.SchemaView.{schema_component_of}
+use Rattle.rng_components.specs.plain.GrammarTests.{both_methods, is_choice, is_interleaved_as}
 use Rattle.rng_components.proofs.combinations.has_both_methods.Given as goal
 
 abbrev pub invariant-loop-component : goal.invariant-loop-component

@@ -1,6 +1,6 @@
 use Rattle.std.proofs.Common.{◌≡◌, [], drop, map}
-use Rattle.rng_model.specs.SchemaView.{schema_component_of}
-use Rattle.rng_components.specs.GrammarTests.{names_in, two_plain}
+use Rattle.rng_model.specs.views.SchemaView.{schema_component_of}
+use Rattle.rng_components.specs.plain.GrammarTests.{names_in, two_plain}
 use Rattle.rng_components.proofs.combinations.has_two_plain.Given as goal
 
 abbrev pub invariant-loop-component : goal.invariant-loop-component

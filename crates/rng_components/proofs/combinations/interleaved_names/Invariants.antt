@@ -1,7 +1,7 @@
 use Rattle.std.proofs.Common.{◌≡◌, ◌||◌, drop, map}
 use Rattle.std.specs.List.{list_any}
-use Rattle.rng_model.specs.SchemaView.{schema_component_of}
-use Rattle.rng_components.specs.GrammarTests.{Name, has, is_interleaved_as, names_in}
+use Rattle.rng_model.specs.views.SchemaView.{schema_component_of}
+use Rattle.rng_components.specs.plain.GrammarTests.{Name, has, is_interleaved_as, names_in}
 use Rattle.rng_components.proofs.combinations.interleaved_names.Given as goal
 
 abbrev pub invariant-loop-component : goal.invariant-loop-component

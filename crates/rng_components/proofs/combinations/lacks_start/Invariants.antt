@@ -1,6 +1,6 @@
 use Rattle.std.proofs.Common.{◌≡◌, drop, map}
-use Rattle.rng_model.specs.SchemaView.{schema_component_of}
-use Rattle.rng_components.specs.GrammarTests.{lacks_start}
+use Rattle.rng_model.specs.views.SchemaView.{schema_component_of}
+use Rattle.rng_components.specs.plain.GrammarTests.{lacks_start}
 use Rattle.rng_components.proofs.combinations.lacks_start.Given as goal
 
 abbrev pub invariant-loop-component : goal.invariant-loop-component

@@ -1,6 +1,6 @@
 use Rattle.std.proofs.Common.{◌∙◌, ap, map, not, sym}
 use Rattle.std.proofs.lemmas.Bool.{not-true}
-use Rattle.rng_components.specs.GrammarTests.{has, seen_name}
+use Rattle.rng_components.specs.plain.GrammarTests.{has, seen_name}
 use Rattle.rng_components.proofs.KeptNames.{is_kept, new_goes_last, one_more_kept}
 use Rattle.rng_components.proofs.combinations.note.Goals as goal
 

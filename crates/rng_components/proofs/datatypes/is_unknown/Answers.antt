@@ -1,7 +1,7 @@
 use Rattle.std.proofs.Common.{◌≡◌, ◌∙◌, ap, rules}
-use Rattle.rng_model.specs.Types.{datatype_of}
-use Rattle.rng_types.specs.View.{datatype_at}
-use Rattle.rng_components.specs.PatternTests.{is_unknown}
+use Rattle.rng_model.specs.datatypes.DatatypeViews.{datatype_of}
+use Rattle.rng_types.specs.views.View.{datatype_at}
+use Rattle.rng_components.specs.plain.PatternTests.{is_unknown}
 use Rattle.rng_components.proofs.KnownDatatypes.{unknown_if_fault}
 use Rattle.rng_components.proofs.datatypes.is_unknown.Goals as goal
 

@@ -1,7 +1,7 @@
 use Rattle.std.proofs.Common.{◌≡◌, drop, map}
-use Rattle.rng_model.specs.Names.{classes_of}
-use Rattle.rng_model.specs.View.{class_of}
-use Rattle.rng_components.specs.ClassTests.{some_breaks_except}
+use Rattle.rng_model.specs.names.Names.{classes_of}
+use Rattle.rng_model.specs.names.NameViews.{class_of}
+use Rattle.rng_components.specs.plain.ClassTests.{some_breaks_except}
 use Rattle.rng_components.proofs.name_classes.+breaks_except.Given as goal
 
 -- the members that are left break the rule where all of them do

@@ -1,8 +1,8 @@
 use Rattle.std.proofs.Common.{◌≡◌, drop, map}
-use Rattle.rng_model.specs.Names.{classes_of}
-use Rattle.rng_model.specs.View.{class_of}
-use Rattle.rng_components.specs.ClassTests.{some_has_part}
-use Rattle.rng_components.specs.RuleTests.{part_test}
+use Rattle.rng_model.specs.names.Names.{classes_of}
+use Rattle.rng_model.specs.names.NameViews.{class_of}
+use Rattle.rng_components.specs.plain.ClassTests.{some_has_part}
+use Rattle.rng_components.specs.plain.RuleTests.{part_test}
 use Rattle.rng_components.proofs.name_classes.+has_part.Given as goal
 
 -- what is sought is among the members that are left where it is among all of them

@@ -2,12 +2,12 @@ use Rattle.std.proofs.Common.{◌∙◌, ◌<◌, ◌≤◌, ◌^◌, arith, rul
 use Rattle.std.proofs.lemmas.Bool.{not-false, not-true}
 use Rattle.std.proofs.lemmas.Result.{IfOk-weaker}
 use Rattle.std.proofs.lemmas.Option.{slice_get_within}
-use Rattle.rng_deriv.specs.PatternTable.{attribute_found, tree_over, tree_of}
-use Rattle.rng_deriv.specs.Derivative.{IsAfter, IsDerivative, IsLeftOfLeaf, StandsForItem}
-use Rattle.rng_model.specs.Names.{In}
-use Rattle.rng_model.specs.View.{class_of, name_of}
-use Rattle.rng_model.specs.Table.{AreChildrenBelow, grammar_of}
-use Rattle.rng_model.specs.Tree.{s_leaf, s_empty, s_not_allowed}
+use Rattle.rng_deriv.specs.views.PatternTable.{attribute_found, tree_over, tree_of}
+use Rattle.rng_deriv.specs.plain.Derivative.{IsAfter, IsDerivative, IsLeftOfLeaf, StandsForItem}
+use Rattle.rng_model.specs.names.Names.{In}
+use Rattle.rng_model.specs.names.NameViews.{class_of, name_of}
+use Rattle.rng_model.specs.simple.Table.{AreChildrenBelow, grammar_of}
+use Rattle.rng_model.specs.simple.Tree.{s_leaf, s_empty, s_not_allowed}
 use Rattle.rng_deriv.proofs.Follows.{Longer-length, Longer-refl, bottom_below, AreFirstSides-pop, AreFirstSides-empty, IsFirstSide-longer, Longer-trans}
 use Rattle.rng_deriv.proofs.Follows.{Knows-longer, Knows-insert, AreCopied-longer}
 use Rattle.rng_deriv.proofs.Steps.{choice_step, first_step, group_step, attribute_step, leaf_step, content_from, attribute_from, group_second}

@@ -1,6 +1,6 @@
 use Rattle.std.proofs.Common.{ℕ, ◌+◌, ◌*◌, length, vec_len}
-use Rattle.rng_deriv.specs.PatternTable.{AreCopied, Longer}
-use Rattle.rng_deriv.specs.Derivative.{IsAfter, AreFirstSides, Knows, rank}
+use Rattle.rng_deriv.specs.views.PatternTable.{AreCopied, Longer}
+use Rattle.rng_deriv.specs.plain.Derivative.{IsAfter, AreFirstSides, Knows, rank}
 use Rattle.rng_deriv.proofs.derivative.+derivative.Given as goal
 
 abbrev pub decreases-after : goal.decreases-after

@@ -1,5 +1,5 @@
 use Rattle.std.proofs.Common.{arith}
-use Rattle.rng_deriv.specs.Derivative.{at_top, further}
+use Rattle.rng_deriv.specs.plain.Derivative.{at_top, further}
 use Rattle.rng_deriv.proofs.derivative.first_sides.Goals as goal
 
 pub sides-init : goal.sides-init

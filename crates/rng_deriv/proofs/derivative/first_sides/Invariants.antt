@@ -1,5 +1,5 @@
 use Rattle.std.proofs.Common.{◌<◌, length}
-use Rattle.rng_deriv.specs.Derivative.{AreFirstSides}
+use Rattle.rng_deriv.specs.plain.Derivative.{AreFirstSides}
 use Rattle.rng_deriv.proofs.derivative.first_sides.Given as goal
 
 abbrev pub invariant-sides : goal.invariant-sides

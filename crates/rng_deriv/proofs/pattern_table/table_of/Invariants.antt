@@ -1,6 +1,6 @@
 use Rattle.std.proofs.Common.{◌≡◌, ℕ, ◌-◌, ◌<◌, ◌≤◌, length}
-use Rattle.rng_model.specs.Table.{tree_at}
-use Rattle.rng_deriv.specs.PatternTable.{tree_of}
+use Rattle.rng_model.specs.simple.Table.{tree_at}
+use Rattle.rng_deriv.specs.views.PatternTable.{tree_of}
 use Rattle.rng_deriv.proofs.pattern_table.table_of.Given as goal
 
 abbrev pub invariant-patterns : goal.invariant-patterns

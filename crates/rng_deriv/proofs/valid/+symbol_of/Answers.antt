@@ -1,13 +1,14 @@
 use Rattle.std.proofs.Common.{◌≡◌, ◌≤◌, ◌∙◌, ◌+◌, take, arith, rules, length, List, sym, ap, map, subst}
 use Rattle.std.specs.List.{list_any}
-use Rattle.rng_model.specs.Document.{list_of}
-use Rattle.rng_model.specs.Table.{grammar_of}
-use Rattle.rng_model.specs.View.{attribute_of, item_of, items_of, name_of}
+use Rattle.rng_model.specs.matching.Document.{list_of}
+use Rattle.rng_model.specs.simple.Table.{grammar_of}
+use Rattle.rng_model.specs.documents.DocumentViews.{attribute_of, item_of, items_of}
+use Rattle.rng_model.specs.names.NameViews.{name_of}
 use Rattle.rng_model.specs.declared.document.Item.{Item, the_lemmas}
-use Rattle.rng_deriv.specs.Acceptance.{content, is_element, kept}
-use Rattle.rng_deriv.specs.PatternTable.{AreCopied, Longer}
-use Rattle.rng_deriv.specs.Content.{AnswersNodes, StandForItems}
-use Rattle.rng_model.specs.WellFormed.{AreWellFormed}
+use Rattle.rng_deriv.specs.plain.Acceptance.{content, is_element, kept}
+use Rattle.rng_deriv.specs.views.PatternTable.{AreCopied, Longer}
+use Rattle.rng_deriv.specs.plain.Content.{AnswersNodes, StandForItems}
+use Rattle.rng_model.specs.matching.WellFormed.{AreWellFormed}
 use Rattle.rng_deriv.specs.declared.pattern_table.TableEntry.{TableEntry}
 use Rattle.rng_deriv.specs.declared.derivative.Symbol.{Symbol}
 use Rattle.rng_deriv.proofs.Follows.{AreCopied-longer, Longer-trans}

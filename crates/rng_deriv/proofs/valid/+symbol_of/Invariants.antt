@@ -1,9 +1,9 @@
 use Rattle.std.proofs.Common.{map, take}
-use Rattle.rng_model.specs.Table.{grammar_of}
-use Rattle.rng_model.specs.View.{item_of}
-use Rattle.rng_deriv.specs.Acceptance.{kept}
-use Rattle.rng_deriv.specs.PatternTable.{AreCopied, Longer}
-use Rattle.rng_deriv.specs.Content.{StandForItems}
+use Rattle.rng_model.specs.simple.Table.{grammar_of}
+use Rattle.rng_model.specs.documents.DocumentViews.{item_of}
+use Rattle.rng_deriv.specs.plain.Acceptance.{kept}
+use Rattle.rng_deriv.specs.views.PatternTable.{AreCopied, Longer}
+use Rattle.rng_deriv.specs.plain.Content.{StandForItems}
 use Rattle.rng_deriv.proofs.valid.+symbol_of.Given as goal
 
 abbrev pub invariant-children : goal.invariant-children

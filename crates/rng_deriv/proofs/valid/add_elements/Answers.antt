@@ -1,10 +1,11 @@
 use Rattle.std.proofs.Common.{◌≡◌, ◌↔◌, ◌⊎◌, ◌+◌, ◌<◌, ℕ, true, nat_eq, IsTrue, arith, sym, subst, length, map, take, get_or}
 use Rattle.std.proofs.lemmas.List.{get_or_default, take_all}
 use Rattle.std.specs.HashSet.{contains}
-use Rattle.rng_model.specs.Table.{grammar_of}
-use Rattle.rng_model.specs.View.{attribute_of, name_of}
-use Rattle.rng_deriv.specs.Named.{has_number}
-use Rattle.rng_deriv.specs.Content.{TakesNode}
+use Rattle.rng_model.specs.simple.Table.{grammar_of}
+use Rattle.rng_model.specs.documents.DocumentViews.{attribute_of}
+use Rattle.rng_model.specs.names.NameViews.{name_of}
+use Rattle.rng_deriv.specs.plain.Named.{has_number}
+use Rattle.rng_deriv.specs.plain.Content.{TakesNode}
 use Rattle.rng_deriv.proofs.Follows.{AreCopied-longer, Longer-trans}
 use Rattle.rng_deriv.proofs.Candidates.{candidate_in, candidate_out}
 use Rattle.rng_deriv.proofs.DerivativeSequence.{taken_more}

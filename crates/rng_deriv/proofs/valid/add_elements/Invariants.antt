@@ -1,12 +1,13 @@
 use Rattle.std.proofs.Common.{◌≡◌, ◌↔◌, ◌⊎◌, ℕ, List, true, nat_eq, map, take, IsTrue}
 use Rattle.std.specs.HashSet.{contains}
-use Rattle.rng_model.specs.Document.{Item}
-use Rattle.rng_model.specs.Table.{grammar_of}
-use Rattle.rng_model.specs.View.{attribute_of, name_of}
-use Rattle.rng_model.specs.Texts.{TextTests}
-use Rattle.rng_deriv.specs.Named.{has_number}
-use Rattle.rng_deriv.specs.PatternTable.{AreCopied, Longer}
-use Rattle.rng_deriv.specs.Content.{StandForItems, TakesNode}
+use Rattle.rng_model.specs.matching.Document.{Item}
+use Rattle.rng_model.specs.simple.Table.{grammar_of}
+use Rattle.rng_model.specs.documents.DocumentViews.{attribute_of}
+use Rattle.rng_model.specs.names.NameViews.{name_of}
+use Rattle.rng_model.specs.datatypes.Texts.{TextTests}
+use Rattle.rng_deriv.specs.plain.Named.{has_number}
+use Rattle.rng_deriv.specs.views.PatternTable.{AreCopied, Longer}
+use Rattle.rng_deriv.specs.plain.Content.{StandForItems, TakesNode}
 use Rattle.rng_deriv.proofs.valid.add_elements.Given as goal
 
 abbrev pub invariant-elements : goal.invariant-elements

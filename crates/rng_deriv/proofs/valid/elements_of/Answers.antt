@@ -1,10 +1,11 @@
 use Rattle.std.proofs.Common.{◌≡◌, ◌∙◌, ℕ, ◌++◌, false, nat_eq, ap, map}
 use Rattle.std.specs.HashSet.{contains}
 use Rattle.std.specs.List.{list_any}
-use Rattle.rng_model.specs.Table.{grammar_of}
-use Rattle.rng_model.specs.View.{attribute_of, name_of}
-use Rattle.rng_deriv.specs.Named.{has_number, listed_under}
-use Rattle.rng_deriv.specs.Content.{TakesNode}
+use Rattle.rng_model.specs.simple.Table.{grammar_of}
+use Rattle.rng_model.specs.documents.DocumentViews.{attribute_of}
+use Rattle.rng_model.specs.names.NameViews.{name_of}
+use Rattle.rng_deriv.specs.plain.Named.{has_number, listed_under}
+use Rattle.rng_deriv.specs.plain.Content.{TakesNode}
 use Rattle.rng_deriv.proofs.Follows.{AreCopied-longer}
 use Rattle.rng_deriv.proofs.Candidates.{both_found, is_candidate}
 use Rattle.rng_deriv.proofs.valid.elements_of.Goals as goal

@@ -1,7 +1,7 @@
 use Rattle.std.proofs.Common.{subst}
-use Rattle.rng_model.specs.View.{item_of}
+use Rattle.rng_model.specs.documents.DocumentViews.{item_of}
 use Rattle.rng_model.specs.declared.simple.PatternId.{PatternId}
-use Rattle.rng_deriv.specs.Derivative.{IsAfter}
+use Rattle.rng_deriv.specs.plain.Derivative.{IsAfter}
 use Rattle.rng_deriv.proofs.Follows.{AreCopied-longer}
 use Rattle.rng_deriv.proofs.Children.{root_answer}
 use Rattle.rng_deriv.proofs.valid.is_valid.Goals as goal

@@ -1,10 +1,10 @@
 use Rattle.std.proofs.Common.{◌↔◌, ◌<◌, List, [], drop, length}
-use Rattle.rng_model.specs.Document.{Item}
-use Rattle.rng_model.specs.Table.{grammar_of}
-use Rattle.rng_model.specs.Texts.{TextTests}
-use Rattle.rng_deriv.specs.Acceptance.{Accepts}
-use Rattle.rng_deriv.specs.PatternTable.{AreCopied, Longer, tree_of}
-use Rattle.rng_deriv.specs.Content.{StandForItems}
+use Rattle.rng_model.specs.matching.Document.{Item}
+use Rattle.rng_model.specs.simple.Table.{grammar_of}
+use Rattle.rng_model.specs.datatypes.Texts.{TextTests}
+use Rattle.rng_deriv.specs.plain.Acceptance.{Accepts}
+use Rattle.rng_deriv.specs.views.PatternTable.{AreCopied, Longer, tree_of}
+use Rattle.rng_deriv.specs.plain.Content.{StandForItems}
 use Rattle.rng_deriv.proofs.valid.takes_all.Given as goal
 
 abbrev pub invariant-symbols : goal.invariant-symbols

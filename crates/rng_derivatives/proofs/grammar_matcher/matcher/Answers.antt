@@ -1,9 +1,9 @@
 use Rattle.std.proofs.Common.{[], sym, subst}
-use Rattle.rng_model.specs.Table.{Table, tree_at}
-use Rattle.rng_matching.specs.Taking.{Same}
-use Rattle.rng_matcher.specs.Numbers.{tree_of}
-use Rattle.rng_patterns.specs.Trees.{trees}
-use Rattle.rng_ways.specs.Kinds.{reading_of}
+use Rattle.rng_model.specs.simple.Table.{Table, tree_at}
+use Rattle.rng_matching.specs.plain.Taking.{Same}
+use Rattle.rng_matcher.specs.views.Numbers.{tree_of}
+use Rattle.rng_patterns.specs.views.Trees.{trees}
+use Rattle.rng_model.specs.matching.GrammarReading.{reading_of}
 use Rattle.rng_derivatives.proofs.grammar_matcher.matcher.Goals as goal
 
 pub new-requires-2-clause-start : goal.new-requires-2-clause-start

@@ -1,5 +1,5 @@
 use Rattle.std.proofs.Common.{◌∙◌, inl, inr, subst}
-use Rattle.rng_derivatives.specs.StartMemo.{HasKept}
+use Rattle.rng_derivatives.specs.views.StartMemo.{HasKept}
 use Rattle.rng_derivatives.proofs.Memo.{kept_or_put, none_kept}
 use Rattle.rng_derivatives.proofs.start_memo.keep.Goals as goal
 use Rattle.rng_derivatives.proofs.start_memo.keep.Goals.{then-len-ge-MOST_KEPT, else-len-ge-MOST_KEPT}

@@ -1,11 +1,11 @@
 use Rattle.std.proofs.Common.{◌≡◌, ◌∙◌, ◌++◌, ◌∷◌, [], List, All, ap, length, sym, subst}
-use Rattle.rng_matching.specs.Restricted.{IsRestricted, IsTyped}
+use Rattle.rng_matching.specs.plain.Restricted.{IsRestricted, IsTyped}
 use Rattle.rng_patterns.proofs.Taking.{choice_of_two}
-use Rattle.rng_patterns.specs.Trees.{tree_of}
-use Rattle.rng_ways.specs.Kinds.{reading_of}
+use Rattle.rng_patterns.specs.views.Trees.{tree_of}
+use Rattle.rng_model.specs.matching.GrammarReading.{reading_of}
 use Rattle.rng_ways.proofs.Adding.{two_below}
 use Rattle.rng_matcher.specs.declared.derivatives.Way.{Way}
-use Rattle.rng_derivatives.specs.Starts.{IsWayInside, OpensLike, with_way}
+use Rattle.rng_derivatives.specs.views.Starts.{IsWayInside, OpensLike, with_way}
 use Rattle.rng_derivatives.proofs.Joining.{all_of_two, at_middle, joined_more, nothing_more}
 use Rattle.rng_derivatives.proofs.starts.add_way.Goals as goal
 

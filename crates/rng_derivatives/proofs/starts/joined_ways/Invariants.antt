@@ -1,9 +1,9 @@
 use Rattle.std.proofs.Common.{take}
-use Rattle.rng_model.specs.Table.{Table}
-use Rattle.rng_patterns.specs.PatternTable.{Longer}
-use Rattle.rng_patterns.specs.Trees.{tree_of}
-use Rattle.rng_ways.specs.Ways.{ways_by}
-use Rattle.rng_derivatives.specs.Starts.{OpensLike}
+use Rattle.rng_model.specs.simple.Table.{Table}
+use Rattle.rng_patterns.specs.views.PatternTable.{Longer}
+use Rattle.rng_patterns.specs.views.Trees.{tree_of}
+use Rattle.rng_ways.specs.plain.Ways.{ways_by}
+use Rattle.rng_derivatives.specs.views.Starts.{OpensLike}
 use Rattle.rng_derivatives.proofs.starts.joined_ways.Given as goal
 
 abbrev pub invariant-ways : goal.invariant-ways

@@ -1,7 +1,7 @@
 use Rattle.std.proofs.Common.{◌∙◌, sym, ap, ◌||◌, ◌+◌, map, drop}
 use Rattle.std.specs.List.{list_any}
-use Rattle.rng_model.specs.Schema.{is_interleaved}
-use Rattle.rng_model.specs.SchemaView.{schema_component_of}
+use Rattle.rng_model.specs.schema.Schema.{is_interleaved}
+use Rattle.rng_model.specs.views.SchemaView.{schema_component_of}
 use Rattle.rng_graph.proofs.ResolvedMembers.{next_any}
 use Rattle.rng_graph.proofs.bodies.are_interleaved.Goals as goal
 

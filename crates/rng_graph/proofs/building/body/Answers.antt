@@ -1,8 +1,8 @@
 use Rattle.std.proofs.Common.{◌≡◌, ◌∙◌, ap, subst, IfOk, OnOk, option_map}
-use Rattle.rng_model.specs.SchemaView.{place_of}
-use Rattle.rng_load.specs.PlacedGrammars.{schema_of}
-use Rattle.rng_graph.specs.Definitions.{definition_of, numbering_of}
-use Rattle.rng_graph.specs.GraphView.{graph_body_of}
+use Rattle.rng_model.specs.views.SchemaView.{place_of}
+use Rattle.rng_load.specs.views.PlacedGrammars.{schema_of}
+use Rattle.rng_graph.specs.views.Definitions.{definition_of, numbering_of}
+use Rattle.rng_graph.specs.views.GraphView.{graph_body_of}
 use Rattle.rng_graph.proofs.SchemaGraphs.{body_found}
 use Rattle.rng_graph.proofs.building.body.Goals as goal
 

@@ -1,9 +1,9 @@
 use Rattle.std.proofs.Common.{◌≡◌, ◌∙◌, ap, sym, subst, arith, rules, [], ◌∷◌, ◌+◌, length, length-append, map, slice_get, Some, None}
 use Rattle.std.proofs.lemmas.List.{length-map}
-use Rattle.rng_load.specs.PlacedGrammars.{schema_of}
-use Rattle.rng_graph.specs.ComponentTable.{table_of}
-use Rattle.rng_graph.specs.Definitions.{definition_of, numbering_of}
-use Rattle.rng_graph.specs.GraphView.{graph_body_of}
+use Rattle.rng_load.specs.views.PlacedGrammars.{schema_of}
+use Rattle.rng_graph.specs.views.ComponentTable.{table_of}
+use Rattle.rng_graph.specs.views.Definitions.{definition_of, numbering_of}
+use Rattle.rng_graph.specs.views.GraphView.{graph_body_of}
 use Rattle.rng_graph.proofs.GraphSteps.{IsGraphSoFar, started}
 use Rattle.rng_graph.proofs.SchemaGraphs.{built, ends_before, room, step}
 use Rattle.rng_graph.proofs.building.schema_graph.Goals as goal

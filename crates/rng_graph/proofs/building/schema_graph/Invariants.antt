@@ -1,8 +1,8 @@
 use Rattle.std.proofs.Common.{◌-◌, length, map}
-use Rattle.rng_load.specs.PlacedGrammars.{schema_of}
-use Rattle.rng_graph.specs.ComponentTable.{table_of}
-use Rattle.rng_graph.specs.Definitions.{numbering_of}
-use Rattle.rng_graph.specs.GraphView.{graph_body_of}
+use Rattle.rng_load.specs.views.PlacedGrammars.{schema_of}
+use Rattle.rng_graph.specs.views.ComponentTable.{table_of}
+use Rattle.rng_graph.specs.views.Definitions.{numbering_of}
+use Rattle.rng_graph.specs.views.GraphView.{graph_body_of}
 use Rattle.rng_graph.proofs.GraphSteps.{IsGraphSoFar}
 use Rattle.rng_graph.proofs.building.schema_graph.Given as goal
 

@@ -1,5 +1,5 @@
 use Rattle.std.proofs.Common.{◌∙◌, ap, map}
-use Rattle.rng_graph.specs.Definitions.{definition_of}
+use Rattle.rng_graph.specs.views.Definitions.{definition_of}
 use Rattle.rng_graph.proofs.DefinitionNumbers.{number_seen, with_seen}
 use Rattle.rng_graph.proofs.definitions.number.Goals as goal
 

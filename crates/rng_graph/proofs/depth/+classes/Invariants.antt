@@ -1,10 +1,10 @@
 use Rattle.std.proofs.Common.{◌≡◌, map, drop}
-use Rattle.rng_model.specs.Names.{classes_of, some_of}
-use Rattle.rng_model.specs.Depth.{class_depth}
-use Rattle.rng_model.specs.View.{class_of}
-use Rattle.rng_graph.specs.InTwos.{nested}
-use Rattle.rng_graph.specs.DepthWith.{cut_off}
-use Rattle.rng_graph.specs.MemberDepths.{nested_class_depth}
+use Rattle.rng_model.specs.names.Names.{classes_of, some_of}
+use Rattle.rng_model.specs.schema.Depth.{class_depth}
+use Rattle.rng_model.specs.names.NameViews.{class_of}
+use Rattle.rng_graph.specs.plain.InTwos.{nested}
+use Rattle.rng_graph.specs.plain.DepthWith.{cut_off}
+use Rattle.rng_graph.specs.plain.MemberDepths.{nested_class_depth}
 use Rattle.rng_graph.proofs.depth.+classes.Given as goal
 
 abbrev pub invariant-choice_depth-loop-member : goal.invariant-choice_depth-loop-member

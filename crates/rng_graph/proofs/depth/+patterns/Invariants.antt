@@ -1,7 +1,7 @@
 use Rattle.std.proofs.Common.{◌≡◌, map, drop}
-use Rattle.rng_graph.specs.DepthWith.{depth_with, nested_depth}
-use Rattle.rng_graph.specs.GraphView.{graph_pattern_of}
-use Rattle.rng_graph.specs.MemberDepths.{members_depth, depth_at_spot}
+use Rattle.rng_graph.specs.plain.DepthWith.{depth_with, nested_depth}
+use Rattle.rng_graph.specs.views.GraphView.{graph_pattern_of}
+use Rattle.rng_graph.specs.plain.MemberDepths.{members_depth, depth_at_spot}
 use Rattle.rng_graph.proofs.depth.+patterns.Given as goal
 
 abbrev pub invariant-patterns_depth-loop-member : goal.invariant-patterns_depth-loop-member

@@ -1,8 +1,8 @@
 use Rattle.std.proofs.Common.{◌≡◌, ◌<◌, ◌∙◌, ap, subst, length, get_or, arith, refl}
 use Rattle.std.proofs.lemmas.List.{length-map, length-set, take_all}
-use Rattle.rng_graph.specs.Graph.{IsFilledBy, spot_depth}
-use Rattle.rng_graph.specs.GraphView.{graph_body_of, graph_of}
-use Rattle.rng_graph.specs.MemberDepths.{depth_in}
+use Rattle.rng_graph.specs.plain.Graph.{IsFilledBy, spot_depth}
+use Rattle.rng_graph.specs.views.GraphView.{graph_body_of, graph_of}
+use Rattle.rng_graph.specs.plain.MemberDepths.{depth_in}
 use Rattle.rng_graph.proofs.FilledTable.{filled_next}
 use Rattle.rng_graph.proofs.depth_table.depths.Goals as goal
 use Rattle.rng_graph.proofs.Parts.{read_at, map_at}

@@ -1,7 +1,7 @@
 use Rattle.std.proofs.Common.{◌≡◌, length, take}
-use Rattle.rng_graph.specs.Graph.{IsFilledBy, spot_depth}
-use Rattle.rng_graph.specs.GraphView.{graph_of}
-use Rattle.rng_graph.specs.MemberDepths.{depth_in}
+use Rattle.rng_graph.specs.plain.Graph.{IsFilledBy, spot_depth}
+use Rattle.rng_graph.specs.views.GraphView.{graph_of}
+use Rattle.rng_graph.specs.plain.MemberDepths.{depth_in}
 use Rattle.rng_graph.proofs.depth_table.depths.Given as goal
 
 abbrev pub invariant-loop-j : goal.invariant-loop-j

@@ -1,5 +1,5 @@
 use Rattle.std.proofs.Common.{◌≡◌, ℕ, ◌<◌, slice_get, Some}
-use Rattle.rng_graph.specs.MemberDepths.{IsDeepElement}
+use Rattle.rng_graph.specs.plain.MemberDepths.{IsDeepElement}
 use Rattle.rng_graph.specs.declared.graph.GraphElement.{GraphElement}
 use Rattle.rng_graph.proofs.depth_table.is_too_deep.Given as goal
 

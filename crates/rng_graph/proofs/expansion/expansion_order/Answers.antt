@@ -1,10 +1,10 @@
 use Rattle.std.proofs.Common.{◌≡◌, ◌∙◌, inl, inr, ap, sym, subst, map, refl, rules}
-use Rattle.rng_graph.specs.ExpansionOrder.{IsWholeOrder}
-use Rattle.rng_graph.specs.Graph.{IsFilledBy, IsDeepBy, IsOrderBy, Mentions, spot_depth}
-use Rattle.rng_graph.specs.GraphView.{classes_of, graph_of}
-use Rattle.rng_graph.specs.Mentioned.{mentioned}
-use Rattle.rng_graph.specs.MemberDepths.{depth_in}
-use Rattle.rng_graph.specs.Search.{lists}
+use Rattle.rng_graph.specs.views.ExpansionOrder.{IsWholeOrder}
+use Rattle.rng_graph.specs.plain.Graph.{IsFilledBy, IsDeepBy, IsOrderBy, Mentions, spot_depth}
+use Rattle.rng_graph.specs.views.GraphView.{classes_of, graph_of}
+use Rattle.rng_graph.specs.plain.Mentioned.{mentioned}
+use Rattle.rng_graph.specs.plain.MemberDepths.{depth_in}
+use Rattle.rng_graph.specs.plain.Search.{lists}
 use Rattle.rng_graph.proofs.ExpansionOrder.{keeps_breaks_not, mentions_below, answer_is_whole, answer_is_broken, order_keeps, depth_breaks}
 use Rattle.rng_graph.proofs.expansion.expansion_order.Goals as goal
 

@@ -1,6 +1,6 @@
 use Rattle.std.proofs.Common.{◌≡◌, ◌++◌, map, drop}
-use Rattle.rng_graph.specs.GraphView.{graph_pattern_of}
-use Rattle.rng_graph.specs.Mentioned.{all_mentioned}
+use Rattle.rng_graph.specs.views.GraphView.{graph_pattern_of}
+use Rattle.rng_graph.specs.plain.Mentioned.{all_mentioned}
 use Rattle.rng_graph.proofs.mentions.+patterns.Given as goal
 
 abbrev pub invariant-add_all_mentions-loop-member : goal.invariant-add_all_mentions-loop-member

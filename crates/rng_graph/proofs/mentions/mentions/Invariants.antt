@@ -1,7 +1,7 @@
 use Rattle.std.proofs.Common.{◌≡◌, map, take}
-use Rattle.rng_graph.specs.GraphView.{graph_body_of}
-use Rattle.rng_graph.specs.Mentioned.{mentioned}
-use Rattle.rng_graph.specs.Search.{lists}
+use Rattle.rng_graph.specs.views.GraphView.{graph_body_of}
+use Rattle.rng_graph.specs.plain.Mentioned.{mentioned}
+use Rattle.rng_graph.specs.plain.Search.{lists}
 use Rattle.rng_graph.proofs.mentions.mentions.Given as goal
 
 abbrev pub invariant-loop-body : goal.invariant-loop-body

@@ -1,5 +1,5 @@
 use Rattle.std.proofs.Common.{◌+◌, length}
-use Rattle.rng_graph.specs.Search.{IsSearch, lists, weight}
+use Rattle.rng_graph.specs.plain.Search.{IsSearch, lists, weight}
 use Rattle.rng_graph.proofs.order.sort.Given as goal
 
 abbrev pub invariant-search : goal.invariant-search

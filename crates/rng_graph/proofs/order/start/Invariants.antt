@@ -1,4 +1,4 @@
-use Rattle.rng_graph.specs.Search.{IsStart}
+use Rattle.rng_graph.specs.plain.Search.{IsStart}
 use Rattle.rng_graph.proofs.order.start.Given as goal
 
 abbrev pub invariant-loop-k : goal.invariant-loop-k

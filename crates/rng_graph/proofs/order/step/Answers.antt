@@ -1,7 +1,7 @@
 use Rattle.std.proofs.Common.{rules, ◌≡◌, sym, subst, ◌<◌, [], ◌∷◌, ◌++◌, length, vec_items, arith}
 use Rattle.std.proofs.lemmas.List.{length-map}
 use Rattle.rng_graph.specs.declared.order.Mark.TheVariants as mark
-use Rattle.rng_graph.specs.Search.{number_of, lists}
+use Rattle.rng_graph.specs.plain.Search.{number_of, lists}
 use Rattle.rng_graph.proofs.SearchSteps.{number_below, number_marked, step_new, step_open, step_done, step_leave}
 use Rattle.rng_graph.proofs.order.step.Goals as goal
 use Rattle.rng_graph.proofs.Parts.{read_at}

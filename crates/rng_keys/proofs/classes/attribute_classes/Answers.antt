@@ -1,7 +1,7 @@
 use Rattle.std.proofs.Common.{◌≡◌, ◌∷◌, ◌++◌, [], ap, sym, ◌∙◌, length, map, take, None, Some, slice_get, rules}
 use Rattle.std.proofs.lemmas.List.{map_push, length-map}
 use Rattle.rng_model.proofs.MadeLists.{made_more, made_all}
-use Rattle.rng_keys.specs.GrammarClasses.{attribute_class, seen_class}
+use Rattle.rng_keys.specs.views.GrammarClasses.{attribute_class, seen_class}
 use Rattle.rng_keys.proofs.classes.attribute_classes.Goals as goal
 
 pub patterns-preserved : goal.patterns-preserved

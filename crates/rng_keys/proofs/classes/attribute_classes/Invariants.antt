@@ -1,5 +1,5 @@
 use Rattle.std.proofs.Common.{◌≡◌, ◌-◌, length, map, take}
-use Rattle.rng_keys.specs.GrammarClasses.{attribute_class, seen_class}
+use Rattle.rng_keys.specs.views.GrammarClasses.{attribute_class, seen_class}
 use Rattle.rng_keys.proofs.classes.attribute_classes.Given as goal
 
 abbrev pub invariant-patterns : goal.invariant-patterns

@@ -1,7 +1,7 @@
 use Rattle.std.proofs.Common.{◌≡◌, ◌∷◌, ◌++◌, [], ap, sym, ◌∙◌, length, map, take, None, Some, slice_get, rules}
 use Rattle.std.proofs.lemmas.List.{map_push, length-map}
 use Rattle.rng_model.proofs.MadeLists.{made_more, made_all}
-use Rattle.rng_keys.specs.GrammarClasses.{element_class, seen_class}
+use Rattle.rng_keys.specs.views.GrammarClasses.{element_class, seen_class}
 use Rattle.rng_keys.proofs.classes.element_classes.Goals as goal
 
 pub elements-preserved : goal.elements-preserved

@@ -1,5 +1,5 @@
 use Rattle.std.proofs.Common.{◌≡◌, ◌-◌, length, map, take}
-use Rattle.rng_keys.specs.GrammarClasses.{element_class, seen_class}
+use Rattle.rng_keys.specs.views.GrammarClasses.{element_class, seen_class}
 use Rattle.rng_keys.proofs.classes.element_classes.Given as goal
 
 abbrev pub invariant-elements : goal.invariant-elements

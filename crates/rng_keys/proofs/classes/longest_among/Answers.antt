@@ -1,10 +1,10 @@
 use Rattle.std.proofs.Common.{◌≡◌, ◌≤◌, ap, refl, max, map, None, Some, arith, rules}
 use Rattle.std.proofs.lemmas.List.{length-map}
 use Rattle.std.proofs.lemmas.Option.{none-some, same_Some}
-use Rattle.rng_model.specs.Names.{NameClass}
-use Rattle.rng_model.specs.View.{class_of}
-use Rattle.rng_names.specs.Written.{longest}
-use Rattle.rng_keys.specs.GrammarClasses.{seen_class}
+use Rattle.rng_model.specs.names.Names.{NameClass}
+use Rattle.rng_model.specs.names.NameViews.{class_of}
+use Rattle.rng_names.specs.plain.Written.{longest}
+use Rattle.rng_keys.specs.views.GrammarClasses.{seen_class}
 use Rattle.rng_keys.proofs.Growing.{holds_on, holds_of_all, seen_at}
 use Rattle.rng_keys.proofs.classes.longest_among.Goals as goal
 

@@ -1,7 +1,7 @@
 use Rattle.std.proofs.Common.{◌≡◌, ◌≤◌, map, Some}
-use Rattle.rng_model.specs.Names.{NameClass}
-use Rattle.rng_names.specs.Written.{longest}
-use Rattle.rng_keys.specs.GrammarClasses.{seen_class}
+use Rattle.rng_model.specs.names.Names.{NameClass}
+use Rattle.rng_names.specs.plain.Written.{longest}
+use Rattle.rng_keys.specs.views.GrammarClasses.{seen_class}
 use Rattle.rng_keys.proofs.Growing.{HoldsBefore}
 use Rattle.rng_keys.proofs.classes.longest_among.Given as goal
 

@@ -1,5 +1,5 @@
 use Rattle.std.proofs.Common.{ap, ◌∙◌, map, slice_get}
-use Rattle.rng_model.specs.View.{name_of}
+use Rattle.rng_model.specs.names.NameViews.{name_of}
 use Rattle.rng_keys.proofs.KeyLookups.{is_there, stays}
 use Rattle.rng_keys.proofs.texts.put.Goals as goal
 

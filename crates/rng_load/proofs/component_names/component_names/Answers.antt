@@ -1,8 +1,8 @@
 use Rattle.std.proofs.Common.{rules, ◌≡◌, ◌<◌, ◌≤◌, sym, ap, ◌∙◌, refl, length, map, arith, subst, ◌+◌}
-use Rattle.rnc_grammar.specs.FileTree.{components_of}
-use Rattle.rnc_grammar.specs.View.{component_of}
-use Rattle.rng_load.specs.ComponentNames.{gather, names_in}
-use Rattle.rng_load.specs.FilesView.{taken_files_of}
+use Rattle.rnc_model.specs.declarations.FileTree.{components_of}
+use Rattle.rnc_grammar.specs.views.View.{component_of}
+use Rattle.rng_load.specs.plain.ComponentNames.{gather, names_in}
+use Rattle.rng_load.specs.views.FilesView.{taken_files_of}
 use Rattle.rng_load.proofs.GatheredNames.{IsGathering, at_index, beyond_end, length_keys, begins, few_looked, turned, all_found}
 use Rattle.rng_load.proofs.component_names.component_names.Goals as goal
 

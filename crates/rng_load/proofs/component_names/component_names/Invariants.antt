@@ -1,8 +1,8 @@
 use Rattle.std.proofs.Common.{◌-◌, length, map}
-use Rattle.rnc_grammar.specs.FileTree.{components_of}
-use Rattle.rnc_grammar.specs.View.{component_of}
-use Rattle.rng_load.specs.ComponentNames.{names_in}
-use Rattle.rng_load.specs.FilesView.{taken_files_of}
+use Rattle.rnc_model.specs.declarations.FileTree.{components_of}
+use Rattle.rnc_grammar.specs.views.View.{component_of}
+use Rattle.rng_load.specs.plain.ComponentNames.{names_in}
+use Rattle.rng_load.specs.views.FilesView.{taken_files_of}
 use Rattle.rng_load.proofs.GatheredNames.{IsGathering, all_included}
 use Rattle.rng_load.proofs.component_names.component_names.Given as goal
 

@@ -1,7 +1,7 @@
 use Rattle.std.proofs.Common.{rules, ◌≡◌, ap, sym, map, Some, None, length}
-use Rattle.rnc_grammar.specs.FileTree.{components_of}
-use Rattle.rnc_grammar.specs.View.{component_of, file_of, mention_of}
-use Rattle.rng_load.specs.FilesView.{taken_files_of}
+use Rattle.rnc_model.specs.declarations.FileTree.{components_of}
+use Rattle.rnc_grammar.specs.views.View.{component_of, file_of, mention_of}
+use Rattle.rng_load.specs.views.FilesView.{taken_files_of}
 use Rattle.rng_load.proofs.BrokenIncludes.{found_at, none_long, unread, is_no_grammar, nothing_in_braces, judged}
 use Rattle.rng_load.proofs.includes.breaks_include.Goals as goal
 

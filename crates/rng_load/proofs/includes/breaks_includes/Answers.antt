@@ -1,8 +1,8 @@
 use Rattle.std.proofs.Common.{rules, ◌≡◌, ◌<◌, ◌≤◌, ◌∙◌, sym, subst, refl, length, map}
 use Rattle.std.specs.Map.{values_of}
-use Rattle.rnc_grammar.specs.View.{file_of}
-use Rattle.rng_load.specs.FilesView.{taken_files_of}
-use Rattle.rng_load.specs.Loading.{HasBrokenInclude}
+use Rattle.rnc_grammar.specs.views.View.{file_of}
+use Rattle.rng_load.specs.views.FilesView.{taken_files_of}
+use Rattle.rnc_model.specs.loading.Loading.{HasBrokenInclude}
 use Rattle.rng_load.proofs.BrokenIncludes.{OneOf, met, passed, all_passed, of_a_tree, of_a_file}
 use Rattle.rng_load.proofs.HandedIn.{is_not}
 use Rattle.rng_load.proofs.includes.breaks_includes.Goals as goal

@@ -1,8 +1,8 @@
 use Rattle.std.proofs.Common.{rules, ◌≡◌, ◌<◌, ◌∙◌, subst, refl, ap, length, map}
-use Rattle.rnc_grammar.specs.Mentions.{mentions_of}
-use Rattle.rnc_grammar.specs.View.{file_of, mentioned_file_of}
-use Rattle.rng_load.specs.FilesView.{taken_files_of}
-use Rattle.rng_load.specs.Loading.{IsBrokenInclude}
+use Rattle.rnc_model.specs.loading.Mentions.{mentions_of}
+use Rattle.rnc_grammar.specs.views.View.{file_of, mentioned_file_of}
+use Rattle.rng_load.specs.views.FilesView.{taken_files_of}
+use Rattle.rnc_model.specs.loading.Loading.{IsBrokenInclude}
 use Rattle.rng_load.proofs.BrokenIncludes.{OneOf, met, passed}
 use Rattle.rng_load.proofs.HandedIn.{is_not}
 use Rattle.rng_load.proofs.includes.has_broken_include.Goals as goal

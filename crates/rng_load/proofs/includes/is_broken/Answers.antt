@@ -1,8 +1,8 @@
 use Rattle.std.proofs.Common.{subst, sym, IfOk, ◌↔◌}
 use Rattle.std.specs.Bool.{IsTrue}
-use Rattle.rnc_grammar.specs.View.{mentioned_file_of}
-use Rattle.rng_load.specs.FilesView.{taken_files_of}
-use Rattle.rng_load.specs.Loading.{IsBrokenInclude}
+use Rattle.rnc_grammar.specs.views.View.{mentioned_file_of}
+use Rattle.rng_load.specs.views.FilesView.{taken_files_of}
+use Rattle.rnc_model.specs.loading.Loading.{IsBrokenInclude}
 use Rattle.rng_load.proofs.includes.is_broken.Goals as goal
 
 pub returns-in-Included : goal.returns-in-Included

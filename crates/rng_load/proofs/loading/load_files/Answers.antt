@@ -1,4 +1,5 @@
-use Rattle.rng_load.specs.FilesView.{named_files, taken_files_of}
+use Rattle.rnc_model.specs.loading.Files.{named_files}
+use Rattle.rng_load.specs.views.FilesView.{taken_files_of}
 use Rattle.rng_load.proofs.FilesVerdict.{file_first, mentions_first, includes_next, none_broken}
 use Rattle.rng_load.proofs.HandedIn.{is_not}
 use Rattle.rng_load.proofs.loading.load_files.Goals as goal

@@ -1,5 +1,5 @@
 use Rattle.std.proofs.Common.{rules, ◌∙◌, ◌≤◌, length}
-use Rattle.rnc_grammar.specs.View.{file_of}
+use Rattle.rnc_grammar.specs.views.View.{file_of}
 use Rattle.rng_load.proofs.MentionedNames.{all_hrefs}
 use Rattle.rng_load.proofs.mentioned.hrefs.Goals as goal
 

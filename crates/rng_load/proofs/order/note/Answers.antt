@@ -1,6 +1,6 @@
 use Rattle.std.proofs.Common.{sym, ap, ◌∙◌, map, string_bytes}
-use Rattle.rng_load.specs.Loading.{with_name}
-use Rattle.rng_load.specs.FilesView.{names_of}
+use Rattle.rnc_model.specs.loading.Loading.{with_name}
+use Rattle.rng_load.specs.views.FilesView.{names_of}
 use Rattle.rng_load.proofs.NamesAdded.{names_after_insert, name_is_there}
 use Rattle.rng_load.proofs.order.note.Goals as goal
 

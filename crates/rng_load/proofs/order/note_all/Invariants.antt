@@ -1,6 +1,6 @@
 use Rattle.std.proofs.Common.{◌≡◌, map, fold, take}
-use Rattle.rng_load.specs.FilesView.{names_of}
-use Rattle.rng_load.specs.Loading.{with_name}
+use Rattle.rng_load.specs.views.FilesView.{names_of}
+use Rattle.rnc_model.specs.loading.Loading.{with_name}
 use Rattle.rng_load.proofs.order.note_all.Given as goal
 
 abbrev pub invariant-loop-name : goal.invariant-loop-name

@@ -1,7 +1,7 @@
 use Rattle.std.proofs.Common.{take}
 use Rattle.std.specs.Prelude.{MatchOption}
-use Rattle.rng_load.specs.FilesView.{named_files}
-use Rattle.rng_load.specs.SchemaFile.{IsHandedIn, IsMissing}
+use Rattle.rnc_model.specs.loading.Files.{named_files}
+use Rattle.rnc_model.specs.loading.SchemaFile.{IsHandedIn, IsMissing}
 use Rattle.rng_load.proofs.reading.bytes_of.Given as goal
 
 abbrev pub invariant-loop-other : goal.invariant-loop-other

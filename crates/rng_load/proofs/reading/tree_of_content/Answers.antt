@@ -1,7 +1,7 @@
 use Rattle.std.proofs.Common.{Vec, Global}
 use Rattle.std.proofs.lemmas.Result.{err_from_is_err_and}
-use Rattle.rnc_text.specs.Cut.{tokens_of}
-use Rattle.rnc_text.specs.declared.token.Token.{Token}
+use Rattle.rnc_model.specs.tokens.Cut.{tokens_of}
+use Rattle.rnc_model.specs.declared.token.Token.{Token}
 use Rattle.rng_load.proofs.FileContent.{Lexed, decoded, text_fault, tokenized, tokens_fault, lexed, parse_fault, parsed}
 use Rattle.rng_load.proofs.reading.tree_of_content.Goals as goal
 

@@ -1,8 +1,8 @@
 use Rattle.std.proofs.Common.{◌≡◌, ◌++◌, map, drop}
-use Rattle.rng_model.specs.View.{class_of}
-use Rattle.rnc_grammar.specs.FileTree.{classes_of}
-use Rattle.rnc_grammar.specs.View as file
-use Rattle.rng_load.specs.Places.{classes_in}
+use Rattle.rng_model.specs.names.NameViews.{class_of}
+use Rattle.rnc_model.specs.declarations.FileTree.{classes_of}
+use Rattle.rnc_grammar.specs.views.View as file
+use Rattle.rnc_model.specs.loading.Places.{classes_in}
 use Rattle.rng_load.proofs.reading_names.+name_classes.Given as goal
 
 abbrev pub invariant-name_classes-loop-class : goal.invariant-name_classes-loop-class

@@ -1,5 +1,5 @@
 use Rattle.std.proofs.Common.{◌≡◌, ◌++◌, map, drop}
-use Rattle.rng_model.specs.Types.{parameter_of}
+use Rattle.rng_model.specs.datatypes.DatatypeViews.{parameter_of}
 use Rattle.rng_load.proofs.reading_patterns.copied.Given as goal
 
 abbrev pub invariant-loop-name : goal.invariant-loop-name

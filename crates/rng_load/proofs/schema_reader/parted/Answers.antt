@@ -1,11 +1,11 @@
 use Rattle.std.proofs.Common.{◌≡◌, ◌∙◌, ap, sym, map, [], ◌∷◌, ◌++◌, append_assoc, append-nil, List}
 use Rattle.std.proofs.lemmas.List.{map-append}
 use Rattle.std.specs.Vec.Iter.{into_iter_items}
-use Rattle.rng_model.specs.SchemaView.{schema_component_of}
-use Rattle.rng_load.specs.FoundGrammars.{nested_in}
-use Rattle.rng_load.specs.GatheredComponents.{gathered_of}
-use Rattle.rng_load.specs.Places.{Gathered}
-use Rattle.rng_load.specs.ReadPatterns.{nested_of}
+use Rattle.rng_model.specs.views.SchemaView.{schema_component_of}
+use Rattle.rng_load.specs.plain.FoundGrammars.{nested_in}
+use Rattle.rng_load.specs.views.GatheredComponents.{gathered_of}
+use Rattle.rnc_model.specs.loading.Places.{Gathered}
+use Rattle.rng_load.specs.views.ReadPatterns.{nested_of}
 use Rattle.rng_load.proofs.PlacesApart.{nested_in_both}
 use Rattle.rng_load.proofs.schema_reader.parted.Goals as goal
 

@@ -1,9 +1,9 @@
 use Rattle.std.proofs.Common.{◌≡◌, ◌++◌, map}
 use Rattle.std.specs.Vec.Iter.{into_iter_items}
-use Rattle.rng_model.specs.SchemaView.{schema_component_of}
-use Rattle.rng_load.specs.FoundGrammars.{nested_in}
-use Rattle.rng_load.specs.GatheredComponents.{gathered_of}
-use Rattle.rng_load.specs.ReadPatterns.{nested_of}
+use Rattle.rng_model.specs.views.SchemaView.{schema_component_of}
+use Rattle.rng_load.specs.plain.FoundGrammars.{nested_in}
+use Rattle.rng_load.specs.views.GatheredComponents.{gathered_of}
+use Rattle.rng_load.specs.views.ReadPatterns.{nested_of}
 use Rattle.rng_load.proofs.schema_reader.parted.Given as goal
 
 abbrev pub invariant-loop-gathered : goal.invariant-loop-gathered

@@ -1,10 +1,10 @@
 use Rattle.std.proofs.Common.{◌≡◌, rules, map, []}
-use Rattle.rng_model.specs.SchemaView.{place_of}
-use Rattle.rnc_grammar.specs.View.{file_of}
-use Rattle.rng_load.specs.FilesView.{taken_files_of}
-use Rattle.rng_load.specs.GatheredComponents.{gathered_of}
-use Rattle.rng_load.specs.Loading.{tree_in}
-use Rattle.rng_load.specs.PlacedGrammars.{grammars_of}
+use Rattle.rng_model.specs.views.SchemaView.{place_of}
+use Rattle.rnc_grammar.specs.views.View.{file_of}
+use Rattle.rng_load.specs.views.FilesView.{taken_files_of}
+use Rattle.rng_load.specs.views.GatheredComponents.{gathered_of}
+use Rattle.rnc_model.specs.loading.Loading.{tree_in}
+use Rattle.rng_load.specs.views.PlacedGrammars.{grammars_of}
 use Rattle.rng_load.proofs.SchemaRead.{main_gathered, whole}
 use Rattle.rng_load.proofs.schema_reader.schema_of_files.Goals as goal
 

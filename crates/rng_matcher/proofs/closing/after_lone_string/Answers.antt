@@ -1,8 +1,8 @@
 use Rattle.std.proofs.Common.{subst, List, ℕ, OnOk}
-use Rattle.rng_matching.specs.LevelStates.{EndsWith}
-use Rattle.rng_matcher.specs.Levels.{AreEndsWith}
-use Rattle.rng_matcher.specs.States.{AddsState, EndsBy, EndsIf, state_of}
-use Rattle.rng_matcher.specs.Strings.{AddsHeld, IsHeld}
+use Rattle.rng_matching.specs.plain.LevelStates.{EndsWith}
+use Rattle.rng_matcher.specs.views.Levels.{AreEndsWith}
+use Rattle.rng_matcher.specs.views.States.{AddsState, EndsBy, EndsIf, state_of}
+use Rattle.rng_matcher.specs.views.Strings.{AddsHeld, IsHeld}
 use Rattle.rng_matcher.proofs.Numbers.{on_ok_weaker}
 use Rattle.rng_matcher.proofs.Positions.{ends_lone}
 use Rattle.rng_matcher.proofs.closing.after_lone_string.Goals as goal

@@ -1,6 +1,6 @@
 use Rattle.std.proofs.Common.{◌≡◌, ◌∙◌, ◌+◌, ◌-◌, arith, drop, length, subst, sym}
 use Rattle.std.proofs.lemmas.List.{drop_all}
-use Rattle.rng_matcher.specs.Levels.{AddsEnded}
+use Rattle.rng_matcher.specs.views.Levels.{AddsEnded}
 use Rattle.rng_matcher.proofs.Ending.{ends_at, no_ends, only_ended}
 use Rattle.rng_matcher.proofs.ends.ended.Goals as goal
 

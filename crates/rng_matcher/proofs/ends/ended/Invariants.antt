@@ -1,5 +1,5 @@
 use Rattle.std.proofs.Common.{◌≡◌, ◌≤◌, drop, length}
-use Rattle.rng_matcher.specs.Levels.{AddsEnded}
+use Rattle.rng_matcher.specs.views.Levels.{AddsEnded}
 use Rattle.rng_matcher.proofs.ends.ended.Given as goal
 
 abbrev pub invariant-links : goal.invariant-links

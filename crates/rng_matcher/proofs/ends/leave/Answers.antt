@@ -1,7 +1,7 @@
 use Rattle.std.proofs.Common.{rules, ◌≡◌, subst, sym, slice_get, slice_index_or, Some}
 use Rattle.std.proofs.lemmas.Option.{slice_get-get_or}
 use Rattle.rng_patterns.specs.declared.pattern.PatternNumber.{PatternNumber}
-use Rattle.rng_matcher.specs.Levels.{LeavesBy}
+use Rattle.rng_matcher.specs.views.Levels.{LeavesBy}
 use Rattle.rng_matcher.proofs.Ending.{leaves_rest}
 use Rattle.rng_matcher.proofs.Numbers.{set_lent}
 use Rattle.rng_matcher.proofs.ends.leave.Goals as goal

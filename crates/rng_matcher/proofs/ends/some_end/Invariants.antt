@@ -1,7 +1,7 @@
 use Rattle.std.proofs.Common.{◌≡◌, take, false}
 use Rattle.std.specs.List.{list_any}
-use Rattle.rng_matching.specs.Derivatives.{is_nullable}
-use Rattle.rng_matcher.specs.Numbers.{tree_of}
+use Rattle.rng_matching.specs.plain.Derivatives.{is_nullable}
+use Rattle.rng_matcher.specs.views.Numbers.{tree_of}
 use Rattle.rng_matcher.proofs.ends.some_end.Given as goal
 
 abbrev pub invariant-alternatives : goal.invariant-alternatives

@@ -1,7 +1,7 @@
 use Rattle.std.proofs.Common.{◌≡◌, ◌↔◌, map, take, true}
 use Rattle.std.specs.List.{AllZip}
-use Rattle.rng_matching.specs.LevelStates.{EndsNow}
-use Rattle.rng_matcher.specs.Numbers.{tree_of}
+use Rattle.rng_matching.specs.plain.LevelStates.{EndsNow}
+use Rattle.rng_matcher.specs.views.Numbers.{tree_of}
 use Rattle.rng_matcher.proofs.ends.which_end.Given as goal
 
 abbrev pub invariant-alternatives : goal.invariant-alternatives

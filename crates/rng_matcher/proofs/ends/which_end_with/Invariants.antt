@@ -1,5 +1,5 @@
 use Rattle.std.proofs.Common.{take}
-use Rattle.rng_matcher.specs.Levels.{AreEndsWith}
+use Rattle.rng_matcher.specs.views.Levels.{AreEndsWith}
 use Rattle.rng_matcher.proofs.ends.which_end_with.Given as goal
 
 abbrev pub invariant-alternatives : goal.invariant-alternatives

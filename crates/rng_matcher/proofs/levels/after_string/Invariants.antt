@@ -1,6 +1,6 @@
 use Rattle.std.proofs.Common.{◌≡◌, take}
-use Rattle.rng_matching.specs.LevelStates.{IsAfterText}
-use Rattle.rng_matcher.specs.Numbers.{AddsEach}
+use Rattle.rng_matching.specs.plain.LevelStates.{IsAfterText}
+use Rattle.rng_matcher.specs.views.Numbers.{AddsEach}
 use Rattle.rng_matcher.proofs.levels.after_string.Given as goal
 
 abbrev pub invariant-patterns : goal.invariant-patterns

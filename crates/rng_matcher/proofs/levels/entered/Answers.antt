@@ -1,6 +1,6 @@
 use Rattle.std.proofs.Common.{◌∙◌, map}
-use Rattle.rng_model.specs.View.{attribute_of}
-use Rattle.rng_matching.specs.LevelStates.{IsAfterTag}
+use Rattle.rng_model.specs.documents.DocumentViews.{attribute_of}
+use Rattle.rng_matching.specs.plain.LevelStates.{IsAfterTag}
 use Rattle.rng_matcher.proofs.Numbers.{each_at}
 use Rattle.rng_matcher.proofs.levels.entered.Goals as goal
 

@@ -1,7 +1,7 @@
 use Rattle.std.proofs.Common.{◌≡◌, map, take}
-use Rattle.rng_model.specs.View.{attribute_of}
-use Rattle.rng_matching.specs.LevelStates.{IsAfterTag}
-use Rattle.rng_matcher.specs.Numbers.{AddsEach}
+use Rattle.rng_model.specs.documents.DocumentViews.{attribute_of}
+use Rattle.rng_matching.specs.plain.LevelStates.{IsAfterTag}
+use Rattle.rng_matcher.specs.views.Numbers.{AddsEach}
 use Rattle.rng_matcher.proofs.levels.entered.Given as goal
 
 abbrev pub invariant-bodies : goal.invariant-bodies

@@ -1,5 +1,5 @@
 use Rattle.std.proofs.Common.{take}
-use Rattle.rng_matcher.specs.Levels.{AddsLinks}
+use Rattle.rng_matcher.specs.views.Levels.{AddsLinks}
 use Rattle.rng_matcher.proofs.links.add_links.Given as goal
 
 abbrev pub invariant-ways : goal.invariant-ways

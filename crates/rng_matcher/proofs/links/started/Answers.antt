@@ -1,6 +1,6 @@
 use Rattle.std.proofs.Common.{◌∙◌, subst}
-use Rattle.rng_model.specs.View.{name_of}
-use Rattle.rng_matcher.specs.Levels.{AddsLinks}
+use Rattle.rng_model.specs.names.NameViews.{name_of}
+use Rattle.rng_matcher.specs.views.Levels.{AddsLinks}
 use Rattle.rng_matcher.proofs.Opening.{opens_at}
 use Rattle.rng_matcher.proofs.links.started.Goals as goal
 

@@ -1,6 +1,6 @@
 use Rattle.std.proofs.Common.{◌≡◌, take}
-use Rattle.rng_model.specs.View.{name_of}
-use Rattle.rng_matcher.specs.Levels.{AddsOpened}
+use Rattle.rng_model.specs.names.NameViews.{name_of}
+use Rattle.rng_matcher.specs.views.Levels.{AddsOpened}
 use Rattle.rng_matcher.proofs.links.started.Given as goal
 
 abbrev pub invariant-alternatives : goal.invariant-alternatives

@@ -1,10 +1,10 @@
 use Rattle.std.proofs.Common.{refl, true, subst, List, ℕ, ◌∙◌}
-use Rattle.rng_model.specs.PyxTrees.{an_end}
-use Rattle.rng_matching.specs.LevelStates.{EndsNow, EndsWith}
-use Rattle.rng_matcher.specs.Positions.{AddsStep}
+use Rattle.rng_model.specs.documents.PyxTrees.{an_end}
+use Rattle.rng_matching.specs.plain.LevelStates.{EndsNow, EndsWith}
+use Rattle.rng_matcher.specs.views.Positions.{AddsStep}
 use Rattle.rng_matcher.specs.declared.position.Position.{Position}
-use Rattle.rng_matcher.specs.States.{AddsState, EndsIf, state_of}
-use Rattle.rng_matcher.specs.Strings.{IsHeld}
+use Rattle.rng_matcher.specs.views.States.{AddsState, EndsIf, state_of}
+use Rattle.rng_matcher.specs.views.Strings.{IsHeld}
 use Rattle.rng_matcher.proofs.Numbers.{on_ok_weaker}
 use Rattle.rng_matcher.proofs.Positions.{end_step, lone_step}
 use Rattle.rng_matcher.proofs.position.after_end.Goals as goal

@@ -1,5 +1,6 @@
 use Rattle.std.proofs.Common.{refl, false, map}
-use Rattle.rng_model.specs.View.{attribute_of, name_of}
+use Rattle.rng_model.specs.documents.DocumentViews.{attribute_of}
+use Rattle.rng_model.specs.names.NameViews.{name_of}
 use Rattle.rng_matcher.proofs.Positions.{starts_step}
 use Rattle.rng_matcher.proofs.position.after_start.Goals as goal
 

@@ -1,5 +1,5 @@
 use Rattle.std.proofs.Common.{◌≡◌, refl, subst, Some}
-use Rattle.rng_matcher.specs.Strings.{AddsHeld}
+use Rattle.rng_matcher.specs.views.Strings.{AddsHeld}
 use Rattle.rng_matcher.proofs.Positions.{string_step}
 use Rattle.rng_matcher.proofs.position.after_text.Goals as goal
 

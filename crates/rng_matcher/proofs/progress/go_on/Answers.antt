@@ -1,8 +1,8 @@
 use Rattle.std.proofs.Common.{◌≡◌, ◌∙◌, sym, subst, true, false, ◌++◌, ◌∷◌, []}
 use Rattle.std.specs.List.{list_all}
-use Rattle.rng_model.specs.EventView.{event_of}
-use Rattle.rng_matching.specs.Derivatives.{is_not_allowed}
-use Rattle.rng_matcher.specs.Numbers.{tree_of}
+use Rattle.rng_model.specs.documents.EventView.{event_of}
+use Rattle.rng_matching.specs.plain.Derivatives.{is_not_allowed}
+use Rattle.rng_matcher.specs.views.Numbers.{tree_of}
 use Rattle.rng_matcher.proofs.Knowing.{comes_on, fails}
 use Rattle.rng_matcher.proofs.Renewal.{come_renewed}
 use Rattle.rng_matcher.proofs.progress.go_on.Goals as goal

@@ -1,7 +1,7 @@
 use Rattle.std.proofs.Common.{◌≡◌, take, true}
 use Rattle.std.specs.List.{list_all}
-use Rattle.rng_matching.specs.Derivatives.{is_not_allowed}
-use Rattle.rng_matcher.specs.Numbers.{tree_of}
+use Rattle.rng_matching.specs.plain.Derivatives.{is_not_allowed}
+use Rattle.rng_matcher.specs.views.Numbers.{tree_of}
 use Rattle.rng_matcher.proofs.progress.is_hopeless.Given as goal
 
 abbrev pub invariant-alternatives : goal.invariant-alternatives

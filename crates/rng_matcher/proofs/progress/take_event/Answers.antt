@@ -1,6 +1,6 @@
 use Rattle.std.proofs.Common.{subst, sym}
-use Rattle.rng_model.specs.EventView.{event_of}
-use Rattle.rng_matcher.specs.Positions.{AddsProgress, IsKnown}
+use Rattle.rng_model.specs.documents.EventView.{event_of}
+use Rattle.rng_matcher.specs.views.Positions.{AddsProgress, IsKnown}
 use Rattle.rng_matcher.proofs.Knowing.{fails_on}
 use Rattle.rng_matcher.proofs.progress.take_event.Goals as goal
 

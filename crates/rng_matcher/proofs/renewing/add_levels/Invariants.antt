@@ -1,5 +1,5 @@
 use Rattle.std.proofs.Common.{◌≡◌, ◌++◌, take}
-use Rattle.rng_matcher.specs.Renewal.{rests_in}
+use Rattle.rng_matcher.specs.views.Renewal.{rests_in}
 use Rattle.rng_matcher.proofs.renewing.add_levels.Given as goal
 
 abbrev pub invariant-levels : goal.invariant-levels

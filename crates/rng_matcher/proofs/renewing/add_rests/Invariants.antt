@@ -1,5 +1,5 @@
 use Rattle.std.proofs.Common.{◌≡◌, ◌++◌, take}
-use Rattle.rng_matcher.specs.Renewal.{rests_of}
+use Rattle.rng_matcher.specs.views.Renewal.{rests_of}
 use Rattle.rng_matcher.proofs.renewing.add_rests.Given as goal
 
 abbrev pub invariant-links : goal.invariant-links

@@ -1,5 +1,5 @@
 use Rattle.std.proofs.Common.{◌≡◌, length, take}
-use Rattle.rng_matcher.specs.Renewal.{with_rests}
+use Rattle.rng_matcher.specs.views.Renewal.{with_rests}
 use Rattle.rng_matcher.proofs.renewing.put_rests.Given as goal
 
 abbrev pub invariant-rests : goal.invariant-rests

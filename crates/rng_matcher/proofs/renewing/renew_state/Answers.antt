@@ -1,5 +1,5 @@
 use Rattle.std.proofs.Common.{subst, All, rules}
-use Rattle.rng_matcher.specs.Numbers.{IsInside}
+use Rattle.rng_matcher.specs.views.Numbers.{IsInside}
 use Rattle.rng_matcher.proofs.Renewal.{held_inside, state_renewed}
 use Rattle.rng_matcher.proofs.renewing.renew_state.Goals as goal
 

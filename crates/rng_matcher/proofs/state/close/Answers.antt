@@ -1,5 +1,5 @@
 use Rattle.std.proofs.Common.{subst}
-use Rattle.rng_matcher.specs.Levels.{AddsEnded}
+use Rattle.rng_matcher.specs.views.Levels.{AddsEnded}
 use Rattle.rng_matcher.proofs.Stepping.{ends}
 use Rattle.rng_matcher.proofs.state.close.Goals as goal
 

@@ -1,8 +1,9 @@
 use Rattle.std.proofs.Common.{rules, map, subst}
-use Rattle.rng_model.specs.View.{attribute_of, name_of}
-use Rattle.rng_matching.specs.LevelStates.{IsAfterTag}
-use Rattle.rng_matcher.specs.Levels.{AddsOpened}
-use Rattle.rng_matcher.specs.Numbers.{AddsEach}
+use Rattle.rng_model.specs.documents.DocumentViews.{attribute_of}
+use Rattle.rng_model.specs.names.NameViews.{name_of}
+use Rattle.rng_matching.specs.plain.LevelStates.{IsAfterTag}
+use Rattle.rng_matcher.specs.views.Levels.{AddsOpened}
+use Rattle.rng_matcher.specs.views.Numbers.{AddsEach}
 use Rattle.rng_matcher.proofs.Stepping.{enters}
 use Rattle.rng_matcher.proofs.state.enter.Goals as goal
 

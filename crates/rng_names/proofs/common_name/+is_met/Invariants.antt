@@ -1,7 +1,7 @@
 use Rattle.std.proofs.Common.{◌≡◌, take, false}
 use Rattle.std.specs.List.{list_any}
-use Rattle.rng_model.specs.View.{class_of}
-use Rattle.rng_names.specs.Written.{both_hold, is_met}
+use Rattle.rng_model.specs.names.NameViews.{class_of}
+use Rattle.rng_names.specs.plain.Written.{both_hold, is_met}
 use Rattle.rng_names.proofs.common_name.+is_met.Given as goal
 
 -- the test passes for no member so far

@@ -1,6 +1,6 @@
 use Rattle.std.proofs.Common.{sym, ◌∙◌}
-use Rattle.rng_model.specs.View.{class_of}
-use Rattle.rng_names.specs.Holding.{pair}
+use Rattle.rng_model.specs.names.NameViews.{class_of}
+use Rattle.rng_names.specs.plain.Holding.{pair}
 use Rattle.rng_names.proofs.Holding.{holds-Decides}
 use Rattle.rng_names.proofs.common_name.both_hold_fresh.Goals as goal
 

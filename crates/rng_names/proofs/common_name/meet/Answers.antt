@@ -1,7 +1,7 @@
 use Rattle.std.proofs.Common.{◌≡◌, false, sym, ◌∙◌, rules}
-use Rattle.rng_model.specs.View.{class_of}
-use Rattle.rng_names.specs.Holding.{pair}
-use Rattle.rng_names.specs.Written.{both_hold, is_met}
+use Rattle.rng_model.specs.names.NameViews.{class_of}
+use Rattle.rng_names.specs.plain.Holding.{pair}
+use Rattle.rng_names.specs.plain.Written.{both_hold, is_met}
 use Rattle.rng_names.proofs.Fresh.{none_is_found}
 use Rattle.rng_names.proofs.common_name.meet.Goals as goal
 

@@ -1,5 +1,5 @@
 use Rattle.std.proofs.Common.{rules}
-use Rattle.rng_model.specs.View.{class_of, name_of}
+use Rattle.rng_model.specs.names.NameViews.{class_of, name_of}
 use Rattle.rng_names.proofs.PlainNames.{plain_common, plain_apart, swapped}
 use Rattle.rng_names.proofs.Views.{are_texts, name_class_is}
 use Rattle.rng_names.proofs.common_name.overlap.Goals as goal

@@ -1,7 +1,7 @@
 use Rattle.std.proofs.Common.{◌≡◌, take, false}
 use Rattle.std.specs.List.{list_any}
-use Rattle.rng_model.specs.View.{class_of}
-use Rattle.rng_names.specs.Holding.{holds, pair}
+use Rattle.rng_model.specs.names.NameViews.{class_of}
+use Rattle.rng_names.specs.plain.Holding.{holds, pair}
 use Rattle.rng_names.proofs.membership.+holds.Given as goal
 
 -- no member so far holds the name

@@ -1,7 +1,7 @@
 use Rattle.std.proofs.Common.{◌≡◌, rules}
 use Rattle.std.proofs.lemmas.Bool.Decides.{Decides-at}
-use Rattle.rng_model.specs.View.{class_of, name_of}
-use Rattle.rng_names.specs.Holding.{holds}
+use Rattle.rng_model.specs.names.NameViews.{class_of, name_of}
+use Rattle.rng_names.specs.plain.Holding.{holds}
 use Rattle.rng_names.proofs.Holding.{holds-Decides}
 use Rattle.rng_names.proofs.membership.contains.Goals as goal
 

@@ -1,8 +1,8 @@
 use Rattle.std.proofs.Common.{◌≡◌, map, ap, sym, ◌∙◌, arith}
 use Rattle.std.proofs.lemmas.List.{take_all}
-use Rattle.rng_model.specs.Names.{some_of}
-use Rattle.rng_model.specs.View.{class_of}
-use Rattle.rng_names.specs.Written.{longest}
+use Rattle.rng_model.specs.names.Names.{some_of}
+use Rattle.rng_model.specs.names.NameViews.{class_of}
+use Rattle.rng_names.specs.plain.Written.{longest}
 use Rattle.rng_names.proofs.Choices.{longest-members, longest_among}
 use Rattle.rng_names.proofs.Views.{choice_is}
 use Rattle.rng_names.proofs.written.+longest.Goals as goal

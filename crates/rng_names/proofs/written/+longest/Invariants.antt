@@ -1,6 +1,6 @@
 use Rattle.std.proofs.Common.{◌≡◌, take, fold, max}
-use Rattle.rng_model.specs.View.{class_of}
-use Rattle.rng_names.specs.Written.{longest}
+use Rattle.rng_model.specs.names.NameViews.{class_of}
+use Rattle.rng_names.specs.plain.Written.{longest}
 use Rattle.rng_names.proofs.written.+longest.Given as goal
 
 -- the longest text of the members so far

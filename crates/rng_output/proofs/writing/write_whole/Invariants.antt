@@ -1,6 +1,6 @@
 use Rattle.std.proofs.Common.{◌≡◌, ◌≤◌, ◌-◌, length, take}
 use Rattle.std.specs.Io.KnownBytes.{Appends}
-use Rattle.rng_model.specs.Device.{device_inner, device_failures, device_taken}
+use Rattle.rng_model.specs.devices.Device.{device_inner, device_failures, device_taken}
 use Rattle.rng_output.proofs.writing.write_whole.Given as goal
 
 abbrev pub invariant-pieces : goal.invariant-pieces

@@ -1,5 +1,5 @@
 use Rattle.std.proofs.Common.{◌≡◌, map, take}
-use Rattle.rng_patterns.specs.Selecting.{given_for}
+use Rattle.rng_patterns.specs.plain.Selecting.{given_for}
 use Rattle.rng_patterns.proofs.selecting.all_given.Given as goal
 
 abbrev pub invariant-loop-number : goal.invariant-loop-number

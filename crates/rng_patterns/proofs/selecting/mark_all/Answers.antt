@@ -1,6 +1,6 @@
 use Rattle.std.proofs.Common.{[], ◌∷◌, true, get_or, set, subst, sym, arith}
 use Rattle.std.proofs.lemmas.List.{map_more}
-use Rattle.rng_patterns.specs.Selecting.{Marks}
+use Rattle.rng_patterns.specs.plain.Selecting.{Marks}
 use Rattle.rng_patterns.proofs.Marking.{one_marked, then_marked}
 use Rattle.rng_patterns.proofs.selecting.mark_all.Goals as goal
 

@@ -1,5 +1,5 @@
 use Rattle.std.proofs.Common.{map, take}
-use Rattle.rng_patterns.specs.Selecting.{Marks}
+use Rattle.rng_patterns.specs.plain.Selecting.{Marks}
 use Rattle.rng_patterns.proofs.selecting.mark_all.Given as goal
 
 abbrev pub invariant-loop-number : goal.invariant-loop-number

@@ -1,6 +1,6 @@
 use Rattle.std.proofs.Common.{◌<◌, All, List, length, subst, sym}
-use Rattle.rng_patterns.specs.Node.{node_of}
-use Rattle.rng_patterns.specs.PatternTable.{ArePartsBelow}
+use Rattle.rng_patterns.specs.views.Node.{node_of}
+use Rattle.rng_patterns.specs.views.PatternTable.{ArePartsBelow}
 use Rattle.rng_patterns.specs.declared.pattern.PatternNumber.{PatternNumber}
 use Rattle.rng_patterns.proofs.KnownFacts.{of_members}
 use Rattle.rng_patterns.proofs.selecting.renumbered.Goals as goal

@@ -1,6 +1,6 @@
 use Rattle.std.proofs.Common.{◌≡◌, ◌++◌, drop}
-use Rattle.rng_print.specs.PrintedText.{literal}
-use Rattle.rng_print.specs.Literals.{open_text}
+use Rattle.rncv_model.specs.printed.PrintedText.{literal}
+use Rattle.rng_print.specs.plain.Literals.{open_text}
 use Rattle.rng_print.proofs.literal.write_literal.Given as goal
 
 -- what is written, and what is still to be written for the other bytes

@@ -1,7 +1,7 @@
 use Rattle.std.proofs.Common.{◌∙◌, ap, map}
-use Rattle.rng_model.specs.Table.{grammar_of}
-use Rattle.rng_print.specs.Items.{item_at, items_seen}
-use Rattle.rng_print.specs.PrintedText.{lines, namespaces}
+use Rattle.rng_model.specs.simple.Table.{grammar_of}
+use Rattle.rng_print.specs.views.Items.{item_at, items_seen}
+use Rattle.rncv_model.specs.printed.PrintedText.{lines, namespaces}
 use Rattle.rng_print.proofs.LineTexts.{text_written}
 use Rattle.rng_print.proofs.printing.printed_text.Goals as goal
 

@@ -1,7 +1,7 @@
 use Rattle.std.proofs.Common.{ℕ, List}
-use Rattle.rng_load.specs.SchemaFile.{IsSchemaFile}
-use Rattle.rnc_grammar.specs.FileTree.{FileTree}
-use Rattle.rnc_printed.specs.ReadBack.{IsReadAs}
+use Rattle.rnc_model.specs.loading.SchemaFile.{IsSchemaFile}
+use Rattle.rnc_model.specs.declarations.FileTree.{FileTree}
+use Rattle.rnc_printed.specs.views.ReadBack.{IsReadAs}
 use Rattle.rng_printed_again.proofs.PrintedAgain.{answer_again, answer_alone}
 use Rattle.rng_printed_again.proofs.PrintedTwice.{printed_twice}
 use Rattle.rng_printed_again.proofs.laws.printed_again_laws.Goals as goal

@@ -1,6 +1,6 @@
 use Rattle.std.proofs.Common.{◌∙◌, ap}
-use Rattle.rng_rules.specs.Broken.{either_broken, start_broken}
-use Rattle.rng_rules.specs.Facts.{facts_of}
+use Rattle.rng_rules.specs.plain.Broken.{either_broken, start_broken}
+use Rattle.rng_rules.specs.plain.Facts.{facts_of}
 use Rattle.rng_rules.proofs.Bodies.{parts_more}
 use Rattle.rng_rules.proofs.FactsOver.{fact_at}
 use Rattle.rng_rules.proofs.broken.broken_by_parts.Goals as goal

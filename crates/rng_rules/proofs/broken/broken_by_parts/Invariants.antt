@@ -1,8 +1,8 @@
 use Rattle.std.proofs.Common.{◌≡◌, ℕ, map, take}
-use Rattle.rng_model.specs.Tree.{Simple}
+use Rattle.rng_model.specs.simple.Tree.{Simple}
 use Rattle.rng_model.specs.declared.simple.PatternId.{PatternId}
-use Rattle.rng_rules.specs.Broken.{parts_broken}
-use Rattle.rng_rules.specs.Facts.{HasFacts, facts_of}
+use Rattle.rng_rules.specs.plain.Broken.{parts_broken}
+use Rattle.rng_rules.specs.plain.Facts.{HasFacts, facts_of}
 use Rattle.rng_rules.proofs.broken.broken_by_parts.Given as goal
 
 abbrev pub invariant-bodies : goal.invariant-bodies

@@ -1,8 +1,8 @@
 use Rattle.std.proofs.Common.{◌≡◌, ◌<◌, length, ap, sym, ◌∙◌, arith, subst}
 use Rattle.std.proofs.lemmas.Option.{slice_get_within}
-use Rattle.rng_model.specs.Table.{tree_at}
+use Rattle.rng_model.specs.simple.Table.{tree_at}
 use Rattle.rng_model.specs.declared.simple.PatternId.{PatternId}
-use Rattle.rng_rules.specs.Facts.{HasFacts, facts_of}
+use Rattle.rng_rules.specs.plain.Facts.{HasFacts, facts_of}
 use Rattle.rng_rules.proofs.FactsOver.{has_more}
 use Rattle.rng_rules.proofs.facts.facts_of.Goals as goal
 

@@ -1,6 +1,6 @@
 use Rattle.std.proofs.Common.{◌-◌, ◌≤◌, length}
-use Rattle.rng_model.specs.Table.{tree_at}
-use Rattle.rng_rules.specs.Facts.{HasFacts}
+use Rattle.rng_model.specs.simple.Table.{tree_at}
+use Rattle.rng_rules.specs.plain.Facts.{HasFacts}
 use Rattle.rng_rules.proofs.facts.facts_of.Given as goal
 
 abbrev pub invariant-patterns : goal.invariant-patterns

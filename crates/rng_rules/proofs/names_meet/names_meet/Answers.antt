@@ -1,15 +1,15 @@
 use Rattle.std.proofs.Common.{◌≡◌, refl, sym, subst, ℕ, ◌<◌, Bool, true, false, IsTrue, IsFalse, [], length, map, slice_index_or, Contains, vec_items, arith}
 use Rattle.std.proofs.lemmas.List.{length-map}
-use Rattle.rng_model.specs.Restrictions.{IsPart}
-use Rattle.rng_model.specs.Table.{Table, grammar_of}
-use Rattle.rng_model.specs.Tree as tree
+use Rattle.rng_model.specs.restrictions.Restrictions.{IsPart}
+use Rattle.rng_model.specs.simple.Table.{Table, grammar_of}
+use Rattle.rng_model.specs.simple.Tree as tree
 use Rattle.rng_model.specs.declared.name.NameClass.{NameClass}
-use Rattle.rng_names.specs.PlainNames.{IsPlain}
+use Rattle.rng_names.specs.views.PlainNames.{IsPlain}
 use Rattle.rng_rules.specs.declared.names_meet.NamesOf.{NamesOf}
-use Rattle.rng_rules.specs.NamesMeetLabels.{AreGroups, label_of, plain_name_of}
-use Rattle.rng_rules.specs.NamesMeetReach.{AreBelow, lists}
-use Rattle.rng_rules.specs.NamesMeetSearch.{Breaks, Meeting}
-use Rattle.rng_rules.specs.NamesMeetSides.{MeetBetween}
+use Rattle.rng_rules.specs.views.NamesMeetLabels.{AreGroups, label_of, plain_name_of}
+use Rattle.rng_rules.specs.plain.NamesMeetReach.{AreBelow, lists}
+use Rattle.rng_rules.specs.views.NamesMeetSearch.{Breaks, Meeting}
+use Rattle.rng_rules.specs.views.NamesMeetSides.{MeetBetween}
 use Rattle.rng_rules.proofs.NamesMeetAnswers.{group_meeting, groups_inside, labelled_inside, none_meet}
 use Rattle.rng_rules.proofs.NamesMeetBreaches.{breaks_meeting, meeting_breaks}
 use Rattle.rng_rules.proofs.NamesMeetSearch.{if_ok}

@@ -1,6 +1,6 @@
 use Rattle.std.proofs.Common.{◌≡◌, ◌↔◌, ◌++◌, ◌∷◌, [], ap, sym, ◌∙◌, subst, ℕ, Contains, slice_index_or, vec_items}
 use Rattle.std.proofs.lemmas.List.{map_push}
-use Rattle.rng_rules.specs.NamesMeetReach.{lists}
+use Rattle.rng_rules.specs.plain.NamesMeetReach.{lists}
 use Rattle.rng_rules.proofs.NamesMeetTables.{in_longer}
 use Rattle.rng_rules.proofs.names_meet_groups.make_room.Goals as goal
 

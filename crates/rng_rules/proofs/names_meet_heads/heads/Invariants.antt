@@ -1,5 +1,5 @@
 use Rattle.std.proofs.Common.{◌≡◌, ◌≤◌, length}
-use Rattle.rng_rules.specs.NamesMeetHeads.{AreHeadsFrom}
+use Rattle.rng_rules.specs.views.NamesMeetHeads.{AreHeadsFrom}
 use Rattle.rng_rules.proofs.names_meet_heads.heads.Given as goal
 
 abbrev pub invariant-rows : goal.invariant-rows

@@ -1,6 +1,6 @@
 use Rattle.std.proofs.Common.{subst, ◌≡◌, ◌++◌, map, arith}
-use Rattle.rng_rules.specs.NamesMeetLabels.{judged_class, label_list, label_of}
-use Rattle.rng_rules.specs.NamesMeetReach.{lists}
+use Rattle.rng_rules.specs.views.NamesMeetLabels.{judged_class, label_list, label_of}
+use Rattle.rng_rules.specs.plain.NamesMeetReach.{lists}
 use Rattle.rng_rules.proofs.NamesMeetGroups.{labels_more, labels_all}
 use Rattle.rng_rules.proofs.names_meet_labels.labels.Goals as goal
 

@@ -1,6 +1,6 @@
 use Rattle.std.proofs.Common.{◌≡◌, ◌↔◌, ◌<◌, ℕ, Some, Contains, map}
 use Rattle.rng_model.specs.declared.name.NameClass.{NameClass}
-use Rattle.rng_rules.specs.NamesMeetLabels.{judged_class, label_of}
+use Rattle.rng_rules.specs.views.NamesMeetLabels.{judged_class, label_of}
 use Rattle.rng_rules.proofs.names_meet_labels.labels.Given as goal
 
 abbrev pub invariant-loop-row : goal.invariant-loop-row

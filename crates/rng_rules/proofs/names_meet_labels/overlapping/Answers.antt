@@ -1,7 +1,7 @@
 use Rattle.std.proofs.Common.{map, take, arith}
 use Rattle.std.proofs.lemmas.List.{length-map}
-use Rattle.rng_model.specs.View.{class_of}
-use Rattle.rng_rules.specs.NamesMeetLabels.{label_of}
+use Rattle.rng_model.specs.names.NameViews.{class_of}
+use Rattle.rng_rules.specs.views.NamesMeetLabels.{label_of}
 use Rattle.rng_rules.proofs.NamesMeetGroups.{overlapping_more, overlapping_all, taken}
 use Rattle.rng_rules.proofs.names_meet_labels.overlapping.Goals as goal
 

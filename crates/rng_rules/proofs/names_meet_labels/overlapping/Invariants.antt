@@ -1,8 +1,8 @@
 use Rattle.std.proofs.Common.{◌↔◌, ℕ, Contains, map, take}
-use Rattle.rng_model.specs.Names.{Overlap}
-use Rattle.rng_model.specs.View.{class_of}
+use Rattle.rng_model.specs.names.Names.{Overlap}
+use Rattle.rng_model.specs.names.NameViews.{class_of}
 use Rattle.rng_model.specs.declared.name.NameClass.{NameClass}
-use Rattle.rng_rules.specs.NamesMeetLabels.{label_of}
+use Rattle.rng_rules.specs.views.NamesMeetLabels.{label_of}
 use Rattle.rng_rules.proofs.names_meet_labels.overlapping.Given as goal
 
 abbrev pub invariant-loop-label : goal.invariant-loop-label

@@ -1,6 +1,6 @@
 use Rattle.std.proofs.Common.{sym, subst, ◌∙◌, take}
 use Rattle.std.proofs.lemmas.List.{take_more}
-use Rattle.rng_rules.specs.NamesMeetReach.{Adds}
+use Rattle.rng_rules.specs.plain.NamesMeetReach.{Adds}
 use Rattle.rng_rules.proofs.NamesMeetQueues.{adds_then}
 use Rattle.rng_rules.proofs.names_meet_reach.add.Goals as goal
 

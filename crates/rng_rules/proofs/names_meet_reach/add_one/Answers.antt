@@ -1,5 +1,5 @@
 use Rattle.std.proofs.Common.{rules, ◌≡◌, ◌≢◌, sym, subst, [], ◌∷◌, ◌++◌, set, refl}
-use Rattle.rng_rules.specs.NamesMeetReach.{IsMarked}
+use Rattle.rng_rules.specs.plain.NamesMeetReach.{IsMarked}
 use Rattle.rng_rules.proofs.NamesMeetQueues.{one_marked, adds_there, read_at}
 use Rattle.rng_rules.proofs.names_meet_reach.add_one.Goals as goal
 

@@ -1,5 +1,5 @@
 use Rattle.std.proofs.Common.{rules, ◌≡◌, sym, subst, ◌∙◌, ℕ, ◌<◌, [], length, slice_get, slice_index_or, All, Some, refl, arith}
-use Rattle.rng_rules.specs.NamesMeetReach.{Adds, IsMarked, lists}
+use Rattle.rng_rules.specs.plain.NamesMeetReach.{Adds, IsMarked, lists}
 use Rattle.rng_rules.proofs.NamesMeetQueues.{nothing_marked, queue_begins, queue_goes, below_more, queue_is_done, read_at, All-from_contains}
 use Rattle.rng_rules.proofs.names_meet_reach.reach.Goals as goal
 

@@ -1,7 +1,7 @@
 use Rattle.std.proofs.Common.{rules, ◌≡◌, ◌⊎◌, ◌↔◌, ℕ, Contains, slice_index_or, ◌+◌, ◌∷◌, ◌++◌, [], ap, sym, ◌∙◌, subst, length, length-append, Some, slice_get, vec_items, arith}
 use Rattle.std.proofs.lemmas.List.{map_push, length-map}
-use Rattle.rng_rules.specs.NamesMeetReach.{lists}
-use Rattle.rng_rules.specs.NamesMeetRows.{passed}
+use Rattle.rng_rules.specs.plain.NamesMeetReach.{lists}
+use Rattle.rng_rules.specs.views.NamesMeetRows.{passed}
 use Rattle.rng_rules.proofs.NamesMeetTables.{IsAboveOfFirst, above_more, above_all}
 use Rattle.rng_rules.proofs.names_meet_rows.above.Goals as goal
 

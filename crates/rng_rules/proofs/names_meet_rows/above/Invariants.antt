@@ -1,5 +1,5 @@
 use Rattle.std.proofs.Common.{◌-◌, length}
-use Rattle.rng_rules.specs.NamesMeetReach.{lists}
+use Rattle.rng_rules.specs.plain.NamesMeetReach.{lists}
 use Rattle.rng_rules.proofs.NamesMeetTables.{IsAboveOfFirst}
 use Rattle.rng_rules.proofs.names_meet_rows.above.Given as goal
 

@@ -1,6 +1,6 @@
 use Rattle.std.proofs.Common.{◌≡◌, ◌⊎◌, ◌↔◌, ◌∷◌, ◌++◌, [], ap, sym, ◌∙◌, subst, ℕ, set, get_or, slice_set, slice_index_or, Contains, vec_items, arith}
 use Rattle.std.proofs.lemmas.List.{map-set, get_or-map, length-map}
-use Rattle.rng_rules.specs.NamesMeetReach.{lists}
+use Rattle.rng_rules.specs.plain.NamesMeetReach.{lists}
 use Rattle.rng_rules.proofs.NamesMeetTables.{row_added}
 use Rattle.rng_rules.proofs.names_meet_rows.add_above.Goals as goal
 

@@ -1,6 +1,6 @@
 use Rattle.std.proofs.Common.{rules, ◌≡◌, ◌∷◌, [], slice_index_or, Contains}
-use Rattle.rng_rules.specs.NamesMeetReach.{lists}
-use Rattle.rng_rules.specs.NamesMeetRows.{passed}
+use Rattle.rng_rules.specs.plain.NamesMeetReach.{lists}
+use Rattle.rng_rules.specs.views.NamesMeetRows.{passed}
 use Rattle.rng_rules.proofs.NamesMeetTables.{on_ok, one_passed, two_passed}
 use Rattle.rng_rules.proofs.names_meet_rows.add_row.Goals as goal
 

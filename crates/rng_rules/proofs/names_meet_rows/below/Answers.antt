@@ -1,7 +1,7 @@
 use Rattle.std.proofs.Common.{rules, ◌≡◌, ◌∷◌, ◌++◌, [], ap, sym, ◌∙◌, length, map, take, None, Some, slice_get, vec_items}
 use Rattle.std.proofs.lemmas.List.{map_push, length-map}
-use Rattle.rng_rules.specs.NamesMeetReach.{lists}
-use Rattle.rng_rules.specs.NamesMeetRows.{children}
+use Rattle.rng_rules.specs.plain.NamesMeetReach.{lists}
+use Rattle.rng_rules.specs.views.NamesMeetRows.{children}
 use Rattle.rng_model.proofs.MadeLists.{made_more, made_all}
 use Rattle.rng_rules.proofs.names_meet_rows.below.Goals as goal
 

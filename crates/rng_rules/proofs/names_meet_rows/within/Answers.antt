@@ -1,7 +1,7 @@
 use Rattle.std.proofs.Common.{◌≡◌, ◌↔◌, ◌<◌, [], ap, sym, ◌∙◌, subst, ℕ, length, map, slice_get, slice_index_or, Some, All, vec_items, arith}
 use Rattle.std.proofs.lemmas.List.{length-map}
-use Rattle.rng_rules.specs.NamesMeetReach.{AreBelow, IsReachedBy, lists}
-use Rattle.rng_rules.specs.NamesMeetRows.{children}
+use Rattle.rng_rules.specs.plain.NamesMeetReach.{AreBelow, IsReachedBy, lists}
+use Rattle.rng_rules.specs.views.NamesMeetRows.{children}
 use Rattle.rng_rules.proofs.NamesMeetQueues.{All-from_contains, some_at}
 use Rattle.rng_rules.proofs.NamesMeetTables.{children_in_table}
 use Rattle.rng_rules.proofs.names_meet_rows.within.Goals as goal

@@ -1,6 +1,6 @@
 use Rattle.std.proofs.Common.{rules, sym, ◌∙◌, ap, subst, ◌+◌, true≢false, length}
-use Rattle.rng_rules.specs.NamesMeetReach.{lists}
-use Rattle.rng_rules.specs.NamesMeetSides.{MeetBetween}
+use Rattle.rng_rules.specs.plain.NamesMeetReach.{lists}
+use Rattle.rng_rules.specs.views.NamesMeetSides.{MeetBetween}
 use Rattle.rng_rules.proofs.NamesMeetSearch.{group_at, group_below, none_more}
 use Rattle.rng_rules.proofs.names_meet_search.groups_meet.Goals as goal
 

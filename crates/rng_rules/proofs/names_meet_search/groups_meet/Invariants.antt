@@ -1,6 +1,6 @@
 use Rattle.std.proofs.Common.{◌≡◌, ◌<◌, ◌+◌, ℕ, [], length, slice_index_or}
-use Rattle.rng_rules.specs.NamesMeetReach.{lists}
-use Rattle.rng_rules.specs.NamesMeetSides.{AreMarks, MeetBetween}
+use Rattle.rng_rules.specs.plain.NamesMeetReach.{lists}
+use Rattle.rng_rules.specs.views.NamesMeetSides.{AreMarks, MeetBetween}
 use Rattle.rng_rules.proofs.names_meet_search.groups_meet.Given as goal
 
 abbrev pub invariant-loop-group : goal.invariant-loop-group

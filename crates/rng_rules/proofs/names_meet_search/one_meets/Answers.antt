@@ -1,7 +1,7 @@
 use Rattle.std.proofs.Common.{rules, ◌≡◌, ◌∷◌, [], sym, subst, ℕ, ◌<◌, length, map, Contains, All}
 use Rattle.rng_model.specs.declared.name.NameClass.{NameClass}
-use Rattle.rng_names.specs.PlainNames.{IsPlain}
-use Rattle.rng_rules.specs.NamesMeetLabels.{label_of}
+use Rattle.rng_names.specs.views.PlainNames.{IsPlain}
+use Rattle.rng_rules.specs.views.NamesMeetLabels.{label_of}
 use Rattle.rng_rules.proofs.NamesMeetQueues.{All-from_contains, one_only}
 use Rattle.rng_rules.proofs.NamesMeetSearch.{if_ok, meeting_of, no_meeting}
 use Rattle.rng_rules.proofs.names_meet_search.one_meets.Goals as goal

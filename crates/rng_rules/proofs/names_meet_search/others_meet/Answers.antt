@@ -1,6 +1,6 @@
 use Rattle.std.proofs.Common.{◌+◌, sym, ap, subst, map, take, arith, Contains}
 use Rattle.std.proofs.lemmas.List.{length-map, take_all}
-use Rattle.rng_rules.specs.NamesMeetLabels.{label_of}
+use Rattle.rng_rules.specs.views.NamesMeetLabels.{label_of}
 use Rattle.rng_rules.proofs.NamesMeetGroups.{taken}
 use Rattle.rng_rules.proofs.NamesMeetSearch.{plain_more}
 use Rattle.rng_rules.proofs.names_meet_search.others_meet.Goals as goal

@@ -1,9 +1,9 @@
 use Rattle.std.proofs.Common.{◌≡◌, ◌+◌, length, map, take, Contains}
-use Rattle.rng_names.specs.PlainNames.{IsPlain}
-use Rattle.rng_rules.specs.NamesMeetLabels.{label_of}
-use Rattle.rng_rules.specs.NamesMeetReach.{lists}
-use Rattle.rng_rules.specs.NamesMeetSearch.{Meeting}
-use Rattle.rng_rules.specs.NamesMeetSides.{AreMarks}
+use Rattle.rng_names.specs.views.PlainNames.{IsPlain}
+use Rattle.rng_rules.specs.views.NamesMeetLabels.{label_of}
+use Rattle.rng_rules.specs.plain.NamesMeetReach.{lists}
+use Rattle.rng_rules.specs.views.NamesMeetSearch.{Meeting}
+use Rattle.rng_rules.specs.views.NamesMeetSides.{AreMarks}
 use Rattle.rng_rules.proofs.names_meet_search.others_meet.Given as goal
 
 abbrev pub invariant-loop-label : goal.invariant-loop-label

@@ -1,6 +1,6 @@
-use Rattle.rng_model.specs.Restrictions.{BreaksAttributeNames, BreaksElementNames, ClassIn}
-use Rattle.rng_model.specs.Table.{grammar_of}
-use Rattle.rng_rules.specs.Broken.{IsIntactBelow}
+use Rattle.rng_model.specs.restrictions.Restrictions.{BreaksAttributeNames, BreaksElementNames, ClassIn}
+use Rattle.rng_model.specs.simple.Table.{grammar_of}
+use Rattle.rng_rules.specs.plain.Broken.{IsIntactBelow}
 use Rattle.rng_rules.proofs.BrokenClauses as clauses
 use Rattle.rng_rules.proofs.restrictions.first_broken.Goals as goal
 

@@ -1,7 +1,7 @@
 use Rattle.std.proofs.Common.{◌≡◌, take, false}
 use Rattle.std.specs.List.{list_any}
-use Rattle.rng_model.specs.View.{class_of}
-use Rattle.rng_rules.specs.Facts.{has_wildcard}
+use Rattle.rng_model.specs.names.NameViews.{class_of}
+use Rattle.rng_rules.specs.plain.Facts.{has_wildcard}
 use Rattle.rng_rules.proofs.wildcard.+has_wildcard.Given as goal
 
 -- no member so far has one

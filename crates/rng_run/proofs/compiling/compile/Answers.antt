@@ -1,5 +1,5 @@
-use Rattle.rng_model.specs.Table.{grammar_of}
-use Rattle.rng_run.specs.Run.{breaks_clause, has_form, is_good}
+use Rattle.rng_model.specs.simple.Table.{grammar_of}
+use Rattle.rncv_model.specs.answers.Run.{breaks_clause, has_form, is_good}
 use Rattle.rng_run.proofs.compiling.compile.Goals as goal
 
 pub returns-in-Err-Clause : goal.returns-in-Err-Clause

@@ -1,6 +1,6 @@
 use Rattle.std.proofs.lemmas.Result.{err_from_is_err_and}
-use Rattle.rng_load.specs.PlacedGrammars.{schema_of}
-use Rattle.rng_model.specs.Table.{grammar_of}
+use Rattle.rng_load.specs.views.PlacedGrammars.{schema_of}
+use Rattle.rng_model.specs.simple.Table.{grammar_of}
 use Rattle.rng_run.proofs.GoodSchemas.{schema_fault, restriction_fault, none_broken}
 use Rattle.rng_run.proofs.compiling.good_grammar.Goals as goal
 

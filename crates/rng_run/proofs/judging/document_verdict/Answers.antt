@@ -1,9 +1,9 @@
 use Rattle.std.proofs.Common.{Err, IsErrOf, ap, subst}
-use Rattle.rng_matcher.specs.Positions.{IsKnown}
-use Rattle.rng_matcher.specs.declared.outcome.Outcome.TheVariants as outcome
-use Rattle.rng_patterns.specs.Trees.{trees}
-use Rattle.rng_ways.specs.Kinds.{reading_of}
-use Rattle.rng_run.specs.Documents.{IsFaultOfInput}
+use Rattle.rng_matcher.specs.views.Positions.{IsKnown}
+use Rattle.rng_model.specs.declared.outcome.Outcome.TheVariants as outcome
+use Rattle.rng_patterns.specs.views.Trees.{trees}
+use Rattle.rng_model.specs.matching.GrammarReading.{reading_of}
+use Rattle.rng_run.specs.views.TakenDocuments.{IsFaultOfInput}
 use Rattle.rng_run.specs.declared.judging.JudgeFault.TheVariants as judging
 use Rattle.rng_run.proofs.DocumentVerdict.{fault_judged, in_each_case, matcher_judged, no_failed_read}
 use Rattle.rng_run.proofs.judging.document_verdict.Goals as goal

@@ -1,17 +1,17 @@
 use Rattle.std.proofs.Common.{ℕ, List, Option, subst}
-use Rattle.rng_model.specs.DatatypeTests.{text_tests}
-use Rattle.rng_model.specs.Schema.{Schema}
-use Rattle.rng_model.specs.Table.{Table, grammar_of, IsValidBy}
-use Rattle.rng_model.specs.Texts.{texts_of}
-use Rattle.rng_load.specs.PlacedGrammars.{schema_of}
-use Rattle.rng_run.specs.Answer.{judged}
-use Rattle.rng_run.specs.Compiled.{IsCompiled}
-use Rattle.rng_run.specs.Judging.{IsUnknownTo}
-use Rattle.rng_run.specs.Run.{IsAnswerBy, document_is_judged, schema_is_told}
-use Rattle.rng_run.specs.Verdict.{IsJudgedBy}
-use Rattle.rng_run.specs.declared.answer.Verdict.{Verdict}
+use Rattle.rng_model.specs.datatypes.DatatypeTests.{text_tests}
+use Rattle.rng_model.specs.schema.Schema.{Schema}
+use Rattle.rng_model.specs.simple.Table.{Table, grammar_of, IsValidBy}
+use Rattle.rng_model.specs.datatypes.Texts.{texts_of}
+use Rattle.rng_load.specs.views.PlacedGrammars.{schema_of}
+use Rattle.rncv_model.specs.answers.Answer.{judged}
+use Rattle.rng_run.specs.plain.Compiled.{IsCompiled}
+use Rattle.rng_run.specs.plain.Judging.{IsUnknownTo}
+use Rattle.rncv_model.specs.answers.Run.{IsAnswerBy, document_is_judged, schema_is_told}
+use Rattle.rncv_model.specs.answers.Verdict.{IsJudgedBy}
+use Rattle.rncv_model.specs.declared.verdict.Verdict.{Verdict}
 use Rattle.rng_run.specs.declared.compiling.Compiled.TheVariants as compiled
-use Rattle.rng_run.specs.declared.running.Command.{Command}
+use Rattle.rncv_model.specs.declared.command.Command.{Command}
 use Rattle.rng_run.proofs.DocumentVerdict.{same_judged}
 use Rattle.rng_run.proofs.UnknownNames.{unknown_to_grammar}
 use Rattle.rng_run.proofs.running.answer_by.Goals as goal

@@ -1,4 +1,4 @@
-use Rattle.rng_load.specs.PlacedGrammars.{schema_of}
+use Rattle.rng_load.specs.views.PlacedGrammars.{schema_of}
 use Rattle.rng_run.proofs.LoadedSchemas.{judges_none, loaded_answer}
 use Rattle.rng_run.proofs.running.answer_for.Goals as goal
 

@@ -1,6 +1,6 @@
 use Rattle.std.proofs.Common.{◌≡◌, ◌≤◌, ◌-◌, ◌^◌, length}
-use Rattle.rng_model.specs.Device.{device_inner, device_failures, device_taken}
-use Rattle.pyx.specs.View.{Hands}
+use Rattle.rng_model.specs.devices.Device.{device_inner, device_failures, device_taken}
+use Rattle.rng_model.specs.documents.Handing.{Hands}
 use Rattle.rng_run.proofs.Documents.{IsBegun}
 use Rattle.rng_run.proofs.streams.take_document.Given as goal
 

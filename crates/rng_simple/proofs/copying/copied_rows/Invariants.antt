@@ -1,5 +1,5 @@
-use Rattle.rng_simple.specs.Copying.{AreCopied}
-use Rattle.rng_simple.specs.RowTable.{finished_labels}
+use Rattle.rng_simple.specs.plain.Copying.{AreCopied}
+use Rattle.rng_simple.specs.views.RowTable.{finished_labels}
 use Rattle.rng_simple.proofs.copying.copied_rows.Given as goal
 
 abbrev pub invariant-rows : goal.invariant-rows

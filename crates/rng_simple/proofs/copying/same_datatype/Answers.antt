@@ -1,6 +1,6 @@
 use Rattle.std.proofs.Common.{◌≡◌, ◌<◌, ◌++◌, ◌∷◌, [], ap, ap₂, sym, ◌∙◌, map, get_or, length, rules, arith}
 use Rattle.std.proofs.lemmas.List.{map_push}
-use Rattle.rng_model.specs.Types.{parameter_of}
+use Rattle.rng_model.specs.datatypes.DatatypeViews.{parameter_of}
 use Rattle.rng_simple.proofs.MappedLists.{taken}
 use Rattle.rng_simple.proofs.copying.same_datatype.Goals as goal
 

@@ -1,5 +1,5 @@
 use Rattle.std.proofs.Common.{◌≡◌, map, take}
-use Rattle.rng_model.specs.Types.{parameter_of}
+use Rattle.rng_model.specs.datatypes.DatatypeViews.{parameter_of}
 use Rattle.rng_simple.proofs.copying.same_datatype.Given as goal
 
 abbrev pub invariant-parameters : goal.invariant-parameters

@@ -1,5 +1,5 @@
 use Rattle.std.proofs.Common.{◌∙◌, ap, sym, map, slice_get}
-use Rattle.rng_simple.specs.LabelCodes.{part_of}
+use Rattle.rng_simple.specs.plain.LabelCodes.{part_of}
 use Rattle.rng_simple.proofs.LabelCodes.{code_at, codes_apart, not_put}
 use Rattle.rng_simple.proofs.label_codes.place_of_code.Goals as goal
 

@@ -1,7 +1,7 @@
 use Rattle.std.proofs.Common.{◌≡◌, ◌∷◌, ◌++◌, [], ap, sym, ◌∙◌, map, drop, ◌+◌}
 use Rattle.std.proofs.lemmas.List.{drop_all, drop_more}
-use Rattle.rng_model.specs.Types.{parameter_of}
-use Rattle.rng_simple.specs.LabelCodes.{parameters_code, part_of, text}
+use Rattle.rng_model.specs.datatypes.DatatypeViews.{parameter_of}
+use Rattle.rng_simple.specs.plain.LabelCodes.{parameters_code, part_of, text}
 use Rattle.rng_simple.proofs.LabelCodes.{parameter_goes_on, parameters_end}
 use Rattle.rng_simple.proofs.label_codes.put_datatype.Goals as goal
 

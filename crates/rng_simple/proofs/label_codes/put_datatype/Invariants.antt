@@ -1,6 +1,6 @@
 use Rattle.std.proofs.Common.{◌≡◌, ◌++◌, map, drop}
-use Rattle.rng_model.specs.Types.{datatype_of, parameter_of}
-use Rattle.rng_simple.specs.LabelCodes.{datatype_code, parameters_code, part_of}
+use Rattle.rng_model.specs.datatypes.DatatypeViews.{datatype_of, parameter_of}
+use Rattle.rng_simple.specs.plain.LabelCodes.{datatype_code, parameters_code, part_of}
 use Rattle.rng_simple.proofs.label_codes.put_datatype.Given as goal
 
 abbrev pub invariant-parameters : goal.invariant-parameters

@@ -1,6 +1,6 @@
 use Rattle.std.proofs.Common.{◌++◌, ◌∷◌, [], ap, ap₂, sym, ◌∙◌, map, vec_items}
 use Rattle.std.proofs.lemmas.List.{map_push, get_or_default}
-use Rattle.rng_simple.specs.RowReach.{content_of, nexts}
+use Rattle.rng_simple.specs.plain.RowReach.{content_of, nexts}
 use Rattle.rng_simple.proofs.MappedLists.{taken}
 use Rattle.rng_simple.proofs.reaching.next_rows.Goals as goal
 

@@ -1,5 +1,5 @@
 use Rattle.std.proofs.Common.{rules, ◌≡◌, sym, subst, slice_get, length, Some, None, [], ◌∷◌, ◌++◌}
-use Rattle.rng_simple.specs.RowIndex.{IsIndex, number_of_row}
+use Rattle.rng_simple.specs.views.RowIndex.{IsIndex, number_of_row}
 use Rattle.rng_simple.proofs.RowIndex.{index_more, last_of}
 use Rattle.rng_simple.proofs.rows.number.Goals as goal
 

@@ -1,6 +1,6 @@
 use Rattle.std.proofs.Common.{◌<◌, ◌++◌, ◌∷◌, [], ap, sym, ◌∙◌, map, get_or, length, arith}
 use Rattle.std.proofs.lemmas.List.{map_push}
-use Rattle.rng_model.specs.View.{class_of}
+use Rattle.rng_model.specs.names.NameViews.{class_of}
 use Rattle.rng_simple.proofs.MappedLists.{taken}
 use Rattle.rng_simple.proofs.schema_form.element_classes.Goals as goal
 

@@ -1,6 +1,6 @@
 use Rattle.std.proofs.Common.{map, take}
-use Rattle.rng_model.specs.View.{class_of}
-use Rattle.rng_simple.specs.GrammarElements.{AreElementCopies}
+use Rattle.rng_model.specs.names.NameViews.{class_of}
+use Rattle.rng_simple.specs.views.GrammarElements.{AreElementCopies}
 use Rattle.rng_simple.proofs.schema_form.grammar_elements.Given as goal
 
 abbrev pub invariant-listed : goal.invariant-listed

@@ -1,15 +1,15 @@
 use Rattle.std.proofs.Common.{◌≡◌, ◌↔◌, ◌<◌, ◌∷◌, [], ap, sym, ◌∙◌, subst, ℕ, length, map, slice_get, slice_index_or, Some, true}
-use Rattle.rng_model.specs.View.{class_of}
-use Rattle.rng_graph.specs.Graph.{IsFilledBy}
-use Rattle.rng_graph.specs.GraphView.{classes_of, graph_of}
-use Rattle.rng_simple.specs.Copying.{AreCopied}
-use Rattle.rng_simple.specs.GrammarBy.{content_simple, spot_simple}
-use Rattle.rng_simple.specs.RowReach.{row_next, content_of}
-use Rattle.rng_simple.specs.RowTable.{finished_labels, labels_of, tree_of}
-use Rattle.rng_simple.specs.Rows.{AreDistinctRows, AreRows}
-use Rattle.rng_simple.specs.SimpleParts.{AreRowsBelow, values_in}
-use Rattle.rng_simple.specs.SimplifiedSchema.{IsMadeTable}
-use Rattle.rng_simple.specs.Worklist.{IsReachedBy}
+use Rattle.rng_model.specs.names.NameViews.{class_of}
+use Rattle.rng_graph.specs.plain.Graph.{IsFilledBy}
+use Rattle.rng_graph.specs.views.GraphView.{classes_of, graph_of}
+use Rattle.rng_simple.specs.plain.Copying.{AreCopied}
+use Rattle.rng_simple.specs.plain.GrammarBy.{content_simple, spot_simple}
+use Rattle.rng_simple.specs.plain.RowReach.{row_next, content_of}
+use Rattle.rng_simple.specs.views.RowTable.{finished_labels, labels_of, tree_of}
+use Rattle.rng_simple.specs.views.Rows.{AreDistinctRows, AreRows}
+use Rattle.rng_simple.specs.plain.SimpleParts.{AreRowsBelow, values_in}
+use Rattle.rng_simple.specs.plain.MadeTable.{IsMadeTable}
+use Rattle.rng_simple.specs.plain.Worklist.{IsReachedBy}
 use Rattle.rng_simple.proofs.GrammarElements.{copies_as}
 use Rattle.rng_simple.proofs.MadeGrammar.{closed, is_table, is_simple, is_made}
 use Rattle.rng_simple.proofs.RowCopies.{index_apart}

@@ -1,8 +1,8 @@
 use Rattle.std.proofs.Common.{arith}
 use Rattle.std.proofs.lemmas.Result.{err_from_is_err_and}
-use Rattle.rng_load.specs.PlacedGrammars.{schema_of}
-use Rattle.rng_model.specs.Table.{grammar_of}
-use Rattle.rng_model.specs.SchemaClauses.{in_datatype}
+use Rattle.rng_load.specs.views.PlacedGrammars.{schema_of}
+use Rattle.rng_model.specs.simple.Table.{grammar_of}
+use Rattle.rng_model.specs.schema.SchemaClauses.{in_datatype}
 use Rattle.rng_simple.proofs.KnownDatatypes.{grammar_known}
 use Rattle.rng_simple.proofs.SchemaDocuments.{same_documents}
 use Rattle.rng_simple.proofs.SimplifiedSchemas.{component_fault, expansion_fault, is_ready, none_is_broken}

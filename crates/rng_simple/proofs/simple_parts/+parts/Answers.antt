@@ -1,13 +1,13 @@
 use Rattle.std.proofs.Common.{◌+◌, ap, ap₂, sym, ◌∙◌, map, drop}
 use Rattle.std.proofs.lemmas.Result.{IfOk-weaker}
-use Rattle.rng_model.specs.Types.{datatype_of}
-use Rattle.rng_model.specs.View.{class_of}
-use Rattle.rng_graph.specs.GraphView.{graph_pattern_of}
+use Rattle.rng_model.specs.datatypes.DatatypeViews.{datatype_of}
+use Rattle.rng_model.specs.names.NameViews.{class_of}
+use Rattle.rng_graph.specs.views.GraphView.{graph_pattern_of}
 use Rattle.rng_graph.proofs.Views.{attribute_view, list_view, data_except_view, mixed_view, optional_view, zero_or_more_view, one_or_more_view}
-use Rattle.rng_simple.specs.GrammarBy.{spot_simple}
-use Rattle.rng_simple.specs.Joining.{connector_of}
-use Rattle.rng_simple.specs.SimpleOf.{some_of, join}
-use Rattle.rng_simple.specs.SimpleParts.{joined_simple, values_in}
+use Rattle.rng_simple.specs.plain.GrammarBy.{spot_simple}
+use Rattle.rng_simple.specs.views.Joining.{connector_of}
+use Rattle.rng_simple.specs.plain.SimpleOf.{some_of, join}
+use Rattle.rng_simple.specs.plain.SimpleParts.{joined_simple, values_in}
 use Rattle.rng_simple.proofs.SimpleParts.{all_joined, next_joined, next_is, empty_pattern_is, attribute_is, list_is, except_is, mixed_is, optional_is}
 use Rattle.rng_simple.proofs.SimpleParts.{zero_or_more_is, one_or_more_is}
 use Rattle.rng_simple.proofs.SimpleParts.{empty_is, grown_twice, values_stay}

@@ -1,9 +1,9 @@
 use Rattle.std.proofs.Common.{◌≡◌, ◌<◌, map, drop}
-use Rattle.rng_graph.specs.GraphView.{graph_pattern_of, members}
-use Rattle.rng_simple.specs.GrammarBy.{spot_simple}
-use Rattle.rng_simple.specs.Joining.{connector_of}
-use Rattle.rng_simple.specs.RowTable.{IsGrown, row_count, tree_of}
-use Rattle.rng_simple.specs.SimpleParts.{joined_simple, values_in}
+use Rattle.rng_graph.specs.views.GraphView.{graph_pattern_of, members}
+use Rattle.rng_simple.specs.plain.GrammarBy.{spot_simple}
+use Rattle.rng_simple.specs.views.Joining.{connector_of}
+use Rattle.rng_simple.specs.views.RowTable.{IsGrown, row_count, tree_of}
+use Rattle.rng_simple.specs.plain.SimpleParts.{joined_simple, values_in}
 use Rattle.rng_simple.proofs.simple_parts.+parts.Given as goal
 
 abbrev pub invariant-simple_members-loop-member : goal.invariant-simple_members-loop-member

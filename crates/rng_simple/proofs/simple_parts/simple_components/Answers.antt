@@ -1,11 +1,11 @@
 use Rattle.std.proofs.Common.{ap, sym, ◌∙◌, map, arith}
 use Rattle.std.proofs.lemmas.List.{length-map}
 use Rattle.std.proofs.lemmas.Result.{IfOk-weaker}
-use Rattle.rng_graph.specs.GraphView.{graph_pattern_of, combined}
+use Rattle.rng_graph.specs.views.GraphView.{graph_pattern_of, combined}
 use Rattle.rng_graph.proofs.SearchSteps.{none_there}
-use Rattle.rng_simple.specs.GrammarBy.{spot_simple}
-use Rattle.rng_simple.specs.Joining.{connector_of}
-use Rattle.rng_simple.specs.SimpleParts.{values_in}
+use Rattle.rng_simple.specs.plain.GrammarBy.{spot_simple}
+use Rattle.rng_simple.specs.views.Joining.{connector_of}
+use Rattle.rng_simple.specs.plain.SimpleParts.{values_in}
 use Rattle.rng_simple.proofs.SimpleParts.{components_are, no_component_is}
 use Rattle.rng_simple.proofs.simple_parts.simple_components.Goals as goal
 

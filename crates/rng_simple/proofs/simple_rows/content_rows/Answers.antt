@@ -1,11 +1,11 @@
 use Rattle.std.proofs.Common.{◌≡◌, ◌<◌, inl, inr, [], ◌∷◌, ◌∙◌, ap, sym, length, get_or, length-append, arith}
 use Rattle.std.proofs.lemmas.Bool.{cases_lt}
 use Rattle.std.proofs.lemmas.List.{length-map, get_or-map}
-use Rattle.rng_model.specs.Tree.{empty}
-use Rattle.rng_graph.specs.GraphView.{graph_pattern_of, graph_of}
-use Rattle.rng_simple.specs.GrammarBy.{spot_simple, content_simple}
-use Rattle.rng_simple.specs.RowTable.{tree_of}
-use Rattle.rng_simple.specs.SimpleParts.{values_in}
+use Rattle.rng_model.specs.simple.Tree.{empty}
+use Rattle.rng_graph.specs.views.GraphView.{graph_pattern_of, graph_of}
+use Rattle.rng_simple.specs.plain.GrammarBy.{spot_simple, content_simple}
+use Rattle.rng_simple.specs.views.RowTable.{tree_of}
+use Rattle.rng_simple.specs.plain.SimpleParts.{values_in}
 use Rattle.rng_simple.proofs.SimpleParts.{grown_twice, values_stay}
 use Rattle.rng_simple.proofs.SimpleRows.{push_below, contents_next, contents_past}
 use Rattle.rng_simple.proofs.simple_rows.content_rows.Goals as goal

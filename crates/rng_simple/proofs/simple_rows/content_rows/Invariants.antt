@@ -1,8 +1,8 @@
 use Rattle.std.proofs.Common.{◌≡◌, ◌<◌, ℕ, length, slice_index_or}
-use Rattle.rng_graph.specs.GraphView.{graph_of}
-use Rattle.rng_simple.specs.GrammarBy.{content_simple}
-use Rattle.rng_simple.specs.RowTable.{IsGrown, row_count, tree_of}
-use Rattle.rng_simple.specs.SimpleParts.{AreRowsBelow, values_in}
+use Rattle.rng_graph.specs.views.GraphView.{graph_of}
+use Rattle.rng_simple.specs.plain.GrammarBy.{content_simple}
+use Rattle.rng_simple.specs.views.RowTable.{IsGrown, row_count, tree_of}
+use Rattle.rng_simple.specs.plain.SimpleParts.{AreRowsBelow, values_in}
 use Rattle.rng_simple.proofs.simple_rows.content_rows.Given as goal
 
 abbrev pub invariant-elements : goal.invariant-elements

@@ -1,12 +1,12 @@
 use Rattle.std.proofs.Common.{◌≡◌, ◌<◌, ◌∙◌, ap, subst, length, get_or, arith, refl}
 use Rattle.std.proofs.lemmas.List.{length-map, length-set, take_all}
-use Rattle.rng_graph.specs.Graph.{IsFilledBy}
-use Rattle.rng_graph.specs.GraphView.{graph_body_of, graph_of}
+use Rattle.rng_graph.specs.plain.Graph.{IsFilledBy}
+use Rattle.rng_graph.specs.views.GraphView.{graph_body_of, graph_of}
 use Rattle.rng_graph.proofs.Parts.{map_at}
 use Rattle.rng_graph.proofs.Parts.{read_at}
-use Rattle.rng_simple.specs.GrammarBy.{spot_simple}
-use Rattle.rng_simple.specs.RowTable.{tree_of}
-use Rattle.rng_simple.specs.SimpleParts.{values_in}
+use Rattle.rng_simple.specs.plain.GrammarBy.{spot_simple}
+use Rattle.rng_simple.specs.views.RowTable.{tree_of}
+use Rattle.rng_simple.specs.plain.SimpleParts.{values_in}
 use Rattle.rng_simple.proofs.SimpleParts.{grown_twice}
 use Rattle.rng_simple.proofs.SimpleRows.{set_below, filled_next}
 use Rattle.rng_simple.proofs.simple_rows.definition_rows.Goals as goal

@@ -1,9 +1,9 @@
 use Rattle.std.proofs.Common.{◌≡◌, length, take}
-use Rattle.rng_graph.specs.Graph.{IsFilledBy}
-use Rattle.rng_graph.specs.GraphView.{graph_of}
-use Rattle.rng_simple.specs.GrammarBy.{spot_simple}
-use Rattle.rng_simple.specs.RowTable.{IsGrown, row_count}
-use Rattle.rng_simple.specs.SimpleParts.{AreRowsBelow, values_in}
+use Rattle.rng_graph.specs.plain.Graph.{IsFilledBy}
+use Rattle.rng_graph.specs.views.GraphView.{graph_of}
+use Rattle.rng_simple.specs.plain.GrammarBy.{spot_simple}
+use Rattle.rng_simple.specs.views.RowTable.{IsGrown, row_count}
+use Rattle.rng_simple.specs.plain.SimpleParts.{AreRowsBelow, values_in}
 use Rattle.rng_simple.proofs.simple_rows.definition_rows.Given as goal
 
 abbrev pub invariant-loop-j : goal.invariant-loop-j

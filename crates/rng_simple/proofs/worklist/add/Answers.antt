@@ -1,6 +1,6 @@
 use Rattle.std.proofs.Common.{sym, subst, ◌∙◌, take}
 use Rattle.std.proofs.lemmas.List.{take_more}
-use Rattle.rng_simple.specs.Worklist.{Adds}
+use Rattle.rng_simple.specs.plain.Worklist.{Adds}
 use Rattle.rng_simple.proofs.Marks.{adds_then}
 use Rattle.rng_simple.proofs.worklist.add.Goals as goal
 

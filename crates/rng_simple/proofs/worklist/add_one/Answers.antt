@@ -1,5 +1,5 @@
 use Rattle.std.proofs.Common.{rules, ◌≡◌, sym, subst, true, false, [], ◌∷◌, ◌++◌, set}
-use Rattle.rng_simple.specs.Worklist.{IsMarked}
+use Rattle.rng_simple.specs.plain.Worklist.{IsMarked}
 use Rattle.rng_simple.proofs.Marks.{one_marked, adds_there}
 use Rattle.rng_graph.proofs.Parts.{read_at}
 use Rattle.rng_simple.proofs.worklist.add_one.Goals as goal

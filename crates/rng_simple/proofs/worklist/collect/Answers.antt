@@ -1,7 +1,7 @@
 use Rattle.std.proofs.Common.{rules, ◌≡◌, sym, subst, ◌∙◌, ℕ, ◌<◌, [], length, slice_get, slice_index_or, All, Some, vec_items, refl, arith}
 use Rattle.std.proofs.lemmas.List.{length-map}
-use Rattle.rng_graph.specs.Search.{lists}
-use Rattle.rng_simple.specs.Worklist.{Adds}
+use Rattle.rng_graph.specs.plain.Search.{lists}
+use Rattle.rng_simple.specs.plain.Worklist.{Adds}
 use Rattle.rng_simple.proofs.Marks.{queue_begins, queue_goes, below_more, queue_is_done, queue_is_short}
 use Rattle.rng_simple.proofs.Queues.{All-from_contains}
 use Rattle.rng_graph.proofs.Parts.{read_at}

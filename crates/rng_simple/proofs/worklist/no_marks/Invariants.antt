@@ -1,5 +1,5 @@
 use Rattle.std.proofs.Common.{◌≡◌, [], length}
-use Rattle.rng_simple.specs.Worklist.{IsMarked}
+use Rattle.rng_simple.specs.plain.Worklist.{IsMarked}
 use Rattle.rng_simple.proofs.worklist.no_marks.Given as goal
 
 abbrev pub invariant-loop-k : goal.invariant-loop-k

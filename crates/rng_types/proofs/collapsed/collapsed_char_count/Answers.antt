@@ -1,5 +1,5 @@
 use Rattle.std.proofs.Common.{rules, sym, ◌∙◌}
-use Rattle.rng_model.specs.Blanks.{pieces_left}
+use Rattle.rng_model.specs.views.PiecesView.{pieces_left}
 use Rattle.rng_types.proofs.OnePiece.{collapse-empty, length-collapse, count_fits}
 use Rattle.rng_types.proofs.collapsed.collapsed_char_count.Goals as goal
 

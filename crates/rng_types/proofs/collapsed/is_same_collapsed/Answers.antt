@@ -1,7 +1,8 @@
 use Rattle.std.proofs.Common.{◌≡◌, ◌∙◌, refl, ap}
 use Rattle.std.specs.Str.{bytes_eq}
 use Rattle.std.proofs.lemmas.Iterator.Consumers.{YieldsList-from_first}
-use Rattle.rng_model.specs.Blanks.{pieces, pieces_left}
+use Rattle.rng_model.specs.datatypes.Blanks.{pieces}
+use Rattle.rng_model.specs.views.PiecesView.{pieces_left}
 use Rattle.rng_types.proofs.OnePiece.{pieces_decide}
 use Rattle.rng_types.proofs.SameItems.{eq_from_yields_List}
 use Rattle.rng_types.proofs.collapsed.is_same_collapsed.Goals as goal

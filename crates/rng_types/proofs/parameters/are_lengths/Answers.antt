@@ -2,8 +2,8 @@ use Rattle.std.proofs.Common.{rules, tests, sym, ◌∙◌}
 use Rattle.std.proofs.lemmas.Iterator.{YieldsList-from_slice}
 use Rattle.std.proofs.lemmas.Iterator.Search.{all_from_yields_List}
 use Rattle.std.proofs.lemmas.List.Folds.{list_all-map}
-use Rattle.rng_model.specs.Types.{parameter_of}
-use Rattle.rng_model.specs.DatatypeTests.{is_length}
+use Rattle.rng_model.specs.datatypes.DatatypeViews.{parameter_of}
+use Rattle.rng_model.specs.datatypes.DatatypeTests.{is_length}
 use Rattle.rng_types.proofs.parameters.are_lengths.Goals as goal
 
 pub returns : goal.returns

@@ -3,25 +3,26 @@ use Rattle.std.proofs.Common.{get_or, length, refl, sym, ap, subst, arith, rules
 use Rattle.std.proofs.lemmas.Option.{slice_get_within}
 use Rattle.std.proofs.Math.Seq.{take-suc}
 use Rattle.std.specs.String.{string_bytes}
-use Rattle.rng_model.specs.DatatypeTests.{known_equates}
-use Rattle.rng_model.specs.Table.{tree_at}
-use Rattle.rng_model.specs.Texts.{is_blank}
-use Rattle.rng_model.specs.Types.{datatype_of}
-use Rattle.rng_model.specs.Patterns.{without_parameters}
-use Rattle.rng_model.specs.View.{class_of, name_of}
+use Rattle.rng_model.specs.datatypes.DatatypeTests.{known_equates}
+use Rattle.rng_model.specs.simple.Table.{tree_at}
+use Rattle.rng_model.specs.datatypes.Texts.{is_blank}
+use Rattle.rng_model.specs.datatypes.DatatypeViews.{datatype_of}
+use Rattle.rng_model.specs.schema.Patterns.{without_parameters}
+use Rattle.rng_model.specs.names.NameViews.{class_of, name_of}
 use Rattle.rng_model.specs.declared.datatype.DatatypeValue.{DatatypeValue}
-use Rattle.rng_names.specs.Holding.{holds}
-use Rattle.rng_matching.specs.Derivatives.{is_excepted}
-use Rattle.rng_patterns.specs.Taking.{tree_by}
-use Rattle.rng_patterns.specs.Trees.{attribute_found, data_found, tree_of}
+use Rattle.rng_names.specs.plain.Holding.{holds}
+use Rattle.rng_matching.specs.plain.Derivatives.{is_excepted}
+use Rattle.rng_patterns.specs.views.Taking.{tree_by}
+use Rattle.rng_patterns.specs.views.Trees.{attribute_found, data_found, tree_of}
 use Rattle.rng_patterns.specs.declared.pattern.PatternNumber.{PatternNumber}
 use Rattle.rng_patterns.proofs.Choices.{if_ok}
 use Rattle.rng_patterns.proofs.Trees.{Longer-length, Longer-refl, Longer-trans, tree_stays}
-use Rattle.rng_ways.specs.After.{AreRests, TellsTaken}
-use Rattle.rng_ways.specs.Datatypes.{type_at}
-use Rattle.rng_ways.specs.Kinds.{Obeys, reading_of, rest_of_leaf}
+use Rattle.rng_ways.specs.plain.After.{AreRests, TellsTaken}
+use Rattle.rng_ways.specs.views.Datatypes.{type_at}
+use Rattle.rng_ways.specs.plain.Kinds.{Obeys, rest_of_leaf}
+use Rattle.rng_model.specs.matching.GrammarReading.{reading_of}
 use Rattle.rng_ways.specs.declared.way.Kind.TheVariants as kinds
-use Rattle.rng_ways.specs.Ways.{AreInside}
+use Rattle.rng_ways.specs.plain.Ways.{AreInside}
 use Rattle.rng_ways.specs.declared.way.First.TheVariants as firsts
 use Rattle.rng_ways.specs.declared.way.Place.TheVariants as places
 use Rattle.rng_ways.specs.declared.way.Way as numbered

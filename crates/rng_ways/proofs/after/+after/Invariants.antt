@@ -1,11 +1,12 @@
 use Rattle.std.proofs.Common.{◌+◌, ◌↔◌, ◌<◌, [], drop, length, take}
-use Rattle.rng_matching.specs.Taking.{Takes}
-use Rattle.rng_patterns.specs.PatternTable.{Longer}
-use Rattle.rng_patterns.specs.Taking.{tree_by}
-use Rattle.rng_patterns.specs.Trees.{tree_of}
-use Rattle.rng_ways.specs.After.{AreRests}
-use Rattle.rng_ways.specs.KnownWays.{AreAllKnown}
-use Rattle.rng_ways.specs.Kinds.{Obeys, reading_of}
+use Rattle.rng_matching.specs.plain.Taking.{Takes}
+use Rattle.rng_patterns.specs.views.PatternTable.{Longer}
+use Rattle.rng_patterns.specs.views.Taking.{tree_by}
+use Rattle.rng_patterns.specs.views.Trees.{tree_of}
+use Rattle.rng_ways.specs.plain.After.{AreRests}
+use Rattle.rng_ways.specs.views.KnownWays.{AreAllKnown}
+use Rattle.rng_ways.specs.plain.Kinds.{Obeys}
+use Rattle.rng_model.specs.matching.GrammarReading.{reading_of}
 use Rattle.rng_ways.specs.declared.way.First.TheVariants as firsts
 use Rattle.rng_ways.specs.declared.way.Place.TheVariants as places
 use Rattle.rng_ways.proofs.Behind.{rank}

@@ -1,5 +1,5 @@
 use Rattle.std.proofs.Common.{drop}
-use Rattle.rng_ways.specs.KnownWays.{AreAllKnown}
+use Rattle.rng_ways.specs.views.KnownWays.{AreAllKnown}
 use Rattle.rng_ways.proofs.Tags.{IsBehindSome}
 use Rattle.rng_ways.proofs.after.after_tag.Given as goal
 

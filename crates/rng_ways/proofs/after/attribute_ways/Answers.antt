@@ -1,10 +1,10 @@
 use Rattle.std.proofs.Common.{◌∙◌, refl, subst, sym}
-use Rattle.rng_model.specs.View.{name_of}
+use Rattle.rng_model.specs.names.NameViews.{name_of}
 use Rattle.rng_patterns.proofs.Choices.{if_ok}
 use Rattle.rng_patterns.proofs.Trees.{tree_stays}
-use Rattle.rng_ways.specs.KnownWays.{IsAttributeKind}
-use Rattle.rng_ways.specs.Takers.{AreSpansOf, IsTold}
-use Rattle.rng_ways.specs.Ways.{AreWaysOf}
+use Rattle.rng_ways.specs.views.KnownWays.{IsAttributeKind}
+use Rattle.rng_ways.specs.plain.Takers.{AreSpansOf, IsTold}
+use Rattle.rng_ways.specs.plain.Ways.{AreWaysOf}
 use Rattle.rng_ways.specs.declared.way.Kind.TheVariants as kinds
 use Rattle.rng_ways.proofs.AttributeTakers.{spans_longer}
 use Rattle.rng_ways.proofs.Closings.{both_ok}

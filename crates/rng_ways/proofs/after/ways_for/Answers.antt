@@ -1,8 +1,8 @@
 use Rattle.std.proofs.Common.{sym, subst, rules}
 use Rattle.rng_patterns.proofs.Choices.{if_ok}
-use Rattle.rng_patterns.specs.Trees.{tree_of}
-use Rattle.rng_ways.specs.After.{AreWaysFor}
-use Rattle.rng_ways.specs.KnownWays.{IsAttributeKind, IsElementKind}
+use Rattle.rng_patterns.specs.views.Trees.{tree_of}
+use Rattle.rng_ways.specs.plain.After.{AreWaysFor}
+use Rattle.rng_ways.specs.views.KnownWays.{IsAttributeKind, IsElementKind}
 use Rattle.rng_ways.proofs.Closings.{both_ok}
 use Rattle.rng_ways.proofs.AttributeTakers.{spans_longer}
 use Rattle.rng_ways.proofs.KnownRests.{rests_longer}

@@ -1,5 +1,5 @@
 use Rattle.std.proofs.Common.{rules, sym, subst}
-use Rattle.rng_ways.specs.Alike.{AreAlike}
+use Rattle.rng_ways.specs.plain.Alike.{AreAlike}
 use Rattle.rng_ways.proofs.LikeElements.{alike_more}
 use Rattle.rng_ways.proofs.alike.alike_elements.Goals as goal
 

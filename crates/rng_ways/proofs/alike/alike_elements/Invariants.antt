@@ -1,5 +1,5 @@
 use Rattle.std.proofs.Common.{◌≡◌, length}
-use Rattle.rng_ways.specs.Alike.{AreAlike}
+use Rattle.rng_ways.specs.plain.Alike.{AreAlike}
 use Rattle.rng_ways.proofs.alike.alike_elements.Given as goal
 
 abbrev pub invariant-elements : goal.invariant-elements

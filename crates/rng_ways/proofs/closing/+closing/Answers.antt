@@ -2,21 +2,21 @@ use Rattle.std.proofs.Common.{◌≡◌, ◌∙◌, ◌<◌, ◌+◌, ◌↔◌,
 use Rattle.std.proofs.lemmas.Bool.{not-false, not-true}
 use Rattle.std.proofs.Math.ListN.{get_or-map}
 use Rattle.std.proofs.lemmas.List.{length-map, take_all}
-use Rattle.rng_model.specs.Table.{Table}
-use Rattle.rng_model.specs.Document.{Attribute, Item}
-use Rattle.rng_matching.specs.Reading.{Reading}
-use Rattle.rng_matching.specs.Taking.{Takes}
-use Rattle.rng_matching.specs.Restricted.{HasTexts, MayBeListed}
-use Rattle.rng_matching.specs.Derivatives.{closed}
+use Rattle.rng_model.specs.simple.Table.{Table}
+use Rattle.rng_model.specs.matching.Document.{Attribute, Item}
+use Rattle.rng_model.specs.matching.Reading.{Reading}
+use Rattle.rng_matching.specs.plain.Taking.{Takes}
+use Rattle.rng_matching.specs.plain.Restricted.{HasTexts, MayBeListed}
+use Rattle.rng_matching.specs.plain.Derivatives.{closed}
 use Rattle.rng_matching.proofs.FreeForms.{choice_all}
-use Rattle.rng_patterns.specs.Reduced.{has_attribute}
-use Rattle.rng_patterns.specs.Choices.{SomeTakes}
-use Rattle.rng_patterns.specs.Trees.{choice_over, tree_of}
+use Rattle.rng_patterns.specs.plain.Reduced.{has_attribute}
+use Rattle.rng_patterns.specs.views.Choices.{SomeTakes}
+use Rattle.rng_patterns.specs.views.Trees.{choice_over, tree_of}
 use Rattle.rng_patterns.specs.declared.pattern.Facts.{Facts}
 use Rattle.rng_patterns.specs.declared.pattern.PatternNumber.{PatternNumber}
 use Rattle.rng_patterns.proofs.Choices.{if_ok}
 use Rattle.rng_patterns.proofs.Trees.{Longer-length, Longer-trans}
-use Rattle.rng_ways.specs.Closing.{IsBareOfAttributes}
+use Rattle.rng_ways.specs.plain.Closing.{IsBareOfAttributes}
 use Rattle.rng_ways.proofs.Bareness.{bare_there, closed_same}
 use Rattle.rng_ways.specs.declared.way.Joint.TheVariants as joints
 use Rattle.rng_ways.proofs.Closings.{both_closed, both_ok, choice_closed, copies_closed, inside_more, none_closed, takes_more, bare_more}

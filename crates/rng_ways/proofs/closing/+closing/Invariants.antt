@@ -1,16 +1,16 @@
 use Rattle.std.proofs.Common.{◌↔◌, ◌<◌, ◌+◌, ◌*◌, All, List, length, map, take}
-use Rattle.rng_model.specs.Document.{Attribute, Item}
-use Rattle.rng_model.specs.Table.{Table}
-use Rattle.rng_matching.specs.Reading.{Reading}
-use Rattle.rng_matching.specs.Taking.{Takes}
-use Rattle.rng_matching.specs.Restricted.{HasTexts, MayBeListed}
-use Rattle.rng_matching.specs.Derivatives.{closed}
+use Rattle.rng_model.specs.matching.Document.{Attribute, Item}
+use Rattle.rng_model.specs.simple.Table.{Table}
+use Rattle.rng_model.specs.matching.Reading.{Reading}
+use Rattle.rng_matching.specs.plain.Taking.{Takes}
+use Rattle.rng_matching.specs.plain.Restricted.{HasTexts, MayBeListed}
+use Rattle.rng_matching.specs.plain.Derivatives.{closed}
 use Rattle.rng_matching.proofs.FreeForms.{choice_all}
-use Rattle.rng_patterns.specs.Choices.{SomeTakes}
-use Rattle.rng_patterns.specs.PatternTable.{Longer}
-use Rattle.rng_patterns.specs.Trees.{tree_of}
-use Rattle.rng_ways.specs.Closing.{IsBareOfAttributes}
-use Rattle.rng_ways.specs.KnownRests.{AreRestsOf}
+use Rattle.rng_patterns.specs.views.Choices.{SomeTakes}
+use Rattle.rng_patterns.specs.views.PatternTable.{Longer}
+use Rattle.rng_patterns.specs.views.Trees.{tree_of}
+use Rattle.rng_ways.specs.plain.Closing.{IsBareOfAttributes}
+use Rattle.rng_ways.specs.views.KnownRests.{AreRestsOf}
 use Rattle.rng_ways.proofs.closing.+closing.Given as goal
 
 abbrev pub decreases-close : goal.decreases-close

@@ -1,5 +1,5 @@
 use Rattle.std.proofs.Common.{sym}
-use Rattle.rng_types.specs.View.{datatype_at}
+use Rattle.rng_types.specs.views.View.{datatype_at}
 use Rattle.rng_ways.proofs.KnownTypes.{no_type, type_is}
 use Rattle.rng_ways.proofs.datatypes.found.Goals as goal
 

@@ -1,5 +1,5 @@
 use Rattle.std.proofs.Common.{◌≡◌, ◌∙◌, ◌++◌, ◌∷◌, [], List, get_or, rules, subst, sym, take, true, false, ◌+◌}
-use Rattle.rng_ways.specs.FewerWays.{AreRepeated}
+use Rattle.rng_ways.specs.plain.FewerWays.{AreRepeated}
 use Rattle.rng_ways.specs.declared.way.Way.{Way}
 use Rattle.rng_ways.proofs.FewerWays.{one_dropped, one_repeated}
 use Rattle.rng_ways.proofs.Joining.{one_more_taken, way_to}

@@ -1,5 +1,5 @@
 use Rattle.std.proofs.Common.{take}
-use Rattle.rng_ways.specs.FewerWays.{AreRepeated}
+use Rattle.rng_ways.specs.plain.FewerWays.{AreRepeated}
 use Rattle.rng_ways.proofs.fewer_ways.repeated_ways.Given as goal
 
 abbrev pub invariant-copies : goal.invariant-copies

@@ -1,6 +1,6 @@
 use Rattle.std.proofs.Common.{◌≡◌, ◌++◌, ◌∷◌, [], List, IsTrue, get_or, rules, subst, sym, take, true, ◌+◌}
 use Rattle.std.proofs.lemmas.Bool.{not-false}
-use Rattle.rng_ways.specs.FewerWays.{AreUncovered}
+use Rattle.rng_ways.specs.plain.FewerWays.{AreUncovered}
 use Rattle.rng_ways.specs.declared.way.Way.{Way}
 use Rattle.rng_ways.proofs.FewerWays.{one_covered, one_left}
 use Rattle.rng_ways.proofs.Joining.{one_more_taken, way_to}

@@ -1,5 +1,5 @@
 use Rattle.std.proofs.Common.{take}
-use Rattle.rng_ways.specs.FewerWays.{AreUncovered}
+use Rattle.rng_ways.specs.plain.FewerWays.{AreUncovered}
 use Rattle.rng_ways.proofs.fewer_ways.uncovered.Given as goal
 
 abbrev pub invariant-seconds : goal.invariant-seconds

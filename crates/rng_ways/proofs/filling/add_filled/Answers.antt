@@ -1,10 +1,10 @@
 use Rattle.std.proofs.Common.{◌++◌, List, refl, ap, ◌∙◌, take}
 use Rattle.std.proofs.lemmas.List.{append_assoc, take_all}
-use Rattle.rng_matching.specs.Derivatives.{Way, behind}
-use Rattle.rng_model.specs.Table.{Table}
-use Rattle.rng_patterns.specs.Trees.{tree_of}
+use Rattle.rng_matching.specs.plain.Derivatives.{Way, behind}
+use Rattle.rng_model.specs.simple.Table.{Table}
+use Rattle.rng_patterns.specs.views.Trees.{tree_of}
 use Rattle.rng_patterns.proofs.Trees.{Longer-trans}
-use Rattle.rng_ways.specs.Ways.{filled, ways_by}
+use Rattle.rng_ways.specs.plain.Ways.{filled, ways_by}
 use Rattle.rng_ways.specs.declared.way.Way as numbered
 use Rattle.rng_ways.proofs.Adding.{filled_more, filled_stays}
 use Rattle.rng_ways.proofs.Standing.{stands_as, stands_longer, stands_then}

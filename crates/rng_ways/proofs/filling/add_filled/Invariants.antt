@@ -1,8 +1,8 @@
 use Rattle.std.proofs.Common.{◌++◌, take}
-use Rattle.rng_matching.specs.Derivatives.{behind}
-use Rattle.rng_patterns.specs.PatternTable.{Longer}
-use Rattle.rng_patterns.specs.Trees.{tree_of}
-use Rattle.rng_ways.specs.Ways.{StandFor, filled, ways_by}
+use Rattle.rng_matching.specs.plain.Derivatives.{behind}
+use Rattle.rng_patterns.specs.views.PatternTable.{Longer}
+use Rattle.rng_patterns.specs.views.Trees.{tree_of}
+use Rattle.rng_ways.specs.plain.Ways.{StandFor, filled, ways_by}
 use Rattle.rng_ways.proofs.filling.add_filled.Given as goal
 
 abbrev pub invariant-ways : goal.invariant-ways

@@ -1,7 +1,7 @@
 use Rattle.std.proofs.Common.{arith, length, ◌≡◌, ◌++◌, ◌∷◌, [], sym, ap, ◌∙◌, subst}
-use Rattle.rng_patterns.specs.Trees.{tree_of}
+use Rattle.rng_patterns.specs.views.Trees.{tree_of}
 use Rattle.rng_patterns.proofs.Taking.{choice_of_two}
-use Rattle.rng_ways.specs.Ways.{AreInside, StandFor, ways_by}
+use Rattle.rng_ways.specs.plain.Ways.{AreInside, StandFor, ways_by}
 use Rattle.rng_ways.proofs.Adding.{back_inside, joined_stands, nowhere_stands, two_below}
 use Rattle.rng_ways.proofs.filling.add_way.Goals as goal
 

@@ -1,6 +1,6 @@
 use Rattle.std.proofs.Common.{◌+◌, List, get_or, refl, subst, sym}
 use Rattle.std.proofs.lemmas.List.Elements.{Contains-get_or}
-use Rattle.rng_ways.specs.Ways.{AreRestsBehind}
+use Rattle.rng_ways.specs.plain.Ways.{AreRestsBehind}
 use Rattle.rng_ways.specs.declared.way.Way.{Way}
 use Rattle.rng_ways.proofs.Joining.{AreJoined, join_made, joined_stand, one_joined, rests_inside, way_to}
 use Rattle.rng_ways.proofs.filling.joined_ways.Goals as goal

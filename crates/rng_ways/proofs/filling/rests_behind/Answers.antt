@@ -1,6 +1,6 @@
 use Rattle.std.proofs.Common.{◌≡◌, ◌++◌, ◌∷◌, [], List, get_or, rules, subst, sym, take, ◌+◌}
 use Rattle.std.proofs.lemmas.List.{take_all}
-use Rattle.rng_ways.specs.Ways.{AreRestsBehind}
+use Rattle.rng_ways.specs.plain.Ways.{AreRestsBehind}
 use Rattle.rng_ways.specs.declared.way.Way.{Way}
 use Rattle.rng_ways.proofs.Joining.{none_behind, one_behind, one_more_taken, way_to}
 use Rattle.rng_ways.proofs.filling.rests_behind.Goals as goal

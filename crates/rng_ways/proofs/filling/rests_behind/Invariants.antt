@@ -1,5 +1,5 @@
 use Rattle.std.proofs.Common.{take}
-use Rattle.rng_ways.specs.Ways.{AreRestsBehind}
+use Rattle.rng_ways.specs.plain.Ways.{AreRestsBehind}
 use Rattle.rng_ways.proofs.filling.rests_behind.Given as goal
 
 abbrev pub invariant-ways : goal.invariant-ways

@@ -1,8 +1,9 @@
 use Rattle.std.proofs.Common.{◌∙◌, ap, sym, Some, slice_get}
-use Rattle.rng_model.specs.View.{class_of, name_of}
-use Rattle.rng_names.specs.Holding.{holds}
-use Rattle.rng_patterns.specs.Trees.{attribute_found}
-use Rattle.rng_ways.specs.Kinds.{reading_of, takes_kind}
+use Rattle.rng_model.specs.names.NameViews.{class_of, name_of}
+use Rattle.rng_names.specs.plain.Holding.{holds}
+use Rattle.rng_patterns.specs.views.Trees.{attribute_found}
+use Rattle.rng_model.specs.matching.GrammarReading.{reading_of}
+use Rattle.rng_ways.specs.plain.Kinds.{takes_kind}
 use Rattle.rng_ways.specs.declared.way.Kind.TheVariants as kinds
 use Rattle.rng_ways.proofs.Rows.{decides_holds}
 use Rattle.rng_ways.proofs.leaves.attribute_takes.Goals as goal

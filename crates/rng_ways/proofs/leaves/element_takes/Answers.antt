@@ -1,7 +1,8 @@
 use Rattle.std.proofs.Common.{◌∙◌, ap, sym}
-use Rattle.rng_model.specs.Tree.{s_leaf}
-use Rattle.rng_model.specs.View.{class_of, name_of}
-use Rattle.rng_ways.specs.Kinds.{reading_of, takes_kind}
+use Rattle.rng_model.specs.simple.Tree.{s_leaf}
+use Rattle.rng_model.specs.names.NameViews.{class_of, name_of}
+use Rattle.rng_model.specs.matching.GrammarReading.{reading_of}
+use Rattle.rng_ways.specs.plain.Kinds.{takes_kind}
 use Rattle.rng_ways.proofs.Rows.{class_there, decides_holds, no_class_there}
 use Rattle.rng_ways.proofs.leaves.element_takes.Goals as goal
 

@@ -2,7 +2,7 @@ use Rattle.std.proofs.Common.{◌≡◌, ◌∙◌, inr, Some, ap, slice_get, su
 use Rattle.std.proofs.lemmas.Option.{slice_get-get_or}
 use Rattle.rng_model.specs.declared.simple.ElementId.{ElementId}
 use Rattle.rng_patterns.proofs.Choices.{if_ok}
-use Rattle.rng_ways.specs.Takers.{AreCandidates}
+use Rattle.rng_ways.specs.plain.Takers.{AreCandidates}
 use Rattle.rng_ways.proofs.Nodes.{is_over}
 use Rattle.rng_ways.proofs.leaves.like_leaf.Goals as goal
 

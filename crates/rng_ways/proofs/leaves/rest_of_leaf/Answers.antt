@@ -1,9 +1,9 @@
 use Rattle.std.proofs.Common.{◌∙◌, sym, ap}
-use Rattle.rng_patterns.specs.PatternTable.{Adds}
-use Rattle.rng_patterns.specs.Trees.{tree_of}
+use Rattle.rng_patterns.specs.views.PatternTable.{Adds}
+use Rattle.rng_patterns.specs.views.Trees.{tree_of}
 use Rattle.rng_patterns.proofs.Choices.{if_ok}
-use Rattle.rng_model.specs.Tree.{s_empty}
-use Rattle.rng_ways.specs.Kinds.{rest_of_leaf}
+use Rattle.rng_model.specs.simple.Tree.{s_empty}
+use Rattle.rng_ways.specs.plain.Kinds.{rest_of_leaf}
 use Rattle.rng_ways.proofs.Nodes.{is_over, rest_is_empty}
 use Rattle.rng_ways.proofs.leaves.rest_of_leaf.Goals as goal
 

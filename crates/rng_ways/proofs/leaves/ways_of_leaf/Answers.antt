@@ -1,9 +1,9 @@
 use Rattle.std.proofs.Common.{◌≡◌, ◌∙◌, ◌∷◌, ◌++◌, [], ap, sym, subst, arith}
-use Rattle.rng_patterns.specs.Trees.{tree_of}
+use Rattle.rng_patterns.specs.views.Trees.{tree_of}
 use Rattle.rng_patterns.proofs.Trees.{Longer-length, tree_stays}
-use Rattle.rng_ways.specs.Alike.{AreLikeLeaves}
-use Rattle.rng_ways.specs.Kinds.{reading_of}
-use Rattle.rng_ways.specs.Ways.{AreKept, AreWays, AreWaysOf, ways_by}
+use Rattle.rng_ways.specs.plain.Alike.{AreLikeLeaves}
+use Rattle.rng_model.specs.matching.GrammarReading.{reading_of}
+use Rattle.rng_ways.specs.plain.Ways.{AreKept, AreWays, AreWaysOf, ways_by}
 use Rattle.rng_ways.specs.declared.way.Way as numbered
 use Rattle.rng_ways.proofs.AttributeTakers.{candidates_longer}
 use Rattle.rng_ways.proofs.LikeLeaves.{like_kept, like_law, like_way}

@@ -1,6 +1,6 @@
 use Rattle.std.proofs.Common.{◌≡◌, ◌∙◌, ◌+◌, [], ◌∷◌, ap, arith, length, length-append, rules, subst, sym}
 use Rattle.rng_patterns.specs.declared.pattern.Span.{Span}
-use Rattle.rng_ways.specs.Takers.{AreSpansOf}
+use Rattle.rng_ways.specs.plain.Takers.{AreSpansOf}
 use Rattle.rng_ways.proofs.AttributeTakers.{span_added}
 use Rattle.rng_ways.proofs.spans.add_spans.Goals as goal
 

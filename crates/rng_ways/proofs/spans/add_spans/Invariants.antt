@@ -1,6 +1,6 @@
 use Rattle.std.proofs.Common.{◌≡◌, length}
-use Rattle.rng_model.specs.Table.{Table}
-use Rattle.rng_ways.specs.Takers.{AreSpansOf}
+use Rattle.rng_model.specs.simple.Table.{Table}
+use Rattle.rng_ways.specs.plain.Takers.{AreSpansOf}
 use Rattle.rng_ways.proofs.spans.add_spans.Given as goal
 
 abbrev pub invariant-patterns : goal.invariant-patterns

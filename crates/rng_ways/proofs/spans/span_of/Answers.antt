@@ -1,9 +1,9 @@
 use Rattle.std.proofs.Common.{◌<◌, All, List, arith, length, map, refl, slice_get, subst, sym}
-use Rattle.rng_model.specs.Tree.{group, interleave}
-use Rattle.rng_patterns.specs.Trees.{attribute_found, choice_over, tree_of}
+use Rattle.rng_model.specs.simple.Tree.{group, interleave}
+use Rattle.rng_patterns.specs.views.Trees.{attribute_found, choice_over, tree_of}
 use Rattle.rng_patterns.specs.declared.pattern.PatternNumber.{PatternNumber}
 use Rattle.rng_patterns.proofs.KnownFacts.{of_members, one_within}
-use Rattle.rng_ways.specs.Takers.{HasAttribute, IsSpanOf}
+use Rattle.rng_ways.specs.plain.Takers.{HasAttribute, IsSpanOf}
 use Rattle.rng_ways.proofs.AttributeTakers.{other_none}
 use Rattle.rng_ways.proofs.Nodes.{is_over, parts_there}
 use Rattle.rng_ways.proofs.spans.span_of.Goals as goal

@@ -1,8 +1,8 @@
 use Rattle.std.proofs.Common.{◌+◌, map, subst, sym, take}
 use Rattle.std.proofs.lemmas.List.{take_all}
-use Rattle.rng_patterns.specs.Trees.{choice_over, tree_of}
+use Rattle.rng_patterns.specs.views.Trees.{choice_over, tree_of}
 use Rattle.rng_patterns.specs.declared.pattern.PatternNumber.{PatternNumber}
-use Rattle.rng_ways.specs.Takers.{IsSpanOf}
+use Rattle.rng_ways.specs.plain.Takers.{IsSpanOf}
 use Rattle.rng_ways.proofs.AttributeTakers.{span_of_more}
 use Rattle.rng_ways.proofs.spans.span_of_members.Goals as goal
 

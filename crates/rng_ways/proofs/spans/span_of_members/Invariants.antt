@@ -1,8 +1,8 @@
 use Rattle.std.proofs.Common.{List, map, take}
-use Rattle.rng_model.specs.Table.{Table}
-use Rattle.rng_patterns.specs.Node.{Node}
-use Rattle.rng_patterns.specs.Trees.{choice_over, tree_of}
-use Rattle.rng_ways.specs.Takers.{AreSpansOf, IsSpanOf}
+use Rattle.rng_model.specs.simple.Table.{Table}
+use Rattle.rng_patterns.specs.views.Node.{Node}
+use Rattle.rng_patterns.specs.views.Trees.{choice_over, tree_of}
+use Rattle.rng_ways.specs.plain.Takers.{AreSpansOf, IsSpanOf}
 use Rattle.rng_ways.proofs.spans.span_of_members.Given as goal
 
 abbrev pub invariant-members : goal.invariant-members

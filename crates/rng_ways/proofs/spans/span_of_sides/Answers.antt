@@ -1,7 +1,7 @@
 use Rattle.std.proofs.Common.{subst, sym}
-use Rattle.rng_model.specs.Tree.{s_joined}
-use Rattle.rng_patterns.specs.Trees.{tree_of}
-use Rattle.rng_ways.specs.Takers.{IsSpanOf}
+use Rattle.rng_model.specs.simple.Tree.{s_joined}
+use Rattle.rng_patterns.specs.views.Trees.{tree_of}
+use Rattle.rng_ways.specs.plain.Takers.{IsSpanOf}
 use Rattle.rng_ways.proofs.AttributeTakers.{span_of_both}
 use Rattle.rng_ways.proofs.spans.span_of_sides.Goals as goal
 

@@ -1,4 +1,4 @@
-use Rattle.rng_model.specs.View.{name_of}
+use Rattle.rng_model.specs.names.NameViews.{name_of}
 use Rattle.rng_ways.proofs.Starts.{no_body_more, one_body_more}
 use Rattle.rng_ways.proofs.starting.add_starts.Goals as goal
 

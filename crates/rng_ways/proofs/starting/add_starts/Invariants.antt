@@ -1,6 +1,6 @@
 use Rattle.std.proofs.Common.{take}
-use Rattle.rng_model.specs.View.{name_of}
-use Rattle.rng_ways.specs.Starting.{AreBodies}
+use Rattle.rng_model.specs.names.NameViews.{name_of}
+use Rattle.rng_ways.specs.plain.Starting.{AreBodies}
 use Rattle.rng_ways.proofs.starting.add_starts.Given as goal
 
 abbrev pub invariant-ways : goal.invariant-ways

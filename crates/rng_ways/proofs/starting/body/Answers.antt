@@ -1,12 +1,12 @@
 use Rattle.std.proofs.Common.{◌∙◌, ◌<◌, length, sym, subst, arith}
-use Rattle.rng_model.specs.View.{name_of}
-use Rattle.rng_matching.specs.Reading.{body_of}
-use Rattle.rng_matching.specs.Taking.{Same}
-use Rattle.rng_patterns.specs.Taking.{tree_by}
-use Rattle.rng_patterns.specs.Trees.{tree_of}
+use Rattle.rng_model.specs.names.NameViews.{name_of}
+use Rattle.rng_matching.specs.plain.Reading.{body_of}
+use Rattle.rng_matching.specs.plain.Taking.{Same}
+use Rattle.rng_patterns.specs.views.Taking.{tree_by}
+use Rattle.rng_patterns.specs.views.Trees.{tree_of}
 use Rattle.rng_patterns.specs.declared.pattern.PatternNumber.{PatternNumber}
-use Rattle.rng_ways.specs.Kinds.{reading_of}
-use Rattle.rng_ways.specs.Starting.{IsRestrictedBodyNamed}
+use Rattle.rng_model.specs.matching.GrammarReading.{reading_of}
+use Rattle.rng_ways.specs.plain.Starting.{IsRestrictedBodyNamed}
 use Rattle.rng_ways.proofs.Nodes.{is_over}
 use Rattle.rng_ways.proofs.Rows.{body_there, no_class_there}
 use Rattle.rng_ways.proofs.Starts.{body_inside, leaf_not_started, leaf_started, other_not_started}

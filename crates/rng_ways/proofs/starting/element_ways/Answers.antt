@@ -1,7 +1,7 @@
 use Rattle.std.proofs.Common.{refl}
-use Rattle.rng_model.specs.View.{name_of}
+use Rattle.rng_model.specs.names.NameViews.{name_of}
 use Rattle.rng_patterns.proofs.Choices.{if_ok}
-use Rattle.rng_ways.specs.KnownWays.{IsElementKind}
+use Rattle.rng_ways.specs.views.KnownWays.{IsElementKind}
 use Rattle.rng_ways.specs.declared.way.Kind.TheVariants as kinds
 use Rattle.rng_ways.proofs.Closings.{both_ok}
 use Rattle.rng_ways.proofs.KnownWays.{by_key_changed, same_elements}

@@ -1,11 +1,11 @@
 use Rattle.std.proofs.Common.{List, sym, subst}
-use Rattle.rng_keys.specs.Keys.{name_at}
-use Rattle.rng_patterns.specs.Trees.{tree_of}
-use Rattle.rng_ways.specs.Alike.{AreAlike}
-use Rattle.rng_ways.specs.Starting.{AreBodies}
-use Rattle.rng_ways.specs.Takers.{IsTold}
-use Rattle.rng_ways.specs.Ways.{AreInside}
-use Rattle.rng_ways.specs.KnownWays.{IsAttributeKind}
+use Rattle.rng_keys.specs.plain.Keys.{name_at}
+use Rattle.rng_patterns.specs.views.Trees.{tree_of}
+use Rattle.rng_ways.specs.plain.Alike.{AreAlike}
+use Rattle.rng_ways.specs.plain.Starting.{AreBodies}
+use Rattle.rng_ways.specs.plain.Takers.{IsTold}
+use Rattle.rng_ways.specs.plain.Ways.{AreInside}
+use Rattle.rng_ways.specs.views.KnownWays.{IsAttributeKind}
 use Rattle.rng_ways.specs.declared.way.Kind.TheVariants as kinds
 use Rattle.rng_ways.specs.declared.way.Place.TheVariants as places
 use Rattle.rng_ways.specs.declared.way.Way as numbered

@@ -1,11 +1,11 @@
 use Rattle.std.proofs.Common.{◌∙◌, ◌&&◌, not, Some, sym, ap}
 use Rattle.std.specs.String.{string_bytes}
-use Rattle.rng_model.specs.DatatypeTests.{known_equates}
-use Rattle.rng_model.specs.Table.{tree_at, tree_over}
+use Rattle.rng_model.specs.datatypes.DatatypeTests.{known_equates}
+use Rattle.rng_model.specs.simple.Table.{tree_at, tree_over}
 use Rattle.rng_model.specs.declared.datatype.DatatypeValue.{DatatypeValue}
-use Rattle.rng_matching.specs.Derivatives.{is_excepted}
-use Rattle.rng_ways.specs.Datatypes.{type_at}
-use Rattle.rng_ways.specs.Kinds.{reading_of}
+use Rattle.rng_matching.specs.plain.Derivatives.{is_excepted}
+use Rattle.rng_ways.specs.views.Datatypes.{type_at}
+use Rattle.rng_model.specs.matching.GrammarReading.{reading_of}
 use Rattle.rng_ways.proofs.KnownTypes.{allowed_there, equal_there}
 use Rattle.rng_ways.proofs.texts.+has_text.Goals as goal
 

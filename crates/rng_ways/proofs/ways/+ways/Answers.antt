@@ -3,21 +3,22 @@ use Rattle.std.proofs.lemmas.Bool.{not-false, not-true}
 use Rattle.std.proofs.Math.ListN.{get_or-map}
 use Rattle.std.proofs.lemmas.List.{length-map, map-append, take_all}
 use Rattle.std.proofs.Math.Seq.{take-suc}
-use Rattle.rng_model.specs.Tree.{Simple, group, s_joined, s_not_allowed}
-use Rattle.rng_matching.specs.Derivatives.{behind, group_of, is_nullable}
+use Rattle.rng_model.specs.simple.Tree.{Simple, group, s_joined, s_not_allowed}
+use Rattle.rng_matching.specs.plain.Derivatives.{behind, group_of, is_nullable}
 use Rattle.rng_matching.proofs.FreeForms.{choice_all}
-use Rattle.rng_matching.specs.Taking.{Takes}
-use Rattle.rng_patterns.specs.Copies.{IsBehindCopies, IsOfCopies}
-use Rattle.rng_patterns.specs.PatternTable.{Longer}
-use Rattle.rng_patterns.specs.Trees.{choice_over, tree_of}
+use Rattle.rng_matching.specs.plain.Taking.{Takes}
+use Rattle.rng_patterns.specs.plain.Copies.{IsBehindCopies, IsOfCopies}
+use Rattle.rng_patterns.specs.views.PatternTable.{Longer}
+use Rattle.rng_patterns.specs.views.Trees.{choice_over, tree_of}
 use Rattle.rng_patterns.specs.declared.pattern.Facts.{Facts}
 use Rattle.rng_patterns.specs.declared.pattern.PatternNumber.{PatternNumber}
 use Rattle.rng_patterns.proofs.Choices.{if_ok}
 use Rattle.rng_patterns.proofs.Trees.{Longer-length, Longer-refl, Longer-trans, tree_stays}
-use Rattle.rng_ways.specs.Kinds.{connector_of, reading_of, weight}
-use Rattle.rng_ways.specs.KnownWays.{AreKnown}
-use Rattle.rng_ways.specs.FewerWays.{AreRepeated, AreUncovered}
-use Rattle.rng_ways.specs.Ways.{AreInside, AreWaysOf, StandFor, filled, ways_by}
+use Rattle.rng_ways.specs.plain.Kinds.{connector_of, weight}
+use Rattle.rng_model.specs.matching.GrammarReading.{reading_of}
+use Rattle.rng_ways.specs.views.KnownWays.{AreKnown}
+use Rattle.rng_ways.specs.plain.FewerWays.{AreRepeated, AreUncovered}
+use Rattle.rng_ways.specs.plain.Ways.{AreInside, AreWaysOf, StandFor, filled, ways_by}
 use Rattle.rng_ways.specs.declared.way.Hole.TheVariants as holes
 use Rattle.rng_ways.specs.declared.way.Joint.TheVariants as joints
 use Rattle.rng_ways.proofs.Composing.{both_made, copies_made, first_made, made, member_made, opened_hands_on, opened_same, over_hands_on}

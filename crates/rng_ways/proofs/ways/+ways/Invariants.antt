@@ -1,11 +1,11 @@
 use Rattle.std.proofs.Common.{◌+◌, ◌*◌, map, take}
-use Rattle.rng_model.specs.Tree.{group, s_joined}
+use Rattle.rng_model.specs.simple.Tree.{group, s_joined}
 use Rattle.rng_matching.proofs.FreeForms.{choice_all}
-use Rattle.rng_patterns.specs.PatternTable.{Longer}
-use Rattle.rng_patterns.specs.Trees.{choice_over, tree_of}
-use Rattle.rng_ways.specs.Kinds.{connector_of, weight}
-use Rattle.rng_ways.specs.KnownWays.{AreKnown}
-use Rattle.rng_ways.specs.Ways.{AreWaysOf}
+use Rattle.rng_patterns.specs.views.PatternTable.{Longer}
+use Rattle.rng_patterns.specs.views.Trees.{choice_over, tree_of}
+use Rattle.rng_ways.specs.plain.Kinds.{connector_of, weight}
+use Rattle.rng_ways.specs.views.KnownWays.{AreKnown}
+use Rattle.rng_ways.specs.plain.Ways.{AreWaysOf}
 use Rattle.rng_ways.proofs.ways.+ways.Given as goal
 
 abbrev pub decreases-ways : goal.decreases-ways

@@ -1,8 +1,8 @@
 use Rattle.std.proofs.Common.{◌≡◌, ◌∙◌, Some, ap, false, slice_get, subst, sym, true}
 use Rattle.std.proofs.lemmas.Bool.{not-true}
 use Rattle.std.proofs.lemmas.Option.{slice_get-get_or}
-use Rattle.rng_patterns.specs.Trees.{tree_of}
-use Rattle.rng_ways.specs.Takers.{AreCandidates}
+use Rattle.rng_patterns.specs.views.Trees.{tree_of}
+use Rattle.rng_ways.specs.plain.Takers.{AreCandidates}
 use Rattle.rng_ways.proofs.AttributeTakers.{idle_attributes}
 use Rattle.rng_ways.proofs.ElementTakers.{idle_elements}
 use Rattle.rng_ways.proofs.ways.is_idle.Goals as goal

@@ -1,6 +1,6 @@
 use Rattle.std.proofs.Common.{◌≡◌, ◌∙◌, ◌++◌, ◌∷◌, [], ap, sym, length}
 use Rattle.std.proofs.lemmas.Bool.{eqb-true}
-use Rattle.pyx.specs.ElementView.{scope_of}
+use Rattle.pyx.specs.views.ElementView.{scope_of}
 use Rattle.pyx.proofs.KnownNames.{known_alike}
 use Rattle.pyx.proofs.OpenStack.{namespaces_same}
 use Rattle.pyx.proofs.opened.OpenElements.open.Goals as goal

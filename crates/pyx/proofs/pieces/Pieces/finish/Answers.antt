@@ -1,8 +1,9 @@
 use Rattle.std.proofs.Common.{rules, refl}
 use Rattle.std.proofs.lemmas.Result.{err_from_is_err_and}
-use Rattle.pyx.specs.DocumentReader.{silent, line_read}
-use Rattle.pyx.specs.Pieces.{open_line}
-use Rattle.pyx.specs.View.{Hands, progress_of, state_of}
+use Rattle.pyx.specs.plain.DocumentReader.{silent, line_read}
+use Rattle.pyx.specs.plain.Pieces.{open_line}
+use Rattle.rng_model.specs.documents.Handing.{Hands}
+use Rattle.pyx.specs.views.View.{progress_of, state_of}
 use Rattle.pyx.proofs.Conclusions.{concludes, refused, finished_none, finished_some}
 use Rattle.pyx.proofs.Turns.{hands_nothing}
 use Rattle.pyx.proofs.pieces.Pieces.finish.Goals as goal

@@ -1,9 +1,9 @@
 use Rattle.std.proofs.Common.{◌≡◌, ◌++◌, refl, arith, ap, length, ◌∙◌}
 use Rattle.std.proofs.lemmas.List.{length-append}
 use Rattle.std.proofs.lemmas.Result.{err_from_is_err_and}
-use Rattle.pyx.specs.DocumentReader.{followed}
-use Rattle.pyx.specs.Pieces.{read}
-use Rattle.pyx.specs.View.{progress_of}
+use Rattle.pyx.specs.plain.DocumentReader.{followed}
+use Rattle.pyx.specs.plain.Pieces.{read}
+use Rattle.pyx.specs.views.View.{progress_of}
 use Rattle.pyx.proofs.PieceCounts.{read_counts}
 use Rattle.pyx.proofs.Turns.{starts, goes_on, fails, ends, read_append}
 use Rattle.pyx.proofs.pieces.Pieces.read.Goals as goal

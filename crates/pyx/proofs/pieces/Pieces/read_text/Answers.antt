@@ -1,7 +1,7 @@
 use Rattle.std.proofs.Common.{arith, rules, ap, sym, ◌∙◌}
 use Rattle.std.proofs.lemmas.Result.{err_from_is_err_and}
-use Rattle.pyx.specs.Pieces.{line_taken, rest_taken}
-use Rattle.pyx.specs.View.{progress_of}
+use Rattle.pyx.specs.plain.Pieces.{line_taken, rest_taken}
+use Rattle.pyx.specs.views.View.{progress_of}
 use Rattle.pyx.proofs.FirstLines.{halves}
 use Rattle.pyx.proofs.LinesOfPieces.{read_line, read_rest}
 use Rattle.pyx.proofs.PieceCounts.{line_counts}

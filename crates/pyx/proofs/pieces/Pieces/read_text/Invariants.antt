@@ -2,9 +2,10 @@ use Rattle.std.proofs.Common.{◌≡◌, true, ◌+◌, ◌<◌, ◌≤◌, ◌^
 use denote.Shadow.{shadow}
 use denote.Text.{Utf8}
 use Rattle.std.specs.List.{list_all}
-use Rattle.pyx.specs.PlainBytes.{is_plain}
-use Rattle.pyx.specs.View.{progress_of, Hands}
-use Rattle.pyx.specs.Pieces.{read, weight}
+use Rattle.pyx.specs.plain.PlainBytes.{is_plain}
+use Rattle.pyx.specs.views.View.{progress_of}
+use Rattle.rng_model.specs.documents.Handing.{Hands}
+use Rattle.pyx.specs.plain.Pieces.{read, weight}
 use Rattle.pyx.proofs.Turns.{Goes}
 use Rattle.pyx.proofs.pieces.Pieces.read_text.Given as goal
 

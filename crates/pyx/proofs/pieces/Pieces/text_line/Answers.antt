@@ -1,5 +1,5 @@
 use Rattle.std.proofs.Common.{◌∙◌, arith, refl}
-use Rattle.pyx.specs.Pieces.{ended_line}
+use Rattle.pyx.specs.plain.Pieces.{ended_line}
 use Rattle.pyx.proofs.LineClauses.{said_ended}
 use Rattle.pyx.proofs.PlainTexts.{good_text, plain_text}
 use Rattle.pyx.proofs.pieces.Pieces.text_line.Goals as goal

@@ -1,6 +1,7 @@
 use Rattle.std.proofs.Common.{ap, rules}
-use Rattle.pyx.specs.Standing.{Kept}
-use Rattle.pyx.specs.View.{progress_of, Hands}
+use Rattle.pyx.specs.views.Standing.{Kept}
+use Rattle.pyx.specs.views.View.{progress_of}
+use Rattle.rng_model.specs.documents.Handing.{Hands}
 use Rattle.pyx.proofs.Finishing.{finishes, finishes_stuck}
 use Rattle.pyx.proofs.reader.Reader.finish.Goals as goal
 

@@ -1,5 +1,5 @@
 use Rattle.std.proofs.Common.{◌≡◌, arith}
-use Rattle.pyx.specs.View.{state_of}
+use Rattle.pyx.specs.views.View.{state_of}
 use Rattle.pyx.proofs.LineCounts.{tag_ended_keeps}
 use Rattle.pyx.proofs.state.State.line.Goals as goal
 

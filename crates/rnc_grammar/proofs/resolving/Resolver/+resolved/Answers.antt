@@ -1,13 +1,13 @@
 use Rattle.std.proofs.Common.{◌≡◌, Some, Err, Vec, Global, ap, sym, refl, map, ◌∙◌}
 use Rattle.std.proofs.lemmas.Result.{err_from_is_err_and}
-use Rattle.rng_model.specs.Tree.{choice, group, interleave}
+use Rattle.rng_model.specs.simple.Tree.{choice, group, interleave}
 use Rattle.rnc_grammar.specs.declared.file_tree.Component.{Component}
 use Rattle.rnc_grammar.specs.declared.file_tree.Pattern.{Pattern}
-use Rattle.rnc_grammar.specs.Declarations.{◌>>=◌, component_in, pattern_in}
-use Rattle.rnc_grammar.specs.FileTree as trees
-use Rattle.rnc_grammar.specs.Resolved.{Resolves, each, scope_view}
-use Rattle.rnc_syntax.specs.SyntaxView as syntax
-use Rattle.rnc_grammar.specs.View as tree
+use Rattle.rnc_model.specs.declarations.Declarations.{◌>>=◌, component_in, pattern_in}
+use Rattle.rnc_model.specs.declarations.FileTree as trees
+use Rattle.rnc_grammar.specs.views.Resolved.{Resolves, each, scope_view}
+use Rattle.rnc_syntax.specs.views.SyntaxView as syntax
+use Rattle.rnc_grammar.specs.views.View as tree
 use Rattle.rnc_grammar.proofs.ResolvedMembers.{components_row, fails, found, is_through, stops_at}
 use Rattle.rnc_grammar.proofs.FileTreeViews.{choice_of, data_except, group_of, interleave_of, plain_data}
 use Rattle.rnc_grammar.proofs.ResolvedViews.{choice_pattern_in, data_except_in, data_in, group_in, interleave_in, typed_with}

@@ -1,8 +1,8 @@
 use Rattle.std.proofs.Common.{◌≡◌, map, drop}
-use Rattle.rnc_grammar.specs.Declarations.{pattern_in, component_in}
-use Rattle.rnc_grammar.specs.Resolved.{each, scope_view}
-use Rattle.rnc_syntax.specs.SyntaxView as syntax
-use Rattle.rnc_grammar.specs.View as tree
+use Rattle.rnc_model.specs.declarations.Declarations.{pattern_in, component_in}
+use Rattle.rnc_grammar.specs.views.Resolved.{each, scope_view}
+use Rattle.rnc_syntax.specs.views.SyntaxView as syntax
+use Rattle.rnc_grammar.specs.views.View as tree
 use Rattle.rnc_grammar.proofs.ResolvedMembers.{after}
 use Rattle.rnc_grammar.proofs.resolving.Resolver.+resolved.Given as goal
 

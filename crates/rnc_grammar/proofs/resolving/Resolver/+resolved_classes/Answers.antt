@@ -2,11 +2,11 @@ use Rattle.std.proofs.Common.{◌≡◌, ◌∷◌, ◌++◌, [], Some, Vec, Glo
 use Rattle.std.proofs.lemmas.List.{map_push}
 use Rattle.std.proofs.lemmas.Result.{err_from_is_err_and}
 use Rattle.rnc_grammar.specs.declared.file_tree.NameClass.{NameClass}
-use Rattle.rnc_grammar.specs.Declarations.{◌>>=◌, class_in}
-use Rattle.rnc_grammar.specs.FileTree as trees
-use Rattle.rnc_grammar.specs.Resolved.{each, namespace_at, scope_view}
-use Rattle.rnc_syntax.specs.SyntaxView as syntax
-use Rattle.rnc_grammar.specs.View as tree
+use Rattle.rnc_model.specs.declarations.Declarations.{◌>>=◌, class_in}
+use Rattle.rnc_model.specs.declarations.FileTree as trees
+use Rattle.rnc_grammar.specs.views.Resolved.{each, namespace_at, scope_view}
+use Rattle.rnc_syntax.specs.views.SyntaxView as syntax
+use Rattle.rnc_grammar.specs.views.View as tree
 use Rattle.rnc_grammar.proofs.ResolvedMembers.{fails, found, goes_on}
 use Rattle.rnc_grammar.proofs.FileTreeViews.{choice_class}
 use Rattle.rnc_grammar.proofs.ResolvedViews.{choice_class_in}

@@ -1,8 +1,8 @@
 use Rattle.std.proofs.Common.{◌≡◌, map, drop}
-use Rattle.rnc_grammar.specs.Declarations.{class_in}
-use Rattle.rnc_grammar.specs.Resolved.{each, namespace_at, scope_view}
-use Rattle.rnc_syntax.specs.SyntaxView as syntax
-use Rattle.rnc_grammar.specs.View as tree
+use Rattle.rnc_model.specs.declarations.Declarations.{class_in}
+use Rattle.rnc_grammar.specs.views.Resolved.{each, namespace_at, scope_view}
+use Rattle.rnc_syntax.specs.views.SyntaxView as syntax
+use Rattle.rnc_grammar.specs.views.View as tree
 use Rattle.rnc_grammar.proofs.ResolvedMembers.{after}
 use Rattle.rnc_grammar.proofs.resolving.Resolver.+resolved_classes.Given as goal
 

@@ -1,5 +1,5 @@
 use Rattle.std.proofs.Common.{◌≡◌, ◌++◌, map, drop, string_bytes}
-use Rattle.rnc_syntax.specs.SyntaxView as syntax
+use Rattle.rnc_syntax.specs.views.SyntaxView as syntax
 use Rattle.rnc_grammar.proofs.resolving.Resolver.parameters.Given as goal
 
 abbrev pub invariant-loop-parameter : goal.invariant-loop-parameter

@@ -1,5 +1,5 @@
 use Rattle.std.proofs.Common.{rules, ◌≡◌, ◌∙◌, sym, refl, true, false, is_some, String, Global, string_bytes}
-use Rattle.rnc_grammar.specs.Declarations.{may_stand_for_types}
+use Rattle.rnc_model.specs.declarations.Declarations.{may_stand_for_types}
 use Rattle.rnc_grammar.proofs.ScopeTables.{one_is_new}
 use Rattle.rnc_grammar.proofs.scope.Scope.declare_datatypes.Goals as goal
 

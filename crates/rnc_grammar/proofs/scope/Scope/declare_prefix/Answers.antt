@@ -1,6 +1,6 @@
 use Rattle.std.proofs.Common.{rules, ◌≡◌, ◌∙◌, sym, refl, true, false, is_some}
-use Rattle.rnc_grammar.specs.Declarations.{may_stand_for}
-use Rattle.rnc_grammar.specs.View.{namespace_of}
+use Rattle.rnc_model.specs.declarations.Declarations.{may_stand_for}
+use Rattle.rnc_grammar.specs.views.View.{namespace_of}
 use Rattle.rnc_grammar.proofs.ScopeTables.{one_is_new}
 use Rattle.rnc_grammar.proofs.scope.Scope.declare_prefix.Goals as goal
 

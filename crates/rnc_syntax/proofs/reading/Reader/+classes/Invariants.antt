@@ -1,9 +1,9 @@
 use Rattle.std.proofs.Common.{map, length, ◌≤◌, ◌+◌, ◌*◌}
-use Rattle.rnc_text.specs.declared.token.Sign.TheVariants.{Bar}
-use Rattle.rnc_syntax.specs.Reading.{lexemes_in}
-use Rattle.rnc_syntax.specs.Combinators.{follow, many, with_front}
-use Rattle.rnc_syntax.specs.Productions.{basic_with, inside_at}
-use Rattle.rnc_syntax.specs.SyntaxView.{class_of}
+use Rattle.rnc_model.specs.declared.token.Sign.TheVariants.{Bar}
+use Rattle.rnc_syntax.specs.plain.Reading.{lexemes_in}
+use Rattle.rnc_syntax.specs.plain.Combinators.{follow, many, with_front}
+use Rattle.rnc_syntax.specs.plain.Productions.{basic_with, inside_at}
+use Rattle.rnc_syntax.specs.views.SyntaxView.{class_of}
 use Rattle.rnc_syntax.proofs.Items.{Goes}
 use Rattle.rnc_syntax.proofs.reading.Reader.+classes.Given as goal
 

@@ -1,6 +1,6 @@
 use Rattle.std.proofs.Common.{◌≡◌, ◌≤◌, ◌+◌, length}
-use Rattle.rnc_syntax.specs.Reading.{lexemes_in}
-use Rattle.rnc_syntax.specs.Productions.{annotation_end}
+use Rattle.rnc_syntax.specs.plain.Reading.{lexemes_in}
+use Rattle.rnc_syntax.specs.plain.Productions.{annotation_end}
 use Rattle.rnc_syntax.proofs.reading.Reader.annotation_end.Given as goal
 
 abbrev pub invariant-loop-role : goal.invariant-loop-role

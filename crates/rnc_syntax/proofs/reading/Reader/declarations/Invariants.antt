@@ -1,7 +1,7 @@
 use Rattle.std.proofs.Common.{map, length, ◌≤◌}
-use Rattle.rnc_syntax.specs.Reading.{lexemes_in}
-use Rattle.rnc_syntax.specs.Productions.{declaration_front, declaration_at, declarations_at}
-use Rattle.rnc_syntax.specs.SyntaxView.{declaration_of}
+use Rattle.rnc_syntax.specs.plain.Reading.{lexemes_in}
+use Rattle.rnc_syntax.specs.plain.Productions.{declaration_front, declaration_at, declarations_at}
+use Rattle.rnc_syntax.specs.views.SyntaxView.{declaration_of}
 use Rattle.rnc_syntax.proofs.Items.{Goes}
 use Rattle.rnc_syntax.proofs.reading.Reader.declarations.Given as goal
 

@@ -1,8 +1,8 @@
 use Rattle.std.proofs.Common.{map, length, ◌≤◌}
-use Rattle.rnc_syntax.specs.Reading.{lexemes_in}
-use Rattle.rnc_syntax.specs.Combinators.{many}
-use Rattle.rnc_syntax.specs.Productions.{annotated_parameter_at, parameter_front}
-use Rattle.rnc_syntax.specs.SyntaxView.{parameter_of}
+use Rattle.rnc_syntax.specs.plain.Reading.{lexemes_in}
+use Rattle.rnc_syntax.specs.plain.Combinators.{many}
+use Rattle.rnc_syntax.specs.plain.Productions.{annotated_parameter_at, parameter_front}
+use Rattle.rnc_syntax.specs.views.SyntaxView.{parameter_of}
 use Rattle.rnc_syntax.proofs.Items.{Goes}
 use Rattle.rnc_syntax.proofs.reading.Reader.parameter_list.Given as goal
 

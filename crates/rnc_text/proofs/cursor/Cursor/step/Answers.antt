@@ -1,8 +1,8 @@
 use Rattle.std.proofs.Common.{rules, refl, sym, ap, ◌∙◌, ◌∷◌}
 use Rattle.std.specs.Str.{IsUtf8, chars}
-use Rattle.rnc_text.specs.Held.{marked}
-use Rattle.rnc_text.specs.declared.character.Character.{Character}
-use Rattle.rnc_text.specs.declared.character.Character.TheVariants.{Ordinary}
+use Rattle.rnc_text.specs.views.Held.{marked}
+use Rattle.rnc_model.specs.declared.character.Character.{Character}
+use Rattle.rnc_model.specs.declared.character.Character.TheVariants.{Ordinary}
 use Rattle.rnc_text.proofs.Cursors.{nothing_left, steps_marked, steps_plain, bytes_first}
 use Rattle.rnc_text.proofs.Held.{number_unmarked}
 use Rattle.rnc_text.proofs.cursor.Cursor.step.Goals as goal

@@ -1,7 +1,7 @@
 use Rattle.std.proofs.Common.{◌∙◌, ◌++◌, ◌∷◌, [], List, sym, ap, rules}
 use Rattle.std.proofs.lemmas.Str.{IsUtf8-string_bytes}
-use Rattle.rnc_text.specs.declared.character.Character.{Character}
-use Rattle.rnc_text.specs.declared.character.Character.TheVariants.{Ordinary}
+use Rattle.rnc_model.specs.declared.character.Character.{Character}
+use Rattle.rnc_model.specs.declared.character.Character.TheVariants.{Ordinary}
 use Rattle.rnc_text.proofs.Held.{grows_plain, grows_marked, pushed, still_marks, unmarked_other}
 use Rattle.rnc_text.proofs.text.Text.push.Goals as goal
 

@@ -1,6 +1,6 @@
 use Rattle.std.proofs.Common.{rules, ◌≡◌, ◌++◌, ◌∷◌, [], All, length, subst, sym}
 use Rattle.std.proofs.lemmas.List.Elements.{All-push}
-use Rattle.rng_model.specs.Table.{AreChildrenBelow, IsOfFirstKind}
+use Rattle.rng_model.specs.simple.Table.{AreChildrenBelow, IsOfFirstKind}
 use Rattle.rng_model.proofs.Table.{falls_after_push}
 use Rattle.rng_cases.proofs.grammar_builder.GrammarBuilder.add.Goals as goal
 

@@ -2,9 +2,9 @@ use Rattle.std.proofs.Common.{◌≡◌, ◌≤◌, ◌∙◌, ap, arith, length
 use Rattle.std.specs.List.{list_any}
 use Rattle.std.proofs.lemmas.List.{at_drop_all}
 use Rattle.std.proofs.lemmas.List.Folds.{list_any_at}
-use Rattle.rng_model.specs.SchemaView.{place_of}
-use Rattle.rng_load.specs.PlacedGrammars.{schema_of}
-use Rattle.rng_components.specs.ClauseTests.{is_broken_at}
+use Rattle.rng_model.specs.views.SchemaView.{place_of}
+use Rattle.rng_load.specs.views.PlacedGrammars.{schema_of}
+use Rattle.rng_components.specs.plain.ClauseTests.{is_broken_at}
 use Rattle.rng_components.proofs.AllPlaces.{any_mapped}
 use Rattle.rng_components.proofs.AmongTests.{false_is_no_truth}
 use Rattle.rng_components.proofs.BrokenPlaces.{judged}

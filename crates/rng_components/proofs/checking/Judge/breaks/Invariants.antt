@@ -1,8 +1,8 @@
 use Rattle.std.proofs.Common.{◌≡◌, drop}
 use Rattle.std.specs.List.{list_any}
-use Rattle.rng_model.specs.SchemaView.{place_of}
-use Rattle.rng_load.specs.PlacedGrammars.{schema_of}
-use Rattle.rng_components.specs.ClauseTests.{is_broken_at}
+use Rattle.rng_model.specs.views.SchemaView.{place_of}
+use Rattle.rng_load.specs.views.PlacedGrammars.{schema_of}
+use Rattle.rng_components.specs.plain.ClauseTests.{is_broken_at}
 use Rattle.rng_components.proofs.checking.Judge.breaks.Given as goal
 
 abbrev pub invariant-loop-place : goal.invariant-loop-place

@@ -1,9 +1,9 @@
 use Rattle.std.proofs.Common.{◌∙◌, ap, map, sym}
-use Rattle.rng_model.specs.SchemaView.{place_of, schema_component_of}
-use Rattle.rng_load.specs.PlacedGrammars.{schema_of}
-use Rattle.rng_components.specs.ClauseTests.{is_broken_at}
-use Rattle.rng_components.specs.GrammarTests.{defines, defines_if, some_has}
-use Rattle.rng_components.specs.PatternTests.{ref_test}
+use Rattle.rng_model.specs.views.SchemaView.{place_of, schema_component_of}
+use Rattle.rng_load.specs.views.PlacedGrammars.{schema_of}
+use Rattle.rng_components.specs.plain.ClauseTests.{is_broken_at}
+use Rattle.rng_components.specs.plain.GrammarTests.{defines, defines_if, some_has}
+use Rattle.rng_components.specs.plain.PatternTests.{ref_test}
 use Rattle.rng_components.proofs.checking.Judge.breaks_at.Goals as goal
 
 pub returns-in-Refs : goal.returns-in-Refs

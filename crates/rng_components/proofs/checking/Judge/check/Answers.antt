@@ -1,5 +1,5 @@
 use Rattle.std.proofs.Common.{arith}
-use Rattle.rng_load.specs.PlacedGrammars.{schema_of}
+use Rattle.rng_load.specs.views.PlacedGrammars.{schema_of}
 use Rattle.rng_components.proofs.LeastClause.{from_eleven, next, unbroken}
 use Rattle.rng_components.proofs.checking.Judge.check.Goals as goal
 

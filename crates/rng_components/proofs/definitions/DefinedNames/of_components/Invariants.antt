@@ -1,8 +1,8 @@
 use Rattle.std.proofs.Common.{◌≡◌, ◌||◌, ℕ, List, Some, drop, map}
 use Rattle.std.specs.List.{list_any}
-use Rattle.rng_model.specs.SchemaView.{schema_component_of}
-use Rattle.rng_components.specs.Defined.{has_name}
-use Rattle.rng_components.specs.GrammarTests.{is_named}
+use Rattle.rng_model.specs.views.SchemaView.{schema_component_of}
+use Rattle.rng_components.specs.views.Defined.{has_name}
+use Rattle.rng_components.specs.plain.GrammarTests.{is_named}
 use Rattle.rng_components.proofs.definitions.DefinedNames.of_components.Given as goal
 
 abbrev pub invariant-loop-component : goal.invariant-loop-component

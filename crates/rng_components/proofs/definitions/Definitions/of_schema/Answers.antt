@@ -4,10 +4,10 @@ use Rattle.std.specs.Str.{bytes_eq}
 use Rattle.std.proofs.lemmas.List.{take_all}
 use Rattle.std.proofs.lemmas.List.Folds.{list_any_more}
 use Rattle.std.proofs.lemmas.Slice.Eq.{bytes_eq-Decides}
-use Rattle.rng_model.specs.SchemaView.{place_of}
-use Rattle.rng_load.specs.PlacedGrammars.{schema_of}
-use Rattle.rng_components.specs.Defined.{defines_in, has_name}
-use Rattle.rng_components.specs.GrammarTests.{defines, is_named}
+use Rattle.rng_model.specs.views.SchemaView.{place_of}
+use Rattle.rng_load.specs.views.PlacedGrammars.{schema_of}
+use Rattle.rng_components.specs.views.Defined.{defines_in, has_name}
+use Rattle.rng_components.specs.plain.GrammarTests.{defines, is_named}
 use Rattle.rng_components.proofs.AllPlaces.{any_mapped, defined_at_all, one_more_place}
 use Rattle.rng_components.proofs.definitions.Definitions.of_schema.Goals as goal
 

@@ -1,11 +1,11 @@
 use Rattle.std.proofs.Common.{◌≡◌, ◌&&◌, ℕ, List, take}
 use Rattle.std.specs.List.{list_any}
 use Rattle.std.specs.Str.{bytes_eq}
-use Rattle.rng_model.specs.Patterns.{Place}
-use Rattle.rng_model.specs.SchemaView.{place_of}
-use Rattle.rng_load.specs.PlacedGrammars.{schema_of}
-use Rattle.rng_components.specs.Defined.{defines_in}
-use Rattle.rng_components.specs.GrammarTests.{defines}
+use Rattle.rng_model.specs.schema.Patterns.{Place}
+use Rattle.rng_model.specs.views.SchemaView.{place_of}
+use Rattle.rng_load.specs.views.PlacedGrammars.{schema_of}
+use Rattle.rng_components.specs.views.Defined.{defines_in}
+use Rattle.rng_components.specs.plain.GrammarTests.{defines}
 use Rattle.rng_components.proofs.definitions.Definitions.of_schema.Given as goal
 
 -- what is defined at a place that was gone to is found, and no more

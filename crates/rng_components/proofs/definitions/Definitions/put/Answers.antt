@@ -1,6 +1,6 @@
 use Rattle.std.proofs.Common.{◌∙◌, ap}
 use Rattle.std.specs.Map.{lookup}
-use Rattle.rng_components.specs.Defined.{has_if}
+use Rattle.rng_components.specs.views.Defined.{has_if}
 use Rattle.rng_components.proofs.NamesByPlace.{defined_after, is_at}
 use Rattle.rng_components.proofs.definitions.Definitions.put.Goals as goal
 

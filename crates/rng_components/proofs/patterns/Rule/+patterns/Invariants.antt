@@ -1,8 +1,8 @@
 use Rattle.std.proofs.Common.{◌≡◌, drop, map}
-use Rattle.rng_model.specs.Patterns.{patterns_of}
-use Rattle.rng_model.specs.SchemaView.{schema_pattern_of}
-use Rattle.rng_components.specs.PatternTests.{some_has_written}
-use Rattle.rng_components.specs.RuleTests.{rule_test}
+use Rattle.rng_model.specs.schema.Patterns.{patterns_of}
+use Rattle.rng_model.specs.views.SchemaView.{schema_pattern_of}
+use Rattle.rng_components.specs.plain.PatternTests.{some_has_written}
+use Rattle.rng_components.specs.plain.RuleTests.{rule_test}
 use Rattle.rng_components.proofs.patterns.Rule.+patterns.Given as goal
 
 -- the members that are left break the rule where all of them do

@@ -1,5 +1,5 @@
 use Rattle.std.proofs.Common.{◌+◌, sym, subst, arith}
-use Rattle.rng_deriv.specs.Named.{ListsFirst, place_of}
+use Rattle.rng_deriv.specs.plain.Named.{ListsFirst, place_of}
 use Rattle.rng_deriv.proofs.Named.{lists_more, lists_all, lists_fewer}
 use Rattle.rng_deriv.proofs.names.ElementNames.new.Goals as goal
 use Rattle.rng_deriv.proofs.names.ElementNames.new.Goals.{else-elements-test, then-elements-test+in_default}

@@ -1,4 +1,4 @@
-use Rattle.rng_deriv.specs.Named.{ListsFirst, place_of}
+use Rattle.rng_deriv.specs.plain.Named.{ListsFirst, place_of}
 use Rattle.rng_deriv.proofs.names.ElementNames.new.Given as goal
 
 abbrev pub invariant-elements : goal.invariant-elements

@@ -1,6 +1,6 @@
 use Rattle.std.proofs.Common.{◌≡◌, ◌<◌, ◌∙◌, ap, sym, slice_get, Some, length, List, subst}
 use Rattle.std.proofs.lemmas.Option.{slice_get-get_or}
-use Rattle.rng_deriv.specs.PatternTable.{IsPatternTable}
+use Rattle.rng_deriv.specs.views.PatternTable.{IsPatternTable}
 use Rattle.rng_deriv.specs.declared.pattern_table.TableEntry.{TableEntry}
 use Rattle.rng_deriv.proofs.PatternTable.{tree_of-over_children}
 use Rattle.rng_deriv.proofs.pattern_table.PatternTable.at.Goals as goal

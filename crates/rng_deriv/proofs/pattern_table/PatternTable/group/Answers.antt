@@ -1,5 +1,5 @@
 use Rattle.std.proofs.Common.{ap, ◌∙◌}
-use Rattle.rng_deriv.specs.PatternTable.{tree_over, tree_of}
+use Rattle.rng_deriv.specs.views.PatternTable.{tree_over, tree_of}
 use Rattle.rng_deriv.proofs.Acceptance.{group_first_empty, group_second_empty}
 use Rattle.rng_deriv.proofs.Follows.{Longer-refl}
 use Rattle.rng_deriv.proofs.pattern_table.PatternTable.group.Goals as goal

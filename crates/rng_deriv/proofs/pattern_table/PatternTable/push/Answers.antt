@@ -1,5 +1,5 @@
 use Rattle.std.proofs.Common.{◌≡◌, [], ◌∷◌, ◌++◌, length, rules, subst}
-use Rattle.rng_deriv.specs.PatternTable.{IsPatternTable}
+use Rattle.rng_deriv.specs.views.PatternTable.{IsPatternTable}
 use Rattle.rng_deriv.proofs.PatternTable.{IsPatternTable-push, tree_of_pushed}
 use Rattle.rng_deriv.proofs.pattern_table.PatternTable.push.Goals as goal
 

@@ -1,5 +1,5 @@
 use Rattle.std.proofs.Common.{map}
-use Rattle.rng_model.specs.View.{attribute_of}
+use Rattle.rng_model.specs.documents.DocumentViews.{attribute_of}
 use Rattle.rng_derivatives.proofs.Memo.{serves_longer}
 use Rattle.rng_derivatives.proofs.Served.{below_there, seen_there, tag_added, there_served}
 use Rattle.rng_derivatives.proofs.grammar_derivatives.GrammarDerivativesDerivatives.after_tag.Goals as goal

@@ -1,4 +1,4 @@
-use Rattle.rng_ways.specs.Kinds.{reading_of}
+use Rattle.rng_model.specs.matching.GrammarReading.{reading_of}
 use Rattle.rng_ways.proofs.KnownWays.{all_longer}
 use Rattle.rng_derivatives.proofs.Memo.{serves_longer}
 use Rattle.rng_derivatives.proofs.Served.{all_below_there, choice_added, seen_there, there_served}

@@ -1,6 +1,6 @@
 use Rattle.std.proofs.Common.{List, subst}
 use Rattle.rng_patterns.specs.declared.pattern.PatternNumber.{PatternNumber}
-use Rattle.rng_derivatives.specs.Renewal.{AreSameTrees}
+use Rattle.rng_derivatives.specs.views.Renewal.{AreSameTrees}
 use Rattle.rng_derivatives.proofs.Memo.{none_kept}
 use Rattle.rng_derivatives.proofs.Renewal.{held_renewed, served_renewed}
 use Rattle.rng_derivatives.proofs.Served.{all_below_there, seen_there, there_served}

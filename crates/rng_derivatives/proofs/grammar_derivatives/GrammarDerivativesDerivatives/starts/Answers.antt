@@ -1,18 +1,18 @@
 use Rattle.std.proofs.Common.{List, refl, subst, sym}
-use Rattle.rng_model.specs.Table.{Table}
-use Rattle.rng_keys.specs.Keys.{name_at}
-use Rattle.rng_model.specs.View.{name_of}
-use Rattle.rng_patterns.specs.Node.{Node}
-use Rattle.rng_patterns.specs.Trees.{tree_of, trees}
+use Rattle.rng_model.specs.simple.Table.{Table}
+use Rattle.rng_keys.specs.plain.Keys.{name_at}
+use Rattle.rng_model.specs.names.NameViews.{name_of}
+use Rattle.rng_patterns.specs.views.Node.{Node}
+use Rattle.rng_patterns.specs.views.Trees.{tree_of, trees}
 use Rattle.rng_patterns.specs.declared.pattern.PatternNumber.{PatternNumber}
 use Rattle.rng_patterns.proofs.Trees.{Longer-trans}
-use Rattle.rng_ways.specs.Kinds.{reading_of}
-use Rattle.rng_ways.specs.Ways.{ways_by}
-use Rattle.rng_ways.specs.Starting.{AreStarts}
+use Rattle.rng_model.specs.matching.GrammarReading.{reading_of}
+use Rattle.rng_ways.specs.plain.Ways.{ways_by}
+use Rattle.rng_ways.specs.plain.Starting.{AreStarts}
 use Rattle.rng_ways.specs.declared.way.Way as numbered
-use Rattle.rng_matcher.specs.Numbers.{AddsStarts, IsInside}
-use Rattle.rng_matcher.specs.Numbers as table
-use Rattle.rng_derivatives.specs.Starts.{OpensLike}
+use Rattle.rng_matcher.specs.views.Numbers.{AddsStarts, IsInside}
+use Rattle.rng_matcher.specs.views.Numbers as table
+use Rattle.rng_derivatives.specs.views.Starts.{OpensLike}
 use Rattle.rng_derivatives.specs.declared.start_memo.StartKey.{StartKey}
 use Rattle.rng_ways.proofs.KnownWays.{all_longer}
 use Rattle.rng_derivatives.proofs.Memo.{for_each_name, found_added, is_answer, serves_more}

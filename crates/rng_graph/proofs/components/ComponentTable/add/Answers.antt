@@ -1,11 +1,11 @@
 use Rattle.std.proofs.Common.{◌≡◌, ◌∙◌, [], ◌∷◌, ◌++◌, ap, map, length, arith}
 use Rattle.std.proofs.lemmas.List.{map-append, map-set}
-use Rattle.rng_model.specs.Schema.{Definition}
-use Rattle.rng_model.specs.SchemaView.{place_of, schema_component_of}
-use Rattle.rng_graph.specs.ComponentTable.{table_of}
-use Rattle.rng_graph.specs.Graph.{number_of}
-use Rattle.rng_graph.specs.Definitions.{definition_of}
-use Rattle.rng_graph.specs.Resolving.{with_definition}
+use Rattle.rng_model.specs.schema.Schema.{Definition}
+use Rattle.rng_model.specs.views.SchemaView.{place_of, schema_component_of}
+use Rattle.rng_graph.specs.views.ComponentTable.{table_of}
+use Rattle.rng_graph.specs.plain.Graph.{number_of}
+use Rattle.rng_graph.specs.views.Definitions.{definition_of}
+use Rattle.rng_graph.specs.plain.Resolving.{with_definition}
 use Rattle.rng_graph.proofs.ComponentTables.{all_seen, list_at, list_within, one_component_more, seen}
 use Rattle.rng_graph.proofs.components.ComponentTable.add.Goals as goal
 

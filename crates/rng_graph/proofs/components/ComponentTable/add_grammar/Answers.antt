@@ -1,6 +1,6 @@
 use Rattle.std.proofs.Common.{◌++◌, map}
-use Rattle.rng_model.specs.SchemaView.{place_of, schema_component_of}
-use Rattle.rng_graph.specs.ComponentTable.{components_of, table_of, those_at}
+use Rattle.rng_model.specs.views.SchemaView.{place_of, schema_component_of}
+use Rattle.rng_graph.specs.views.ComponentTable.{components_of, table_of, those_at}
 use Rattle.rng_graph.proofs.ComponentTables.{one_less}
 use Rattle.rng_graph.proofs.components.ComponentTable.add_grammar.Goals as goal
 

@@ -1,7 +1,7 @@
 use Rattle.std.proofs.Common.{◌≡◌, ◌++◌, drop, map}
-use Rattle.rng_model.specs.Schema as schemas
-use Rattle.rng_model.specs.SchemaView.{place_of, schema_component_of}
-use Rattle.rng_graph.specs.ComponentTable.{IsTable, components_of, table_of, those_at}
+use Rattle.rng_model.specs.schema.Schema as schemas
+use Rattle.rng_model.specs.views.SchemaView.{place_of, schema_component_of}
+use Rattle.rng_graph.specs.views.ComponentTable.{IsTable, components_of, table_of, those_at}
 use Rattle.rng_graph.proofs.components.ComponentTable.add_grammar.Given as goal
 
 -- what it has now, and those that are left, are what it had at first, and all

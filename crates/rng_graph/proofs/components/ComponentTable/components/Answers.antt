@@ -1,8 +1,8 @@
 use Rattle.std.proofs.Common.{◌∙◌, [], ap, map, length, ◌<◌, arith, slice_index_or}
 use Rattle.std.proofs.lemmas.List.{length-map}
-use Rattle.rng_graph.specs.ComponentTable.{table_of}
-use Rattle.rng_graph.specs.Definitions.{definition_of}
-use Rattle.rng_graph.specs.Graph.{number_of}
+use Rattle.rng_graph.specs.views.ComponentTable.{table_of}
+use Rattle.rng_graph.specs.views.Definitions.{definition_of}
+use Rattle.rng_graph.specs.plain.Graph.{number_of}
 use Rattle.rng_graph.proofs.ComponentTables.{all_seen, list_at, no_list_at, no_position, position_is, seen}
 use Rattle.rng_graph.proofs.DefinitionNumbers.{number_seen}
 use Rattle.rng_graph.proofs.components.ComponentTable.components.Goals as goal

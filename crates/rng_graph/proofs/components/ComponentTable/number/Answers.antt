@@ -1,8 +1,8 @@
 use Rattle.std.proofs.Common.{◌≡◌, ◌∙◌, [], ◌∷◌, ap, sym, length, arith}
 use Rattle.std.proofs.lemmas.List.{length-append, length-map}
-use Rattle.rng_graph.specs.ComponentTable.{table_of}
-use Rattle.rng_graph.specs.Definitions.{definition_of}
-use Rattle.rng_graph.specs.Graph.{number_of}
+use Rattle.rng_graph.specs.views.ComponentTable.{table_of}
+use Rattle.rng_graph.specs.views.Definitions.{definition_of}
+use Rattle.rng_graph.specs.plain.Graph.{number_of}
 use Rattle.rng_graph.proofs.ComponentTables.{all_seen, no_definition_more, one_definition_more}
 use Rattle.rng_graph.proofs.components.ComponentTable.number.Goals as goal
 

@@ -1,8 +1,8 @@
 use Rattle.std.proofs.Common.{◌∙◌, ap, sym, subst, map, option_map, drop, ◌+◌}
-use Rattle.rng_model.specs.SchemaView.{place_of, schema_component_of}
-use Rattle.rng_load.specs.PlacedGrammars.{schema_of}
-use Rattle.rng_graph.specs.ComponentTable.{components_of, table_of}
-use Rattle.rng_graph.specs.Definitions.{definition_of}
+use Rattle.rng_model.specs.views.SchemaView.{place_of, schema_component_of}
+use Rattle.rng_load.specs.views.PlacedGrammars.{schema_of}
+use Rattle.rng_graph.specs.views.ComponentTable.{components_of, table_of}
+use Rattle.rng_graph.specs.views.Definitions.{definition_of}
 use Rattle.rng_graph.proofs.ComponentTables.{all_seen, Gathers, no_grammar, none_at, one_grammar_more, these_at}
 use Rattle.rng_graph.proofs.components.ComponentTable.of_schema.Goals as goal
 use Rattle.rng_graph.proofs.components.ComponentTable.of_schema.Goals.{in-Some+in_ok-add_grammar, in_default}

@@ -1,7 +1,7 @@
 use Rattle.std.proofs.Common.{drop, map}
-use Rattle.rng_model.specs.SchemaView.{place_of}
-use Rattle.rng_load.specs.PlacedGrammars.{schema_of}
-use Rattle.rng_graph.specs.ComponentTable.{table_of}
+use Rattle.rng_model.specs.views.SchemaView.{place_of}
+use Rattle.rng_load.specs.views.PlacedGrammars.{schema_of}
+use Rattle.rng_graph.specs.views.ComponentTable.{table_of}
 use Rattle.rng_graph.proofs.ComponentTables.{Gathers}
 use Rattle.rng_graph.proofs.components.ComponentTable.of_schema.Given as goal
 

@@ -1,9 +1,9 @@
 use Rattle.std.proofs.Common.{◌≡◌, ◌∙◌, sym, ap, map, option_map, ◌∷◌, [], ◌++◌}
 use Rattle.std.proofs.lemmas.List.{map_push}
-use Rattle.rng_model.specs.SchemaView.{place_of, schema_pattern_of}
-use Rattle.rng_graph.specs.Connectors.{connector_of}
-use Rattle.rng_graph.specs.Definitions.{numbering_of}
-use Rattle.rng_graph.specs.GraphView.{graph_pattern_of, members}
+use Rattle.rng_model.specs.views.SchemaView.{place_of, schema_pattern_of}
+use Rattle.rng_graph.specs.views.Connectors.{connector_of}
+use Rattle.rng_graph.specs.views.Definitions.{numbering_of}
+use Rattle.rng_graph.specs.views.GraphView.{graph_pattern_of, members}
 use Rattle.rng_graph.proofs.ResolvedMembers.{all_numbered, all_patterns, goes_on, members_resolved}
 use Rattle.rng_graph.proofs.resolving.Scope.+resolving.Goals as goal
 

@@ -1,8 +1,8 @@
 use Rattle.std.proofs.Common.{◌≡◌, ◌∙◌, ap, map, ◌∷◌, [], ◌++◌}
 use Rattle.std.proofs.lemmas.List.{map_push}
-use Rattle.rng_model.specs.SchemaView.{schema_component_of}
-use Rattle.rng_graph.specs.Definitions.{numbering_of}
-use Rattle.rng_graph.specs.GraphView.{graph_pattern_of}
+use Rattle.rng_model.specs.views.SchemaView.{schema_component_of}
+use Rattle.rng_graph.specs.views.Definitions.{numbering_of}
+use Rattle.rng_graph.specs.views.GraphView.{graph_pattern_of}
 use Rattle.rng_graph.proofs.ResolvedMembers.{all_numbered, all_patterns, goes_on}
 use Rattle.rng_graph.proofs.resolving.Scope.component_patterns.Goals as goal
 

@@ -1,7 +1,7 @@
 use Rattle.std.proofs.Common.{map, drop, option_map}
-use Rattle.rng_model.specs.SchemaView.{place_of, schema_component_of}
-use Rattle.rng_graph.specs.Definitions.{numbering_of}
-use Rattle.rng_graph.specs.GraphView.{graph_pattern_of}
+use Rattle.rng_model.specs.views.SchemaView.{place_of, schema_component_of}
+use Rattle.rng_graph.specs.views.Definitions.{numbering_of}
+use Rattle.rng_graph.specs.views.GraphView.{graph_pattern_of}
 use Rattle.rng_graph.proofs.ResolvedMembers.{AreResolved}
 use Rattle.rng_graph.proofs.resolving.Scope.component_patterns.Given as goal
 

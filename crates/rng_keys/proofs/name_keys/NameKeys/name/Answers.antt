@@ -1,10 +1,10 @@
 use Rattle.std.proofs.Common.{◌≡◌, ◌<◌, ◌∙◌, ap, refl, subst, length, get_or, arith}
 use Rattle.std.proofs.lemmas.List.{length-map}
 use Rattle.std.proofs.lemmas.Option.{slice_get_read}
-use Rattle.rng_model.specs.View.{name_of}
-use Rattle.rng_keys.specs.Keys.{key_of}
-use Rattle.rng_keys.specs.KeyTables.{keys_in}
-use Rattle.rng_keys.specs.WrittenNames.{seen_numbers}
+use Rattle.rng_model.specs.names.NameViews.{name_of}
+use Rattle.rng_keys.specs.plain.Keys.{key_of}
+use Rattle.rng_keys.specs.views.KeyTables.{keys_in}
+use Rattle.rng_keys.specs.plain.WrittenNames.{seen_numbers}
 use Rattle.rng_keys.proofs.OwnKeys.{own_key_of}
 use Rattle.rng_keys.proofs.name_keys.NameKeys.name.Goals as goal
 

@@ -1,6 +1,6 @@
 use Rattle.std.proofs.Common.{◌≡◌, ◌∙◌, ap, subst, map}
-use Rattle.rng_keys.specs.GrammarClasses.{attribute_class, element_class, seen_class}
-use Rattle.rng_keys.specs.KeyTables.{ServesAll, keys_in}
+use Rattle.rng_keys.specs.views.GrammarClasses.{attribute_class, element_class, seen_class}
+use Rattle.rng_keys.specs.views.KeyTables.{ServesAll, keys_in}
 use Rattle.rng_keys.proofs.Serving.{all_served}
 use Rattle.rng_keys.proofs.name_keys.NameKeys.of.Goals as goal
 

@@ -1,13 +1,13 @@
 use Rattle.std.proofs.Common.{◌≡◌, ◌<◌, ◌∙◌, ap, ap₂, ℕ, max, length, map, Some, slice_get, string_bytes, arith, rules}
 use Rattle.std.proofs.lemmas.Result.{IfOk-weaker}
-use Rattle.rng_model.specs.Names.{NameClass}
-use Rattle.rng_model.specs.View.{name_of}
-use Rattle.rng_names.specs.Holding.{pair}
-use Rattle.rng_names.specs.Written.{longest}
-use Rattle.rng_keys.specs.GrammarClasses.{seen_class}
-use Rattle.rng_keys.specs.Keys.{AreKeys}
-use Rattle.rng_keys.specs.KeyTables.{IsTold, ServesAll, keys_in}
-use Rattle.rng_keys.specs.WrittenNames.{Knows, written_in}
+use Rattle.rng_model.specs.names.Names.{NameClass}
+use Rattle.rng_model.specs.names.NameViews.{name_of}
+use Rattle.rng_names.specs.plain.Holding.{pair}
+use Rattle.rng_names.specs.plain.Written.{longest}
+use Rattle.rng_keys.specs.views.GrammarClasses.{seen_class}
+use Rattle.rng_keys.specs.plain.Keys.{AreKeys}
+use Rattle.rng_keys.specs.views.KeyTables.{IsTold, ServesAll, keys_in}
+use Rattle.rng_keys.specs.plain.WrittenNames.{Knows, written_in}
 use Rattle.rng_keys.proofs.Growing.{still_known}
 use Rattle.rng_keys.proofs.Serving.{are_keys, serves_all}
 use Rattle.rng_keys.proofs.tables.Tables.of_classes.Goals as goal

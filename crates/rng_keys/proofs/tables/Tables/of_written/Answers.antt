@@ -1,8 +1,8 @@
 use Rattle.std.proofs.Common.{◌≡◌, ◌∙◌, ap, refl, subst, map, string_bytes, length, arith, rules}
 use Rattle.std.specs.Map.{keys_of, lookup}
 use Rattle.std.specs.Str.{bytes_eq}
-use Rattle.rng_keys.specs.KeyTables.{AddsOthers, keys_in}
-use Rattle.rng_keys.specs.WrittenNames.{written_in}
+use Rattle.rng_keys.specs.views.KeyTables.{AddsOthers, keys_in}
+use Rattle.rng_keys.specs.plain.WrittenNames.{written_in}
 use Rattle.rng_keys.proofs.Growing.{seen_at}
 use Rattle.rng_keys.proofs.Telling.{IsToldOf, all_told, measured_most, one_told}
 use Rattle.rng_keys.proofs.tables.Tables.of_written.Goals as goal

@@ -1,6 +1,6 @@
 use Rattle.std.proofs.Common.{map, string_bytes}
-use Rattle.rng_keys.specs.KeyTables.{keys_in}
-use Rattle.rng_keys.specs.WrittenNames.{written_in}
+use Rattle.rng_keys.specs.views.KeyTables.{keys_in}
+use Rattle.rng_keys.specs.plain.WrittenNames.{written_in}
 use Rattle.rng_keys.proofs.Telling.{IsToldOf}
 use Rattle.rng_keys.proofs.tables.Tables.of_written.Given as goal
 

@@ -1,6 +1,6 @@
 use Rattle.std.proofs.Common.{map, Some}
-use Rattle.rng_model.specs.View.{class_of}
-use Rattle.rng_keys.specs.WrittenNames.{written_in}
+use Rattle.rng_model.specs.names.NameViews.{class_of}
+use Rattle.rng_keys.specs.plain.WrittenNames.{written_in}
 use Rattle.rng_keys.proofs.Growing.{AreAdded}
 use Rattle.rng_keys.proofs.written_names.WrittenNames.+add_class.Given as goal
 

@@ -1,8 +1,8 @@
 use Rattle.std.proofs.Common.{map, arith}
 use Rattle.std.proofs.lemmas.List.{length-map}
-use Rattle.rng_model.specs.View.{class_of}
-use Rattle.rng_keys.specs.GrammarClasses.{seen_class}
-use Rattle.rng_keys.specs.WrittenNames.{written_in}
+use Rattle.rng_model.specs.names.NameViews.{class_of}
+use Rattle.rng_keys.specs.views.GrammarClasses.{seen_class}
+use Rattle.rng_keys.specs.plain.WrittenNames.{written_in}
 use Rattle.rng_keys.proofs.Growing.{all_added, one_added, one_passed_over, seen_at}
 use Rattle.rng_keys.proofs.written_names.WrittenNames.add_classes.Goals as goal
 

@@ -1,6 +1,6 @@
 use Rattle.std.proofs.Common.{map}
-use Rattle.rng_keys.specs.GrammarClasses.{seen_class}
-use Rattle.rng_keys.specs.WrittenNames.{written_in}
+use Rattle.rng_keys.specs.views.GrammarClasses.{seen_class}
+use Rattle.rng_keys.specs.plain.WrittenNames.{written_in}
 use Rattle.rng_keys.proofs.Growing.{AreAdded}
 use Rattle.rng_keys.proofs.written_names.WrittenNames.add_classes.Given as goal
 

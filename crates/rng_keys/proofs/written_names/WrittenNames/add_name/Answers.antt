@@ -1,6 +1,6 @@
 use Rattle.std.proofs.Common.{◌≡◌, subst, refl, length, Some, slice_get, rules}
-use Rattle.rng_model.specs.View.{name_of}
-use Rattle.rng_keys.specs.WrittenNames.{IsMeasured, written_in}
+use Rattle.rng_model.specs.names.NameViews.{name_of}
+use Rattle.rng_keys.specs.plain.WrittenNames.{IsMeasured, written_in}
 use Rattle.rng_keys.proofs.Growing.{grows_on, knows_name, less_measured, name_put}
 use Rattle.rng_keys.proofs.written_names.WrittenNames.add_name.Goals as goal
 

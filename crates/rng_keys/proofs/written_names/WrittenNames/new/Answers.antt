@@ -1,5 +1,5 @@
 use Rattle.std.proofs.Common.{refl}
-use Rattle.rng_model.specs.View.{name_of}
+use Rattle.rng_model.specs.names.NameViews.{name_of}
 use Rattle.rng_keys.proofs.KeyLookups.{is_first}
 use Rattle.rng_keys.proofs.written_names.WrittenNames.new.Goals as goal
 

@@ -1,7 +1,7 @@
 use Rattle.std.proofs.Common.{◌≡◌, map, drop}
-use Rattle.rnc_grammar.specs.FileTree.{components_of}
-use Rattle.rnc_grammar.specs.View.{component_of}
-use Rattle.rng_load.specs.ComponentNames.{gather, names_in}
+use Rattle.rnc_model.specs.declarations.FileTree.{components_of}
+use Rattle.rnc_grammar.specs.views.View.{component_of}
+use Rattle.rng_load.specs.plain.ComponentNames.{gather, names_in}
 use Rattle.rng_load.proofs.component_names.ComponentNames.+component_names.Given as goal
 
 abbrev pub invariant-add_all-loop-component : goal.invariant-add_all-loop-component

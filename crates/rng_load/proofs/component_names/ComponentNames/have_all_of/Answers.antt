@@ -1,5 +1,5 @@
 use Rattle.std.proofs.Common.{Some}
-use Rattle.rng_load.specs.ComponentNames.{names_in}
+use Rattle.rng_load.specs.plain.ComponentNames.{names_in}
 use Rattle.rng_load.proofs.HandedIn.{is_not}
 use Rattle.rng_load.proofs.GatheredNames.{all_there, part_of, lacking}
 use Rattle.rng_load.proofs.component_names.ComponentNames.have_all_of.Goals.{else-others-via-then-others+else-not-self, else-others-via-else-others}

@@ -1,6 +1,6 @@
 use Rattle.std.proofs.Common.{◌≡◌, ◌||◌, map, drop}
-use Rattle.rng_load.specs.GatheredComponents.{gathered_of, has_name}
-use Rattle.rng_load.specs.Places.{Gathered, is_overridden}
+use Rattle.rng_load.specs.views.GatheredComponents.{gathered_of, has_name}
+use Rattle.rnc_model.specs.loading.Places.{Gathered, is_overridden}
 use Rattle.rng_load.proofs.gathering.OverridingNames.of_all.Given as goal
 
 abbrev pub invariant-loop-component : goal.invariant-loop-component

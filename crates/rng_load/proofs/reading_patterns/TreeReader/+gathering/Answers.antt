@@ -1,10 +1,10 @@
 use Rattle.std.proofs.Common.{◌≡◌, ◌∙◌, rules, arith, sym, ap, map, [], ◌-◌, ◌<◌, ◌≤◌, ◌∷◌, ◌++◌, length, reverse}
-use Rattle.rnc_grammar.specs.FileTree.{components_of}
-use Rattle.rnc_grammar.specs.View.{component_of}
-use Rattle.rng_load.specs.GatheredComponents.{gathered_of}
-use Rattle.rng_load.specs.Loading.{grammar_if}
-use Rattle.rng_load.specs.PlainReading.{gather_at, gather_one_at}
-use Rattle.rng_load.specs.ReadPatterns.{files_in}
+use Rattle.rnc_model.specs.declarations.FileTree.{components_of}
+use Rattle.rnc_grammar.specs.views.View.{component_of}
+use Rattle.rng_load.specs.views.GatheredComponents.{gathered_of}
+use Rattle.rnc_model.specs.loading.Loading.{grammar_if}
+use Rattle.rng_load.specs.plain.PlainReading.{gather_at, gather_one_at}
+use Rattle.rng_load.specs.views.ReadPatterns.{files_in}
 use Rattle.rng_load.proofs.GatherIncluded.{file_gathered}
 use Rattle.rng_load.proofs.GatherOneByOne.{all_gathered, goes_on}
 use Rattle.rng_load.proofs.LeftToGather.{falls_to_component, falls_to_grammar}

@@ -1,8 +1,8 @@
 use Rattle.std.proofs.Common.{◌≡◌, ◌*◌, ◌+◌, map, reverse}
-use Rattle.rnc_grammar.specs.FileTree.{components_of}
-use Rattle.rnc_grammar.specs.View.{component_of}
-use Rattle.rng_load.specs.GatheredComponents.{gathered_of}
-use Rattle.rng_load.specs.ReadPatterns.{files_in}
+use Rattle.rnc_model.specs.declarations.FileTree.{components_of}
+use Rattle.rnc_grammar.specs.views.View.{component_of}
+use Rattle.rng_load.specs.views.GatheredComponents.{gathered_of}
+use Rattle.rng_load.specs.views.ReadPatterns.{files_in}
 use Rattle.rng_load.proofs.GatherOneByOne.{AreGathered}
 use Rattle.rng_load.proofs.LeftToRead.{left_in}
 use Rattle.rng_load.proofs.TreeSizes.{size_of_component, size_of_components}

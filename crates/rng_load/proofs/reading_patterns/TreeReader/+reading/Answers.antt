@@ -1,11 +1,11 @@
 use Rattle.std.proofs.Common.{◌≡◌, ◌∙◌, rules, arith, sym, ap, subst, IfOk, map, Some, None, ◌<◌, ◌≤◌, ◌∷◌, [], ◌++◌, length, reverse}
 use Rattle.std.proofs.lemmas.List.{map_push}
-use Rattle.rng_model.specs.Patterns as pattern
-use Rattle.rng_model.specs.SchemaView.{schema_pattern_of}
+use Rattle.rng_model.specs.schema.Patterns as pattern
+use Rattle.rng_model.specs.views.SchemaView.{schema_pattern_of}
 use Rattle.rnc_grammar.specs.declared.file_tree.Pattern.TheVariants as trees
-use Rattle.rnc_grammar.specs.View.{file_of, pattern_of}
-use Rattle.rng_load.specs.ReadPatterns.{connector_of, files_in, nested_of}
-use Rattle.rng_load.specs.PlainReading.{read_at}
+use Rattle.rnc_grammar.specs.views.View.{file_of, pattern_of}
+use Rattle.rng_load.specs.views.ReadPatterns.{connector_of, files_in, nested_of}
+use Rattle.rng_load.specs.plain.PlainReading.{read_at}
 use Rattle.rng_load.proofs.LeftToRead.{falls_to_file, falls_to_member}
 use Rattle.rng_load.proofs.ReadDatatypes.{plain_read, except_read}
 use Rattle.rng_load.proofs.ReadMentioned.{external_schema, file_read}

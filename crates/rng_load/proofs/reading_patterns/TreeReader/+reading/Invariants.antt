@@ -1,8 +1,8 @@
 use Rattle.std.proofs.Common.{◌≡◌, ◌*◌, ◌+◌, map, drop, reverse}
-use Rattle.rng_model.specs.SchemaView.{schema_pattern_of}
-use Rattle.rnc_grammar.specs.FileTree.{patterns_of}
-use Rattle.rnc_grammar.specs.View.{pattern_of}
-use Rattle.rng_load.specs.ReadPatterns.{files_in, nested_of}
+use Rattle.rng_model.specs.views.SchemaView.{schema_pattern_of}
+use Rattle.rnc_model.specs.declarations.FileTree.{patterns_of}
+use Rattle.rnc_grammar.specs.views.View.{pattern_of}
+use Rattle.rng_load.specs.views.ReadPatterns.{files_in, nested_of}
 use Rattle.rng_load.proofs.LeftToRead.{left_in}
 use Rattle.rng_load.proofs.ReadOneByOne.{AreRead}
 use Rattle.rng_load.proofs.TreeSizes.{size, size_of_patterns}

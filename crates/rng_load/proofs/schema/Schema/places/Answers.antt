@@ -1,10 +1,10 @@
 use Rattle.std.proofs.Common.{◌≡◌, ◌∙◌, ap, map, subst, sym}
 use Rattle.std.specs.Map.{keys_of}
-use Rattle.rng_model.specs.SchemaView.{place_of}
-use Rattle.rng_load.specs.PlacedGrammars.{grammars_of, schema_of}
-use Rattle.rng_load.specs.SchemaPlaces.{AreItsPlaces}
+use Rattle.rng_model.specs.views.SchemaView.{place_of}
+use Rattle.rng_load.specs.views.PlacedGrammars.{grammars_of, schema_of}
+use Rattle.rng_load.specs.plain.SchemaPlaces.{AreItsPlaces}
 use Rattle.rng_load.proofs.PlacesListed.{keys_seen, places_listed, places_once}
-use Rattle.rng_model.specs.Lists.{HasTwice}
+use Rattle.rng_model.specs.names.Lists.{HasTwice}
 use Rattle.rng_load.proofs.schema.Schema.places.Goals as goal
 
 pub returns : goal.returns

@@ -1,11 +1,11 @@
 use Rattle.std.proofs.Common.{◌∙◌, rules, ap, sym, subst, map, arith, length, ◌<◌, ◌≤◌}
 use Rattle.std.proofs.lemmas.List.{take_all}
-use Rattle.rng_model.specs.Lists.{Among}
-use Rattle.rng_model.specs.SchemaView.{place_of}
-use Rattle.rnc_grammar.specs.View.{file_of}
-use Rattle.rng_load.specs.FilesView.{taken_files_of}
-use Rattle.rng_load.specs.PlacedGrammars.{grammars_of}
-use Rattle.rng_load.specs.ReadPatterns.{files_in, nested_of}
+use Rattle.rng_model.specs.names.Lists.{Among}
+use Rattle.rng_model.specs.views.SchemaView.{place_of}
+use Rattle.rnc_grammar.specs.views.View.{file_of}
+use Rattle.rng_load.specs.views.FilesView.{taken_files_of}
+use Rattle.rng_load.specs.views.PlacedGrammars.{grammars_of}
+use Rattle.rng_load.specs.views.ReadPatterns.{files_in, nested_of}
 use Rattle.rng_load.proofs.AllFound.{IsAdding, ends, goes_on, nearer, nested_there}
 use Rattle.rng_load.proofs.SchemaRead.{put_first}
 use Rattle.rng_load.proofs.TurnsTaken.{taken_among, taken_last}

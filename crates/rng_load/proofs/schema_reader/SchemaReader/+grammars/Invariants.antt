@@ -1,9 +1,9 @@
 use Rattle.std.proofs.Common.{◌*◌, ◌+◌, ◌-◌, length, map, take}
-use Rattle.rng_model.specs.SchemaView.{place_of}
-use Rattle.rnc_grammar.specs.View.{file_of}
-use Rattle.rng_load.specs.FilesView.{taken_files_of}
-use Rattle.rng_load.specs.PlacedGrammars.{grammars_of}
-use Rattle.rng_load.specs.ReadPatterns.{files_in, nested_of}
+use Rattle.rng_model.specs.views.SchemaView.{place_of}
+use Rattle.rnc_grammar.specs.views.View.{file_of}
+use Rattle.rng_load.specs.views.FilesView.{taken_files_of}
+use Rattle.rng_load.specs.views.PlacedGrammars.{grammars_of}
+use Rattle.rng_load.specs.views.ReadPatterns.{files_in, nested_of}
 use Rattle.rng_load.proofs.AllFound.{IsAdding}
 use Rattle.rng_load.proofs.PlacesWithin.{longest}
 use Rattle.rng_load.proofs.schema_reader.SchemaReader.+grammars.Given as goal

@@ -1,10 +1,10 @@
 use Rattle.std.proofs.Common.{◌≡◌, ◌∙◌, rules, ap, sym, map, reverse, [], ◌∷◌, ◌++◌, None}
 use Rattle.rng_model.specs.declared.method.Method.TheVariants as methods
-use Rattle.rnc_grammar.specs.View.{pattern_of}
-use Rattle.rng_load.specs.GatheredComponents.{gathered_of}
-use Rattle.rng_load.specs.MentionPaths.{path_limit}
-use Rattle.rng_load.specs.PlainReading.{gathered_as, read_at}
-use Rattle.rng_load.specs.ReadPatterns.{files_in}
+use Rattle.rnc_grammar.specs.views.View.{pattern_of}
+use Rattle.rng_load.specs.views.GatheredComponents.{gathered_of}
+use Rattle.rnc_model.specs.loading.MentionPaths.{path_limit}
+use Rattle.rng_load.specs.plain.PlainReading.{gathered_as, read_at}
+use Rattle.rng_load.specs.views.ReadPatterns.{files_in}
 use Rattle.rng_load.proofs.SchemaRead.{only_start}
 use Rattle.rng_load.proofs.schema_reader.SchemaReader.start.Goals as goal
 

@@ -1,10 +1,10 @@
 use Rattle.std.proofs.Common.{◌≡◌, ◌∙◌, sym, subst, true, false}
 use Rattle.std.specs.List.{list_any}
-use Rattle.rng_model.specs.PyxTrees.{events_of}
-use Rattle.rng_matching.specs.Derivatives.{is_nullable}
-use Rattle.rng_matcher.specs.Numbers.{tree_of}
-use Rattle.rng_matcher.specs.Outcomes.{IsValid, FailsAt}
-use Rattle.rng_matcher.specs.Positions.{IsKnown}
+use Rattle.rng_model.specs.documents.PyxTrees.{events_of}
+use Rattle.rng_matching.specs.plain.Derivatives.{is_nullable}
+use Rattle.rng_matcher.specs.views.Numbers.{tree_of}
+use Rattle.rng_model.specs.matching.Outcomes.{IsValid, FailsAt}
+use Rattle.rng_matcher.specs.views.Positions.{IsKnown}
 use Rattle.rng_matcher.proofs.Knowing.{failed, ends_valid, ends_invalid}
 use Rattle.rng_matcher.proofs.matcher.Matcher.finish.Goals as goal
 

@@ -1,9 +1,9 @@
 use Rattle.std.proofs.Common.{◌≡◌, refl, map, ⊎_elim, subst, arith}
 use Rattle.std.specs.List.{list_any}
 use Rattle.std.proofs.lemmas.List.{take_all}
-use Rattle.rng_model.specs.Names.{some_of}
-use Rattle.rng_model.specs.View.{class_of}
-use Rattle.rng_names.specs.Alternatives.{Adds, has_alternative}
+use Rattle.rng_model.specs.names.Names.{some_of}
+use Rattle.rng_model.specs.names.NameViews.{class_of}
+use Rattle.rng_names.specs.views.Alternatives.{Adds, has_alternative}
 use Rattle.rng_names.proofs.HeldByAlternatives.{adds_choice, adds_excepted}
 use Rattle.rng_names.proofs.Views.{any_except_is, choice_is, ns_except_is}
 use Rattle.rng_names.proofs.alternatives.Alternatives.+add.Goals as goal

@@ -1,7 +1,7 @@
 use Rattle.std.proofs.Common.{take}
 use Rattle.std.specs.List.{list_any}
-use Rattle.rng_model.specs.View.{class_of}
-use Rattle.rng_names.specs.Alternatives.{Adds, has_alternative}
+use Rattle.rng_model.specs.names.NameViews.{class_of}
+use Rattle.rng_names.specs.views.Alternatives.{Adds, has_alternative}
 use Rattle.rng_names.proofs.alternatives.Alternatives.+add.Given as goal
 
 -- the alternatives of the members so far are added

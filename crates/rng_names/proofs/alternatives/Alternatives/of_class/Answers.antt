@@ -1,8 +1,8 @@
 use Rattle.std.proofs.Common.{ap, refl, false}
 use Rattle.std.specs.List.{list_any}
-use Rattle.rng_model.specs.View.{class_of}
-use Rattle.rng_names.specs.Alternatives.{is_key}
-use Rattle.rng_names.specs.Holding.{holds}
+use Rattle.rng_model.specs.names.NameViews.{class_of}
+use Rattle.rng_names.specs.views.Alternatives.{is_key}
+use Rattle.rng_names.specs.plain.Holding.{holds}
 use Rattle.rng_names.proofs.HeldByAlternatives.{stands}
 use Rattle.rng_names.proofs.alternatives.Alternatives.of_class.Goals as goal
 

@@ -1,6 +1,6 @@
 use Rattle.std.proofs.Common.{◌+◌, ◌<◌, Some, ap, arith, length, ◌∙◌}
-use Rattle.rng_patterns.specs.Kept.{Interleaves}
-use Rattle.rng_patterns.specs.Node.{node_of}
+use Rattle.rng_patterns.specs.plain.Kept.{Interleaves}
+use Rattle.rng_patterns.specs.views.Node.{node_of}
 use Rattle.rng_patterns.proofs.Choices.{both_ok}
 use Rattle.rng_patterns.proofs.Interleaves.{as_given, at_side, of_pair, opened, ordered, sum_of_pair}
 use Rattle.rng_patterns.proofs.Trees.{Longer-length}

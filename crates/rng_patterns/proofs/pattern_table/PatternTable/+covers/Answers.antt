@@ -1,5 +1,5 @@
 use Rattle.std.proofs.Common.{◌≡◌, ◌∙◌, Option, Some, ap, arith, eqb-true, refl, sym}
-use Rattle.rng_patterns.specs.Node.{Node, node_of}
+use Rattle.rng_patterns.specs.views.Node.{Node, node_of}
 use Rattle.rng_patterns.specs.declared.pattern.Pattern.{Pattern}
 use Rattle.rng_patterns.proofs.WiderParts.{first_covers, group_covers, interleave_covers, second_covers}
 use Rattle.rng_patterns.proofs.pattern_table.PatternTable.+covers.Goals as goal

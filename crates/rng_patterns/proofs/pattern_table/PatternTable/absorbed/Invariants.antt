@@ -1,7 +1,7 @@
 use Rattle.std.proofs.Common.{IsTrue, nat_eq}
 use Rattle.std.specs.HashSet.{contains}
 use Rattle.std.specs.List.{Contains}
-use Rattle.rng_patterns.specs.Choices.{IsAbsorbedBy}
+use Rattle.rng_patterns.specs.views.Choices.{IsAbsorbedBy}
 use Rattle.rng_patterns.specs.declared.pattern.PatternNumber.{PatternNumber}
 use Rattle.rng_patterns.proofs.pattern_table.PatternTable.absorbed.Given as goal
 

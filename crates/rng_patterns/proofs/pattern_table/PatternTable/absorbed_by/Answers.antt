@@ -1,10 +1,10 @@
 use Rattle.std.proofs.Common.{◌≡◌, Some, ap, arith, subst, sym, true, ◌∙◌}
-use Rattle.rng_matching.specs.Derivatives.{is_nullable}
-use Rattle.rng_matching.specs.Taking.{Takes}
-use Rattle.rng_matching.specs.Taking as taking
+use Rattle.rng_matching.specs.plain.Derivatives.{is_nullable}
+use Rattle.rng_matching.specs.plain.Taking.{Takes}
+use Rattle.rng_matching.specs.plain.Taking as taking
 use Rattle.rng_matching.proofs.Same.{choice_absorbs_second}
-use Rattle.rng_patterns.specs.Node.{node_of}
-use Rattle.rng_patterns.specs.Trees.{tree_of}
+use Rattle.rng_patterns.specs.views.Node.{node_of}
+use Rattle.rng_patterns.specs.views.Trees.{tree_of}
 use Rattle.rng_patterns.specs.declared.pattern.Facts.{Facts}
 use Rattle.rng_patterns.proofs.Trees.{tree_of-over_parts}
 use Rattle.rng_patterns.proofs.pattern_table.PatternTable.absorbed_by.Goals as goal

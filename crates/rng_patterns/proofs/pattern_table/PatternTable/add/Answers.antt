@@ -1,11 +1,11 @@
 use Rattle.std.proofs.Common.{List, length, subst, sym, ap, ◌∙◌}
 use Rattle.std.proofs.lemmas.List.{length-map}
-use Rattle.rng_model.specs.Table.{Table}
-use Rattle.rng_patterns.specs.Copies.{IsKeptLast, IsUnit}
-use Rattle.rng_patterns.specs.Node.{Node, node_of}
-use Rattle.rng_patterns.specs.PatternTable.{ArePartsBelow, IsNew, Longer, facts_of, nodes_of}
-use Rattle.rng_patterns.specs.Reduced.{AreReduced}
-use Rattle.rng_patterns.specs.Trees.{tree_of, tree_over}
+use Rattle.rng_model.specs.simple.Table.{Table}
+use Rattle.rng_patterns.specs.plain.Copies.{IsKeptLast, IsUnit}
+use Rattle.rng_patterns.specs.views.Node.{Node, node_of}
+use Rattle.rng_patterns.specs.views.PatternTable.{ArePartsBelow, IsNew, Longer, facts_of, nodes_of}
+use Rattle.rng_patterns.specs.plain.Reduced.{AreReduced}
+use Rattle.rng_patterns.specs.views.Trees.{tree_of, tree_over}
 use Rattle.rng_patterns.proofs.Putting.{IsPut, goes_put, table_kept}
 use Rattle.rng_patterns.proofs.Rows.{goes_last, nodes_more}
 use Rattle.rng_patterns.proofs.pattern_table.PatternTable.add.Goals as goal

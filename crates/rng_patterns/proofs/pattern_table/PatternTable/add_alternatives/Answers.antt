@@ -1,8 +1,8 @@
 use Rattle.std.proofs.Common.{◌<◌, ◌++◌, All, List, [], ◌∷◌, Some, ap, arith, length, subst, sym, ◌∙◌}
 use Rattle.std.proofs.lemmas.List.Elements.{All-append, All-cons, All-nil}
-use Rattle.rng_patterns.specs.Node.{node_of}
-use Rattle.rng_patterns.specs.Reduced.{MayBeMember}
-use Rattle.rng_patterns.specs.Trees.{tree_of}
+use Rattle.rng_patterns.specs.views.Node.{node_of}
+use Rattle.rng_patterns.specs.plain.Reduced.{MayBeMember}
+use Rattle.rng_patterns.specs.views.Trees.{tree_of}
 use Rattle.rng_patterns.specs.declared.pattern.PatternNumber.{PatternNumber}
 use Rattle.rng_patterns.proofs.Choices.{choice_added, none_added, one_added}
 use Rattle.rng_patterns.proofs.KnownFacts.{of_members}

@@ -1,7 +1,7 @@
 use Rattle.std.proofs.Common.{◌↔◌, List, subst}
 use Rattle.std.proofs.lemmas.List.{take_all}
-use Rattle.rng_patterns.specs.Choices.{IsAlternativeOf}
-use Rattle.rng_patterns.specs.Trees.{tree_of}
+use Rattle.rng_patterns.specs.views.Choices.{IsAlternativeOf}
+use Rattle.rng_patterns.specs.views.Trees.{tree_of}
 use Rattle.rng_patterns.specs.declared.pattern.PatternNumber.{PatternNumber}
 use Rattle.rng_patterns.proofs.Choices.{member_more}
 use Rattle.rng_patterns.proofs.pattern_table.PatternTable.alternatives.Goals as goal

@@ -1,9 +1,9 @@
 use Rattle.std.proofs.Common.{◌<◌, ◌↔◌, All, ℕ, length, take}
-use Rattle.rng_model.specs.Table.{Table}
-use Rattle.rng_model.specs.Tree.{Simple}
-use Rattle.rng_patterns.specs.Choices.{IsAlternativeOf}
-use Rattle.rng_patterns.specs.Reduced.{MayBeMember}
-use Rattle.rng_patterns.specs.Trees.{tree_of}
+use Rattle.rng_model.specs.simple.Table.{Table}
+use Rattle.rng_model.specs.simple.Tree.{Simple}
+use Rattle.rng_patterns.specs.views.Choices.{IsAlternativeOf}
+use Rattle.rng_patterns.specs.plain.Reduced.{MayBeMember}
+use Rattle.rng_patterns.specs.views.Trees.{tree_of}
 use Rattle.rng_patterns.proofs.pattern_table.PatternTable.alternatives.Given as goal
 
 abbrev pub invariant-loop-member : goal.invariant-loop-member

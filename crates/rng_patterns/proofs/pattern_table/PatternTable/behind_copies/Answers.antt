@@ -1,6 +1,6 @@
 use Rattle.std.proofs.Common.{◌≡◌, arith, refl, rules, subst}
-use Rattle.rng_patterns.specs.Copies.{AreCopies, IsBehindCopies, copies_before, nothing_before}
-use Rattle.rng_patterns.specs.Trees.{tree_of}
+use Rattle.rng_patterns.specs.plain.Copies.{AreCopies, IsBehindCopies, copies_before, nothing_before}
+use Rattle.rng_patterns.specs.views.Trees.{tree_of}
 use Rattle.rng_patterns.specs.declared.pattern.PatternNumber.{PatternNumber}
 use Rattle.rng_patterns.proofs.Units.{group_there}
 use Rattle.rng_patterns.proofs.pattern_table.PatternTable.behind_copies.Goals as goal

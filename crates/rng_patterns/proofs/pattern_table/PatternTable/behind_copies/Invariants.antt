@@ -1,7 +1,7 @@
 use Rattle.std.proofs.Common.{◌<◌, length}
-use Rattle.rng_model.specs.Table.{Table}
-use Rattle.rng_patterns.specs.Copies.{IsBehindCopies}
-use Rattle.rng_patterns.specs.Trees.{tree_of}
+use Rattle.rng_model.specs.simple.Table.{Table}
+use Rattle.rng_patterns.specs.plain.Copies.{IsBehindCopies}
+use Rattle.rng_patterns.specs.views.Trees.{tree_of}
 use Rattle.rng_patterns.proofs.pattern_table.PatternTable.behind_copies.Given as goal
 
 abbrev pub invariant-copies : goal.invariant-copies

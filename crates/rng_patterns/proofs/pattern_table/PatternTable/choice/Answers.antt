@@ -1,13 +1,13 @@
 use Rattle.std.proofs.Common.{◌≡◌, ◌<◌, ◌↔◌, ℕ, All, List, length}
-use Rattle.rng_model.specs.Document.{Attribute, Item}
-use Rattle.rng_model.specs.Table.{Table}
-use Rattle.rng_model.specs.Tree.{Simple, s_not_allowed}
-use Rattle.rng_matching.specs.Reading.{Reading}
-use Rattle.rng_matching.specs.Taking.{Takes}
-use Rattle.rng_matching.specs.Restricted.{IsRestricted, IsTyped}
-use Rattle.rng_patterns.specs.Choices.{IsAlternativeOf, SomeTakes}
-use Rattle.rng_patterns.specs.Reduced.{HasAlternative, MayBeMember}
-use Rattle.rng_patterns.specs.Trees.{tree_of}
+use Rattle.rng_model.specs.matching.Document.{Attribute, Item}
+use Rattle.rng_model.specs.simple.Table.{Table}
+use Rattle.rng_model.specs.simple.Tree.{Simple, s_not_allowed}
+use Rattle.rng_model.specs.matching.Reading.{Reading}
+use Rattle.rng_matching.specs.plain.Taking.{Takes}
+use Rattle.rng_matching.specs.plain.Restricted.{IsRestricted, IsTyped}
+use Rattle.rng_patterns.specs.views.Choices.{IsAlternativeOf, SomeTakes}
+use Rattle.rng_patterns.specs.plain.Reduced.{HasAlternative, MayBeMember}
+use Rattle.rng_patterns.specs.views.Trees.{tree_of}
 use Rattle.rng_patterns.proofs.Alternatives.{choice_restricted, choice_typed, no_alternatives}
 use Rattle.rng_patterns.proofs.Choices.{all_within, as_sets, both_ok, if_ok, takes_some, takes_within}
 use Rattle.rng_patterns.proofs.OnlyMember.{only_among, only_inside, only_none, only_restricted, only_takes, only_typed}

@@ -1,12 +1,12 @@
 use Rattle.std.proofs.Common.{◌<◌, ◌↔◌, ℕ, length, map, arith, subst, sym}
 use Rattle.std.proofs.lemmas.List.{length-map}
 use Rattle.std.proofs.lemmas.List.Elements.{All-map}
-use Rattle.rng_model.specs.Tree.{Simple}
-use Rattle.rng_model.specs.Table.{Table}
-use Rattle.rng_patterns.specs.Choices.{IsAlternativeOf}
-use Rattle.rng_patterns.specs.PatternTable.{Adds}
-use Rattle.rng_patterns.specs.Reduced.{HasAlternative, IsReducedChoice, MayBeMember}
-use Rattle.rng_patterns.specs.Trees.{choice_over, tree_of}
+use Rattle.rng_model.specs.simple.Tree.{Simple}
+use Rattle.rng_model.specs.simple.Table.{Table}
+use Rattle.rng_patterns.specs.views.Choices.{IsAlternativeOf}
+use Rattle.rng_patterns.specs.views.PatternTable.{Adds}
+use Rattle.rng_patterns.specs.plain.Reduced.{HasAlternative, IsReducedChoice, MayBeMember}
+use Rattle.rng_patterns.specs.views.Trees.{choice_over, tree_of}
 use Rattle.rng_patterns.proofs.Alternatives.{choice_reduced}
 use Rattle.rng_patterns.proofs.Choices.{if_ok, of_choice}
 use Rattle.rng_patterns.proofs.pattern_table.PatternTable.choice_of.Goals as goal

@@ -2,12 +2,12 @@ use Rattle.std.proofs.Common.{◌≡◌, ◌++◌, ◌∷◌, [], ◌<◌, ap, a
 use Rattle.std.proofs.Common.{List}
 use Rattle.std.proofs.lemmas.List.{length_push}
 use Rattle.std.proofs.lemmas.Option.{get_or_from_slice_get}
-use Rattle.rng_patterns.specs.Node.{Node, node_of}
-use Rattle.rng_patterns.specs.Node as node
-use Rattle.rng_patterns.specs.PatternTable.{ArePartsBelow, IsNew}
-use Rattle.rng_patterns.specs.Reduced.{AreReduced}
-use Rattle.rng_patterns.specs.Selecting.{AreCopied, IsMarked, given_for, node_at, renumbered}
-use Rattle.rng_patterns.specs.Trees.{tree_of}
+use Rattle.rng_patterns.specs.views.Node.{Node, node_of}
+use Rattle.rng_patterns.specs.views.Node as node
+use Rattle.rng_patterns.specs.views.PatternTable.{ArePartsBelow, IsNew}
+use Rattle.rng_patterns.specs.plain.Reduced.{AreReduced}
+use Rattle.rng_patterns.specs.plain.Selecting.{AreCopied, IsMarked, given_for, node_at, renumbered}
+use Rattle.rng_patterns.specs.views.Trees.{tree_of}
 use Rattle.rng_patterns.specs.declared.pattern.PatternNumber.{PatternNumber}
 use Rattle.rng_patterns.proofs.Copying.{copy_below, copy_new, copy_reduced, one_copied, passed_over}
 use Rattle.rng_patterns.proofs.pattern_table.PatternTable.copied.Goals as goal

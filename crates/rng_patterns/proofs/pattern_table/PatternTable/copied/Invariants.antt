@@ -1,5 +1,5 @@
 use Rattle.std.proofs.Common.{◌-◌, ◌≤◌, length}
-use Rattle.rng_patterns.specs.Selecting.{AreCopied}
+use Rattle.rng_patterns.specs.plain.Selecting.{AreCopied}
 use Rattle.rng_patterns.proofs.pattern_table.PatternTable.copied.Given as goal
 
 abbrev pub invariant-rows : goal.invariant-rows

@@ -1,7 +1,7 @@
 use Rattle.std.proofs.Common.{ap, subst, sym, ◌∙◌}
-use Rattle.rng_patterns.specs.Facts.{IsWithin}
-use Rattle.rng_patterns.specs.PatternTable.{facts_of}
-use Rattle.rng_patterns.specs.Trees.{tree_of}
+use Rattle.rng_patterns.specs.plain.Facts.{IsWithin}
+use Rattle.rng_patterns.specs.views.PatternTable.{facts_of}
+use Rattle.rng_patterns.specs.views.Trees.{tree_of}
 use Rattle.rng_patterns.specs.declared.pattern.Facts.{Facts}
 use Rattle.rng_matching.proofs.Nullable.{nullable_exact}
 use Rattle.rng_patterns.proofs.KnownFacts.{elements_within}

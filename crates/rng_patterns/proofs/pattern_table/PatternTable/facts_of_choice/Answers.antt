@@ -1,8 +1,8 @@
 use Rattle.std.proofs.Common.{ap, ◌∙◌}
-use Rattle.rng_matching.specs.Derivatives.{is_nullable}
-use Rattle.rng_patterns.specs.Facts.{has_subsequences}
-use Rattle.rng_patterns.specs.Reduced.{has_attribute}
-use Rattle.rng_patterns.specs.Trees.{tree_of}
+use Rattle.rng_matching.specs.plain.Derivatives.{is_nullable}
+use Rattle.rng_patterns.specs.plain.Facts.{has_subsequences}
+use Rattle.rng_patterns.specs.plain.Reduced.{has_attribute}
+use Rattle.rng_patterns.specs.views.Trees.{tree_of}
 use Rattle.rng_patterns.proofs.KnownFacts.{all_members, all_more, elements_more, member_more}
 use Rattle.rng_patterns.proofs.pattern_table.PatternTable.facts_of_choice.Goals as goal
 

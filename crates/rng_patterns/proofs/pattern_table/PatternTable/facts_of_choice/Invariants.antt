@@ -1,10 +1,10 @@
 use Rattle.std.proofs.Common.{◌≡◌, take}
 use Rattle.std.specs.List.{list_all, list_any}
-use Rattle.rng_model.specs.Table.{Table}
-use Rattle.rng_matching.specs.Derivatives.{is_nullable}
-use Rattle.rng_patterns.specs.Facts.{has_subsequences}
-use Rattle.rng_patterns.specs.Reduced.{has_attribute}
-use Rattle.rng_patterns.specs.Trees.{tree_of}
+use Rattle.rng_model.specs.simple.Table.{Table}
+use Rattle.rng_matching.specs.plain.Derivatives.{is_nullable}
+use Rattle.rng_patterns.specs.plain.Facts.{has_subsequences}
+use Rattle.rng_patterns.specs.plain.Reduced.{has_attribute}
+use Rattle.rng_patterns.specs.views.Trees.{tree_of}
 use Rattle.rng_patterns.proofs.KnownFacts.{elements_among}
 use Rattle.rng_patterns.proofs.pattern_table.PatternTable.facts_of_choice.Given as goal
 

@@ -1,7 +1,7 @@
 use Rattle.std.proofs.Common.{arith, refl, subst, sym}
-use Rattle.rng_model.specs.Tree.{Simple}
-use Rattle.rng_patterns.specs.Copies.{IsOpened, as_it_is, once_more}
-use Rattle.rng_patterns.specs.Trees.{tree_of}
+use Rattle.rng_model.specs.simple.Tree.{Simple}
+use Rattle.rng_patterns.specs.plain.Copies.{IsOpened, as_it_is, once_more}
+use Rattle.rng_patterns.specs.views.Trees.{tree_of}
 use Rattle.rng_patterns.proofs.Trees.{Longer-length, Longer-refl, Longer-trans, tree_stays}
 use Rattle.rng_patterns.proofs.Units.{group_there}
 use Rattle.rng_patterns.proofs.pattern_table.PatternTable.first_copy.Goals as goal

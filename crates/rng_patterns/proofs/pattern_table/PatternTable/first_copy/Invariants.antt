@@ -1,8 +1,8 @@
 use Rattle.std.proofs.Common.{◌<◌, length}
-use Rattle.rng_model.specs.Table.{Table}
-use Rattle.rng_patterns.specs.Copies.{IsOpened}
-use Rattle.rng_patterns.specs.PatternTable.{Longer}
-use Rattle.rng_patterns.specs.Trees.{tree_of}
+use Rattle.rng_model.specs.simple.Table.{Table}
+use Rattle.rng_patterns.specs.plain.Copies.{IsOpened}
+use Rattle.rng_patterns.specs.views.PatternTable.{Longer}
+use Rattle.rng_patterns.specs.views.Trees.{tree_of}
 use Rattle.rng_patterns.proofs.pattern_table.PatternTable.first_copy.Given as goal
 
 abbrev pub invariant-groups : goal.invariant-groups

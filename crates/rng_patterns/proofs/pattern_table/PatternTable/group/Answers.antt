@@ -1,8 +1,8 @@
 use Rattle.std.proofs.Common.{subst, sym}
-use Rattle.rng_model.specs.Tree.{group, s_joined}
-use Rattle.rng_matching.specs.Taking.{Same}
+use Rattle.rng_model.specs.simple.Tree.{group, s_joined}
+use Rattle.rng_matching.specs.plain.Taking.{Same}
 use Rattle.rng_matching.proofs.Same.{group_of-same}
-use Rattle.rng_patterns.specs.Trees.{tree_of}
+use Rattle.rng_patterns.specs.views.Trees.{tree_of}
 use Rattle.rng_patterns.proofs.pattern_table.PatternTable.group.Goals as goal
 
 pub returns-in-Some-clause-matches : goal.returns-in-Some-clause-matches

@@ -1,5 +1,5 @@
 use Rattle.std.proofs.Common.{ap, ◌∙◌, Some}
-use Rattle.rng_patterns.specs.Node.{node_of}
+use Rattle.rng_patterns.specs.views.Node.{node_of}
 use Rattle.rng_patterns.proofs.PatternKinds.{allowed_there}
 use Rattle.rng_patterns.proofs.Trees.{tree_of-over_parts}
 use Rattle.rng_patterns.proofs.pattern_table.PatternTable.is_allowed.Goals as goal

@@ -1,5 +1,5 @@
 use Rattle.std.proofs.Common.{◌∙◌, ap, sym}
-use Rattle.rng_patterns.specs.Node.{node_of}
+use Rattle.rng_patterns.specs.views.Node.{node_of}
 use Rattle.rng_patterns.proofs.PatternKinds.{empty_shows, is_empty_node, not_empty}
 use Rattle.rng_patterns.proofs.pattern_table.PatternTable.is_empty.Goals as goal
 

@@ -1,5 +1,5 @@
 use Rattle.std.proofs.Common.{◌∙◌, ap, sym}
-use Rattle.rng_patterns.specs.Node.{node_of}
+use Rattle.rng_patterns.specs.views.Node.{node_of}
 use Rattle.rng_patterns.proofs.PatternKinds.{is_not_allowed_node, not_allowed_shows, not_not_allowed}
 use Rattle.rng_patterns.proofs.pattern_table.PatternTable.is_not_allowed.Goals as goal
 

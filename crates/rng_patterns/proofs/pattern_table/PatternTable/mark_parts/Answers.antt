@@ -1,6 +1,6 @@
 use Rattle.std.proofs.Common.{◌<◌, [], ◌∷◌, All, List, ap, length, map, subst, sym}
-use Rattle.rng_patterns.specs.Node.{node_of}
-use Rattle.rng_patterns.specs.Selecting.{Marks, parts_of}
+use Rattle.rng_patterns.specs.views.Node.{node_of}
+use Rattle.rng_patterns.specs.plain.Selecting.{Marks, parts_of}
 use Rattle.rng_patterns.specs.declared.pattern.PatternNumber.{PatternNumber}
 use Rattle.rng_patterns.proofs.KnownFacts.{of_members}
 use Rattle.rng_patterns.proofs.Marking.{no_parts, nothing_marked, parts_inside, parts_marked, parts_of_two}

@@ -1,10 +1,10 @@
 use Rattle.std.proofs.Common.{List, length, subst, sym, ap, ◌∙◌}
-use Rattle.rng_model.specs.Table.{Table}
-use Rattle.rng_patterns.specs.Copies.{IsUnit}
-use Rattle.rng_patterns.specs.Node.{Node, node_of}
-use Rattle.rng_patterns.specs.PatternTable.{Adds, ArePartsBelow, Longer, facts_of, nodes_of}
-use Rattle.rng_patterns.specs.Reduced.{AreReduced}
-use Rattle.rng_patterns.specs.Trees.{tree_of, tree_over}
+use Rattle.rng_model.specs.simple.Table.{Table}
+use Rattle.rng_patterns.specs.plain.Copies.{IsUnit}
+use Rattle.rng_patterns.specs.views.Node.{Node, node_of}
+use Rattle.rng_patterns.specs.views.PatternTable.{Adds, ArePartsBelow, Longer, facts_of, nodes_of}
+use Rattle.rng_patterns.specs.plain.Reduced.{AreReduced}
+use Rattle.rng_patterns.specs.views.Trees.{tree_of, tree_over}
 use Rattle.rng_patterns.proofs.Putting.{put_is, table_kept}
 use Rattle.rng_patterns.proofs.pattern_table.PatternTable.number_of.Goals as goal
 

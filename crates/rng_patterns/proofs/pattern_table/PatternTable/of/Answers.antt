@@ -1,13 +1,13 @@
 use Rattle.std.proofs.Common.{◌≡◌, ◌+◌, ◌∙◌, ap, arith, length, slice_get, List, Some, subst, sym}
 use Rattle.std.proofs.lemmas.List.{length_push}
 use Rattle.std.proofs.lemmas.Option.{slice_get_within}
-use Rattle.rng_model.specs.Table.{AreChildrenBelow, tree_at, tree_over}
-use Rattle.rng_matching.specs.Reading.{Reading}
-use Rattle.rng_matching.specs.Taking.{Same}
-use Rattle.rng_patterns.specs.Taking.{taken_over, tree_by}
-use Rattle.rng_patterns.specs.Trees.{tree_of}
+use Rattle.rng_model.specs.simple.Table.{AreChildrenBelow, tree_at, tree_over}
+use Rattle.rng_model.specs.matching.Reading.{Reading}
+use Rattle.rng_matching.specs.plain.Taking.{Same}
+use Rattle.rng_patterns.specs.views.Taking.{taken_over, tree_by}
+use Rattle.rng_patterns.specs.views.Trees.{tree_of}
 use Rattle.rng_patterns.specs.declared.pattern.PatternNumber.{PatternNumber}
-use Rattle.rng_patterns.specs.Kept.{IsMadeOver}
+use Rattle.rng_patterns.specs.plain.Kept.{IsMadeOver}
 use Rattle.rng_patterns.proofs.Keeping.{one_kept, restricted_alike}
 use Rattle.rng_patterns.proofs.Taking.{one_taken, past_end}
 use Rattle.rng_patterns.proofs.pattern_table.PatternTable.of.Goals as goal

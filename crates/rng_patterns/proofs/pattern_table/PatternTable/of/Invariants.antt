@@ -1,6 +1,6 @@
 use Rattle.std.proofs.Common.{◌≤◌, ◌-◌, length}
-use Rattle.rng_patterns.specs.Kept.{AreKept}
-use Rattle.rng_patterns.specs.Taking.{AreTaken}
+use Rattle.rng_patterns.specs.plain.Kept.{AreKept}
+use Rattle.rng_patterns.specs.views.Taking.{AreTaken}
 use Rattle.rng_patterns.proofs.pattern_table.PatternTable.of.Given as goal
 
 abbrev pub invariant-rows : goal.invariant-rows

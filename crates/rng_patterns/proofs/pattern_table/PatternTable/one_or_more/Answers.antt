@@ -1,5 +1,5 @@
 use Rattle.std.proofs.Common.{sym, ◌∙◌}
-use Rattle.rng_patterns.specs.Trees.{tree_of}
+use Rattle.rng_patterns.specs.views.Trees.{tree_of}
 use Rattle.rng_matching.proofs.Same.{empty_repeated}
 use Rattle.rng_patterns.proofs.pattern_table.PatternTable.one_or_more.Goals as goal
 

@@ -1,8 +1,8 @@
 use Rattle.std.proofs.Common.{get_or, inl, inr, refl, subst, sym, ◌∙◌}
 use Rattle.std.proofs.lemmas.List.{take_all}
 use Rattle.std.proofs.lemmas.List.Elements.{Contains-get_or}
-use Rattle.rng_patterns.specs.Choices.{IsAllowed}
-use Rattle.rng_patterns.specs.Trees.{tree_of}
+use Rattle.rng_patterns.specs.views.Choices.{IsAllowed}
+use Rattle.rng_patterns.specs.views.Trees.{tree_of}
 use Rattle.rng_patterns.proofs.OnlyMember.{StandsAlone, alone_more, alone_other, is_reduced, number_is}
 use Rattle.rng_patterns.proofs.pattern_table.PatternTable.only_member.Goals as goal
 use Rattle.rng_patterns.proofs.pattern_table.PatternTable.only_member.Goals.{then-eq-via-then-eq, then-eq-via-else-eq+then-not-is_allowed}

@@ -1,7 +1,7 @@
 use Rattle.std.proofs.Common.{Contains, take}
-use Rattle.rng_model.specs.Table.{Table}
-use Rattle.rng_patterns.specs.Choices.{IsAllowed}
-use Rattle.rng_patterns.specs.Trees.{tree_of}
+use Rattle.rng_model.specs.simple.Table.{Table}
+use Rattle.rng_patterns.specs.views.Choices.{IsAllowed}
+use Rattle.rng_patterns.specs.views.Trees.{tree_of}
 use Rattle.rng_patterns.proofs.OnlyMember.{StandsAlone}
 use Rattle.rng_patterns.proofs.pattern_table.PatternTable.only_member.Given as goal
 

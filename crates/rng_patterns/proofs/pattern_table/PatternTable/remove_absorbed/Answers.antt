@@ -2,7 +2,7 @@ use Rattle.std.proofs.Common.{◌≡◌, ◌⊎◌, List, nat_eq, not, rules, su
 use Rattle.std.specs.HashSet.{contains}
 use Rattle.std.specs.List.{Contains, filter}
 use Rattle.std.proofs.lemmas.Fn.{filter_same}
-use Rattle.rng_patterns.specs.Choices.{IsAbsorbedBy}
+use Rattle.rng_patterns.specs.views.Choices.{IsAbsorbedBy}
 use Rattle.rng_patterns.specs.declared.pattern.PatternNumber.{PatternNumber}
 use Rattle.rng_patterns.proofs.Absorbing.{left_or_absorbed, left_takes}
 use Rattle.rng_patterns.proofs.pattern_table.PatternTable.remove_absorbed.Goals as goal

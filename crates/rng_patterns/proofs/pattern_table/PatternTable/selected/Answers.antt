@@ -1,5 +1,5 @@
 use Rattle.std.proofs.Common.{◌≡◌, Bool, List, map, subst}
-use Rattle.rng_patterns.specs.Selecting.{AreCopied, given_for}
+use Rattle.rng_patterns.specs.plain.Selecting.{AreCopied, given_for}
 use Rattle.rng_patterns.specs.declared.pattern.PatternNumber.{PatternNumber}
 use Rattle.rng_patterns.proofs.Copying.{selected_inside, selected_same}
 use Rattle.rng_patterns.proofs.Selected.{restricted_selected, taken_selected}

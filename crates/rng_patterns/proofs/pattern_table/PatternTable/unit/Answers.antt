@@ -1,5 +1,5 @@
 use Rattle.std.proofs.Common.{refl}
-use Rattle.rng_patterns.specs.Copies.{one}
+use Rattle.rng_patterns.specs.plain.Copies.{one}
 use Rattle.rng_patterns.proofs.pattern_table.PatternTable.unit.Goals as goal
 
 pub returns-in_default-clause-copies : goal.returns-in_default-clause-copies

@@ -1,6 +1,6 @@
 use Rattle.std.proofs.Common.{◌≡◌, ◌+◌, ◌-◌, arith, sym, ◌∙◌, subst}
 use Rattle.std.proofs.lemmas.List.Elements.{All-weaker}
-use Rattle.rng_patterns.specs.Selecting.{AreClosedFrom, IsMarked}
+use Rattle.rng_patterns.specs.plain.Selecting.{AreClosedFrom, IsMarked}
 use Rattle.rng_patterns.proofs.KnownFacts.{of_members}
 use Rattle.rng_patterns.proofs.Marking.{closed_at_end, closed_more}
 use Rattle.rng_patterns.proofs.pattern_table.PatternTable.with_parts.Goals as goal

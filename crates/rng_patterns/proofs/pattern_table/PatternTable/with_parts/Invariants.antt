@@ -1,5 +1,5 @@
 use Rattle.std.proofs.Common.{◌≡◌, ◌≤◌, All, length}
-use Rattle.rng_patterns.specs.Selecting.{AreClosedFrom, IsMarked}
+use Rattle.rng_patterns.specs.plain.Selecting.{AreClosedFrom, IsMarked}
 use Rattle.rng_patterns.proofs.pattern_table.PatternTable.with_parts.Given as goal
 
 abbrev pub invariant-rows : goal.invariant-rows

@@ -1,9 +1,9 @@
 use Rattle.std.proofs.Common.{◌≡◌, ◌∙◌, sym, ap, subst}
 use Rattle.std.specs.Prelude.{OnOk}
-use Rattle.rng_model.specs.Table.{grammar_of}
-use Rattle.rng_print.specs.Numbering.{and_new}
-use Rattle.rng_print.specs.PrintedText.{item_of, mentions, same_item}
-use Rattle.rng_print.specs.Items.{item_at, items_seen}
+use Rattle.rng_model.specs.simple.Table.{grammar_of}
+use Rattle.rncv_model.specs.printed.Numbering.{and_new}
+use Rattle.rncv_model.specs.printed.PrintedText.{item_of, mentions, same_item}
+use Rattle.rng_print.specs.views.Items.{item_at, items_seen}
 use Rattle.rng_print.proofs.ItemTables.{body_inside, element_is, element_none}
 use Rattle.rng_print.proofs.items.Items.add_mentions.Goals as goal
 

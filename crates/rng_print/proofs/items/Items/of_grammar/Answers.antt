@@ -1,8 +1,8 @@
 use Rattle.std.proofs.Common.{◌≡◌, ◌∙◌, ◌<◌, [], length, map, ap, get_or, rules}
-use Rattle.rng_model.specs.Table.{tree_at}
-use Rattle.rng_print.specs.Numbering.{and_new}
-use Rattle.rng_print.specs.PrintedText.{item_of, same_item}
-use Rattle.rng_print.specs.Items.{item_at}
+use Rattle.rng_model.specs.simple.Table.{tree_at}
+use Rattle.rncv_model.specs.printed.Numbering.{and_new}
+use Rattle.rncv_model.specs.printed.PrintedText.{item_of, same_item}
+use Rattle.rng_print.specs.views.Items.{item_at}
 use Rattle.rng_print.proofs.ItemLines.{none_yet, one_line}
 use Rattle.rng_print.proofs.items.Items.of_grammar.Goals as goal
 

@@ -1,8 +1,8 @@
 use Rattle.std.proofs.Common.{◌∙◌, ◌++◌, ap, sym, codes}
-use Rattle.rng_model.specs.Table.{grammar_of}
-use Rattle.rng_print.specs.Items.{item_at, items_seen}
-use Rattle.rng_print.specs.PrintedText.{element_text, item_text}
-use Rattle.rng_print.specs.Prefixes.{namespaces_seen}
+use Rattle.rng_model.specs.simple.Table.{grammar_of}
+use Rattle.rng_print.specs.views.Items.{item_at, items_seen}
+use Rattle.rncv_model.specs.printed.PrintedText.{element_text, item_text}
+use Rattle.rng_print.specs.views.Prefixes.{namespaces_seen}
 use Rattle.rng_print.proofs.ItemTables.{element_is}
 use Rattle.rng_print.proofs.LineTexts.{behind}
 use Rattle.rng_print.proofs.Lookups.{on_ok}

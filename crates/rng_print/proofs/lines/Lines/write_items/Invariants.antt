@@ -1,8 +1,8 @@
 use Rattle.std.proofs.Common.{◌≡◌, ◌++◌, flat_map, map, take}
-use Rattle.rng_model.specs.Table.{grammar_of}
-use Rattle.rng_print.specs.Items.{item_at, items_seen}
-use Rattle.rng_print.specs.PrintedText.{item_line}
-use Rattle.rng_print.specs.Prefixes.{namespaces_seen}
+use Rattle.rng_model.specs.simple.Table.{grammar_of}
+use Rattle.rng_print.specs.views.Items.{item_at, items_seen}
+use Rattle.rncv_model.specs.printed.PrintedText.{item_line}
+use Rattle.rng_print.specs.views.Prefixes.{namespaces_seen}
 use Rattle.rng_print.proofs.lines.Lines.write_items.Given as goal
 
 -- the lines of the items so far are written

@@ -1,5 +1,5 @@
-use Rattle.rng_print.specs.PrintedText.{namespace_line}
-use Rattle.rng_print.specs.Prefixes.{namespaces_seen}
+use Rattle.rncv_model.specs.printed.PrintedText.{namespace_line}
+use Rattle.rng_print.specs.views.Prefixes.{namespaces_seen}
 use Rattle.rng_print.proofs.LineTexts.{all_written, line_added}
 use Rattle.rng_print.proofs.lines.Lines.write_namespaces.Goals as goal
 

@@ -1,6 +1,6 @@
 use Rattle.std.proofs.Common.{◌≡◌, ◌++◌, flat_map, map, take}
-use Rattle.rng_print.specs.PrintedText.{namespace_line}
-use Rattle.rng_print.specs.Prefixes.{namespaces_seen}
+use Rattle.rncv_model.specs.printed.PrintedText.{namespace_line}
+use Rattle.rng_print.specs.views.Prefixes.{namespaces_seen}
 use Rattle.rng_print.proofs.lines.Lines.write_namespaces.Given as goal
 
 -- the lines of the namespaces so far are written

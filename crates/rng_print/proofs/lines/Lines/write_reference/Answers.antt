@@ -1,10 +1,10 @@
 use Rattle.std.proofs.Common.{◌≡◌, ◌∙◌, ◌++◌, sym, subst, Some, rules, slice_get}
 use Rattle.std.specs.Prelude.{OnOk}
-use Rattle.rng_model.specs.Table.{tree_at}
+use Rattle.rng_model.specs.simple.Table.{tree_at}
 use Rattle.rng_model.specs.declared.simple.Simple.TheVariants as simple
-use Rattle.rng_print.specs.PrintedText as text
-use Rattle.rng_print.specs.PrintedText.{item_name, reference}
-use Rattle.rng_print.specs.Items.{items_seen}
+use Rattle.rncv_model.specs.printed.PrintedText as text
+use Rattle.rncv_model.specs.printed.PrintedText.{item_name, reference}
+use Rattle.rng_print.specs.views.Items.{items_seen}
 use Rattle.rng_print.specs.declared.items.Item.TheVariants as variants
 use Rattle.rng_print.proofs.ItemNumbers.{name_is}
 use Rattle.rng_print.proofs.ItemTables.{leaf_listed}

@@ -1,11 +1,11 @@
 use Rattle.std.proofs.Common.{◌≡◌, ◌∙◌, map, ap, sym, flat_map, arith}
 use Rattle.std.specs.Str.{bytes_eq}
 use Rattle.std.proofs.lemmas.List.{take_all}
-use Rattle.rng_model.specs.Names.{some_of}
-use Rattle.rng_model.specs.View.{class_of}
-use Rattle.rng_print.specs.Numbering.{and_new}
-use Rattle.rng_print.specs.PrintedText.{namespaces_in}
-use Rattle.rng_print.specs.Prefixes.{namespaces_seen}
+use Rattle.rng_model.specs.names.Names.{some_of}
+use Rattle.rng_model.specs.names.NameViews.{class_of}
+use Rattle.rncv_model.specs.printed.Numbering.{and_new}
+use Rattle.rncv_model.specs.printed.PrintedText.{namespaces_in}
+use Rattle.rng_print.specs.views.Prefixes.{namespaces_seen}
 use Rattle.rng_print.proofs.Namespaces.{choice_is, member_added, namespaces_of_members}
 use Rattle.rng_print.proofs.prefixes.Prefixes.+add_class.Goals as goal
 

@@ -1,9 +1,9 @@
 use Rattle.std.proofs.Common.{◌≡◌, take, flat_map}
 use Rattle.std.specs.Str.{bytes_eq}
-use Rattle.rng_model.specs.View.{class_of}
-use Rattle.rng_print.specs.Numbering.{and_new}
-use Rattle.rng_print.specs.PrintedText.{namespaces_in}
-use Rattle.rng_print.specs.Prefixes.{namespaces_seen}
+use Rattle.rng_model.specs.names.NameViews.{class_of}
+use Rattle.rncv_model.specs.printed.Numbering.{and_new}
+use Rattle.rncv_model.specs.printed.PrintedText.{namespaces_in}
+use Rattle.rng_print.specs.views.Prefixes.{namespaces_seen}
 use Rattle.rng_print.proofs.prefixes.Prefixes.+add_class.Given as goal
 
 -- the namespaces of the members so far are added

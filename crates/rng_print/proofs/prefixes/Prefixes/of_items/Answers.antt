@@ -2,10 +2,10 @@ use Rattle.std.proofs.Common.{◌∙◌, [], sym, ap, flat_map}
 use Rattle.std.specs.Str.{bytes_eq}
 use Rattle.std.proofs.lemmas.List.{take_all}
 use Rattle.std.proofs.lemmas.List.Folds.{flat_map-map}
-use Rattle.rng_model.specs.Table.{grammar_of}
-use Rattle.rng_print.specs.Numbering.{and_new}
-use Rattle.rng_print.specs.Items.{item_at}
-use Rattle.rng_print.specs.PrintedText.{namespaces_of}
+use Rattle.rng_model.specs.simple.Table.{grammar_of}
+use Rattle.rncv_model.specs.printed.Numbering.{and_new}
+use Rattle.rng_print.specs.views.Items.{item_at}
+use Rattle.rncv_model.specs.printed.PrintedText.{namespaces_of}
 use Rattle.rng_print.proofs.Namespaces.{one_added}
 use Rattle.rng_print.proofs.prefixes.Prefixes.of_items.Goals as goal
 

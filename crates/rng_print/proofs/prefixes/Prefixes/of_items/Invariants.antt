@@ -1,10 +1,10 @@
 use Rattle.std.proofs.Common.{◌≡◌, [], take, flat_map}
 use Rattle.std.specs.Str.{bytes_eq}
-use Rattle.rng_model.specs.Table.{grammar_of}
-use Rattle.rng_print.specs.Items.{item_at}
-use Rattle.rng_print.specs.Numbering.{and_new}
-use Rattle.rng_print.specs.PrintedText.{namespaces_of}
-use Rattle.rng_print.specs.Prefixes.{namespaces_seen}
+use Rattle.rng_model.specs.simple.Table.{grammar_of}
+use Rattle.rng_print.specs.views.Items.{item_at}
+use Rattle.rncv_model.specs.printed.Numbering.{and_new}
+use Rattle.rncv_model.specs.printed.PrintedText.{namespaces_of}
+use Rattle.rng_print.specs.views.Prefixes.{namespaces_seen}
 use Rattle.rng_print.proofs.prefixes.Prefixes.of_items.Given as goal
 
 -- the namespaces of the items so far are there

@@ -1,7 +1,7 @@
 use Rattle.std.proofs.Common.{rules, ◌≡◌, ◌++◌, ◌∷◌, [], subst, map}
 use Rattle.rng_model.specs.declared.name.NameClass.TheVariants as class
-use Rattle.rng_rules.specs.NamesMeetLabels.{AreGroups, plain_name_of}
-use Rattle.rng_rules.specs.NamesMeetReach.{lists}
+use Rattle.rng_rules.specs.views.NamesMeetLabels.{AreGroups, plain_name_of}
+use Rattle.rng_rules.specs.plain.NamesMeetReach.{lists}
 use Rattle.rng_rules.proofs.NamesMeetGroups.{not_added}
 use Rattle.rng_rules.proofs.NamesMeetTables.{on_ok}
 use Rattle.rng_rules.proofs.names_meet_groups.NameGroups.add.Goals as goal

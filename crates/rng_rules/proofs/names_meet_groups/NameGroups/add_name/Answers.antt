@@ -1,8 +1,8 @@
 use Rattle.std.proofs.Common.{◌≡◌, inl, inr, ap, ◌∙◌, Some, length, map, vec_items}
 use Rattle.std.proofs.lemmas.List.{length-map}
-use Rattle.rng_model.specs.View.{name_of}
-use Rattle.rng_rules.specs.NamesMeetLabels.{plain_name_of}
-use Rattle.rng_rules.specs.NamesMeetReach.{lists}
+use Rattle.rng_model.specs.names.NameViews.{name_of}
+use Rattle.rng_rules.specs.views.NamesMeetLabels.{plain_name_of}
+use Rattle.rng_rules.specs.plain.NamesMeetReach.{lists}
 use Rattle.rng_rules.proofs.NamesMeetGroups.{name_added, room_made}
 use Rattle.rng_rules.proofs.names_meet_groups.NameGroups.add_name.Goals as goal
 

@@ -1,6 +1,6 @@
 use Rattle.std.proofs.Common.{sym, ◌∙◌, IsFalse}
 use Rattle.std.proofs.lemmas.List.{get_or_default}
-use Rattle.rng_rules.specs.NamesMeetSides.{are_marked, row_sides}
+use Rattle.rng_rules.specs.views.NamesMeetSides.{are_marked, row_sides}
 use Rattle.rng_rules.proofs.NamesMeetQueues.{all_more, all_of}
 use Rattle.rng_rules.proofs.names_meet_sides.Rows.is_one_met.Goals as goal
 

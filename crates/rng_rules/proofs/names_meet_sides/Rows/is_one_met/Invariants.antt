@@ -1,5 +1,5 @@
 use Rattle.std.proofs.Common.{All, IsFalse, take}
-use Rattle.rng_rules.specs.NamesMeetSides.{are_marked, row_sides}
+use Rattle.rng_rules.specs.views.NamesMeetSides.{are_marked, row_sides}
 use Rattle.rng_rules.proofs.names_meet_sides.Rows.is_one_met.Given as goal
 
 abbrev pub invariant-loop-row : goal.invariant-loop-row

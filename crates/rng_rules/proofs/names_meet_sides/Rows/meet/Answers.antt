@@ -1,8 +1,8 @@
 use Rattle.std.proofs.Common.{◌≡◌, ◌↔◌, ◌<◌, sym, ◌∙◌, ap, subst, ℕ, length, Contains, All, slice_get, Some, vec_items}
 use Rattle.std.proofs.lemmas.List.{length-map}
 use Rattle.std.proofs.lemmas.List.Elements.{All-contains}
-use Rattle.rng_rules.specs.NamesMeetReach.{AreBelow, lists}
-use Rattle.rng_rules.specs.NamesMeetSides.{Climbs}
+use Rattle.rng_rules.specs.plain.NamesMeetReach.{AreBelow, lists}
+use Rattle.rng_rules.specs.views.NamesMeetSides.{Climbs}
 use Rattle.rng_rules.proofs.NamesMeetBetween.{above_in_table, found_between, told}
 use Rattle.rng_rules.proofs.names_meet_sides.Rows.meet.Goals as goal
 

@@ -1,9 +1,9 @@
 use Rattle.std.proofs.Common.{refl, ap, subst, ◌∙◌, [], ◌++◌, map, Some}
 use Rattle.std.proofs.lemmas.List.{map_push}
-use Rattle.rng_model.specs.Names.{any_name}
-use Rattle.rng_model.specs.View.{class_of}
-use Rattle.rng_graph.specs.InTwos.{nested}
-use Rattle.rng_simple.specs.LabelCodes.{IsPlaced, class_code, codes_of, part_of}
+use Rattle.rng_model.specs.names.Names.{any_name}
+use Rattle.rng_model.specs.names.NameViews.{class_of}
+use Rattle.rng_graph.specs.plain.InTwos.{nested}
+use Rattle.rng_simple.specs.plain.LabelCodes.{IsPlaced, class_code, codes_of, part_of}
 use Rattle.rng_simple.proofs.LabelCodes.{same_classes}
 use Rattle.rng_simple.proofs.RowLabels.{codes_more, label_found}
 use Rattle.rng_simple.proofs.RowTable.{relabelled, same_labels, class_more}

@@ -1,9 +1,9 @@
 use Rattle.std.proofs.Common.{refl, ap, subst, ◌∙◌, [], map, string_bytes, Some}
 use Rattle.std.proofs.lemmas.List.{map_push}
-use Rattle.rng_model.specs.Patterns.{without_parameters}
-use Rattle.rng_simple.specs.LabelCodes.{IsPlaced, codes_of, value_code}
-use Rattle.rng_simple.specs.RowTable.{value_of}
-use Rattle.rng_simple.specs.Rows.{no_datatype}
+use Rattle.rng_model.specs.schema.Patterns.{without_parameters}
+use Rattle.rng_simple.specs.plain.LabelCodes.{IsPlaced, codes_of, value_code}
+use Rattle.rng_simple.specs.views.RowTable.{value_of}
+use Rattle.rng_simple.specs.views.Rows.{no_datatype}
 use Rattle.rng_simple.proofs.LabelCodes.{same_value}
 use Rattle.rng_simple.proofs.RowLabels.{codes_more, label_found}
 use Rattle.rng_simple.proofs.RowTable.{relabelled, same_labels, value_more}

@@ -1,4 +1,4 @@
-use Rattle.rng_types.specs.View.{built_in_type_of, datatype_at, seen}
+use Rattle.rng_types.specs.views.View.{built_in_type_of, datatype_at, seen}
 use Rattle.rng_types.proofs.Finding.{type_found, fault_found}
 use Rattle.rng_types.proofs.builtin.Builtin.find.Goals as goal
 

@@ -1,7 +1,7 @@
 use Rattle.std.proofs.Common.{ap, ◌∙◌, refl}
-use Rattle.rng_model.specs.Characters.{is_ncname}
-use Rattle.rng_model.specs.Facets.{is_within}
-use Rattle.rng_types.specs.View.{lengths_of}
+use Rattle.rng_model.specs.names.Characters.{is_ncname}
+use Rattle.rng_model.specs.datatypes.Facets.{is_within}
+use Rattle.rng_types.specs.views.View.{lengths_of}
 use Rattle.rng_types.proofs.TextValues.{word_passes, word_fails, no_word, ncname_space}
 use Rattle.rng_types.proofs.texts.NcNameDatatype.allows.Goals as goal
 

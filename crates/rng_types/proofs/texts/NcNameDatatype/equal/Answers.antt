@@ -1,8 +1,8 @@
 use Rattle.std.proofs.Common.{sym, ◌∙◌}
-use Rattle.rng_model.specs.Blanks.{collapse}
-use Rattle.rng_model.specs.Characters.{is_ncname}
-use Rattle.rng_model.specs.Datatypes.{xsd_ncname, value_of}
-use Rattle.rng_types.specs.View.{lengths_of}
+use Rattle.rng_model.specs.datatypes.Blanks.{collapse}
+use Rattle.rng_model.specs.names.Characters.{is_ncname}
+use Rattle.rng_model.specs.datatypes.Datatypes.{xsd_ncname, value_of}
+use Rattle.rng_types.specs.views.View.{lengths_of}
 use Rattle.rng_types.proofs.TextValues.{texts_equal, never_equal, passes}
 use Rattle.rng_types.proofs.texts.NcNameDatatype.equal.Goals as goal
 

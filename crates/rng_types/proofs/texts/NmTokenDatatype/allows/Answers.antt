@@ -1,7 +1,7 @@
 use Rattle.std.proofs.Common.{ap, ◌∙◌, refl}
-use Rattle.rng_model.specs.Facets.{is_within}
-use Rattle.rng_model.specs.Datatypes.{is_nmtoken}
-use Rattle.rng_types.specs.View.{lengths_of}
+use Rattle.rng_model.specs.datatypes.Facets.{is_within}
+use Rattle.rng_model.specs.datatypes.Datatypes.{is_nmtoken}
+use Rattle.rng_types.specs.views.View.{lengths_of}
 use Rattle.rng_types.proofs.TextValues.{word_passes, word_fails, no_word, nmtoken_space}
 use Rattle.rng_types.proofs.texts.NmTokenDatatype.allows.Goals as goal
 

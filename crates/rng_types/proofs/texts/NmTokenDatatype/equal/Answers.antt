@@ -1,7 +1,7 @@
 use Rattle.std.proofs.Common.{sym, ◌∙◌}
-use Rattle.rng_model.specs.Blanks.{collapse}
-use Rattle.rng_model.specs.Datatypes.{is_nmtoken, xsd_nmtoken, value_of}
-use Rattle.rng_types.specs.View.{lengths_of}
+use Rattle.rng_model.specs.datatypes.Blanks.{collapse}
+use Rattle.rng_model.specs.datatypes.Datatypes.{is_nmtoken, xsd_nmtoken, value_of}
+use Rattle.rng_types.specs.views.View.{lengths_of}
 use Rattle.rng_types.proofs.TextValues.{texts_equal, never_equal, passes}
 use Rattle.rng_types.proofs.texts.NmTokenDatatype.equal.Goals as goal
 

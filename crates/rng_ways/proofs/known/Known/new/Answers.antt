@@ -1,4 +1,4 @@
-use Rattle.rng_ways.specs.KnownWays.{IsAttributeKind, IsElementKind}
+use Rattle.rng_ways.specs.views.KnownWays.{IsAttributeKind, IsElementKind}
 use Rattle.rng_ways.specs.declared.way.Kind.TheVariants as kinds
 use Rattle.rng_ways.proofs.AttributeTakers.{no_spans}
 use Rattle.rng_ways.proofs.KnownRests.{no_rests}

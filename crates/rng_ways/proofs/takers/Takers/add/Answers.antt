@@ -1,10 +1,10 @@
 use Rattle.std.proofs.Common.{◌≡◌, ◌∙◌, List, slice_set, ap, subst, sym, true}
-use Rattle.rng_keys.specs.Keys.{key_of}
-use Rattle.rng_model.specs.View.{name_of}
-use Rattle.rng_names.specs.Holding.{holds}
+use Rattle.rng_keys.specs.plain.Keys.{key_of}
+use Rattle.rng_model.specs.names.NameViews.{name_of}
+use Rattle.rng_names.specs.plain.Holding.{holds}
 use Rattle.rng_names.proofs.Holding.{same_name-Decides}
 use Rattle.rng_names.proofs.Views.{name_class_is}
-use Rattle.rng_patterns.specs.Facts.{IsWithin, joined_spans, one_span}
+use Rattle.rng_patterns.specs.plain.Facts.{IsWithin, joined_spans, one_span}
 use Rattle.rng_patterns.specs.declared.pattern.Span.{Span}
 use Rattle.rng_patterns.proofs.KnownFacts.{joined_second, one_within}
 use Rattle.rng_ways.proofs.ElementTakers.{Tells, named_told, wider_still}

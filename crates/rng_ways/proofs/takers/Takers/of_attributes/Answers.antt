@@ -1,6 +1,6 @@
 use Rattle.std.proofs.Common.{◌∙◌, ap, arith, sym, Some}
-use Rattle.rng_model.specs.View.{class_of}
-use Rattle.rng_names.specs.Holding.{holds}
+use Rattle.rng_model.specs.names.NameViews.{class_of}
+use Rattle.rng_names.specs.plain.Holding.{holds}
 use Rattle.rng_ways.proofs.AttributeTakers.{all_attributes_told, class_at, no_class_at, one_more_attribute}
 use Rattle.rng_ways.proofs.takers.Takers.of_attributes.Goals as goal
 

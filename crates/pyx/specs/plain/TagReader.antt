@@ -1,0 +1,136 @@
+-- What a whole tag says: its declarations applied, or the first clause that it breaks.
+use Rattle.std.specs.Prelude.{ℕ, ◌==◌, Bool, true, false, not, ◌&&◌, ◌||◌, List, [], ◌∷◌, length, codes, Option, Some, None, Result, Ok, Err, if◌then◌else◌}
+use Rattle.std.specs.Str.{bytes_eq}
+use Rattle.rng_model.specs.names.Names.{Name}
+use Rattle.rng_model.specs.matching.Document.{Attribute}
+use Rattle.rng_model.specs.documents.PyxLines.{WrittenName}
+use Rattle.rng_model.specs.documents.PyxNamespaces.{WrittenAttribute, xmlns, xml_uri, xmlns_uri}
+
+-- what the open tags declare, the innermost first
+abbrev pub Declared : Type 0
+Declared = List (List WrittenAttribute)
+
+-- ---- declarations
+
+-- which prefix is declared, or the default namespace: by `xmlns` alone the latter
+abbrev pub declared_prefix : Option (List ℕ) → List ℕ → Option (Option (List ℕ))
+declared_prefix None local = if bytes_eq local xmlns then Some None else None
+declared_prefix (Some p) local = if bytes_eq p xmlns then Some (Some local) else None
+
+abbrev pub declared_by : WrittenName → Option (Option (List ℕ))
+declared_by name = declared_prefix name.prefix name.local
+
+abbrev pub forbidden_prefix : List ℕ → List ℕ → Bool
+forbidden_prefix p uri = (length uri == 0) || bytes_eq uri xmlns_uri || bytes_eq p xmlns
+    || (if bytes_eq p (codes "xml") then not (bytes_eq uri xml_uri) else bytes_eq uri xml_uri)
+
+abbrev pub forbidden_by : Option (Option (List ℕ)) → List ℕ → Bool
+forbidden_by None uri = false
+forbidden_by (Some None) uri = bytes_eq uri xmlns_uri || bytes_eq uri xml_uri
+forbidden_by (Some (Some p)) uri = forbidden_prefix p uri
+
+abbrev pub is_forbidden : WrittenAttribute → Bool
+is_forbidden a = forbidden_by (declared_by a.name) a.content
+
+unfoldable pub any_forbidden : List WrittenAttribute → Bool
+any_forbidden [] = false
+any_forbidden (a ∷ more) = is_forbidden a || any_forbidden more
+
+-- ---- what a name stands for
+
+abbrev pub same_prefix : Option (List ℕ) → Option (List ℕ) → Bool
+same_prefix None None = true
+same_prefix None (Some q) = false
+same_prefix (Some p) None = false
+same_prefix (Some p) (Some q) = bytes_eq p q
+
+abbrev pub declares : Option (Option (List ℕ)) → Option (List ℕ) → Bool
+declares None p = false
+declares (Some q) p = same_prefix q p
+
+-- as what the tag declares the prefix, or the default namespace
+unfoldable pub found_in : Option (List ℕ) → List WrittenAttribute → Option (List ℕ)
+found_in p [] = None
+found_in p (a ∷ more) = if declares (declared_by a.name) p then Some a.content else found_in p more
+
+-- what is declared beforehand
+abbrev pub beforehand : Option (List ℕ) → Option (List ℕ)
+beforehand None = Some []
+beforehand (Some p) = if bytes_eq p (codes "xml") then Some xml_uri else None
+
+abbrev pub or_else : {A : Type 0} → Option A → Option A → Option A
+or_else None other = other
+or_else (Some a) other = Some a
+
+unfoldable pub namespace_of : Declared → Option (List ℕ) → Option (List ℕ)
+namespace_of [] p = beforehand p
+namespace_of (ds ∷ outer) p = or_else (found_in p ds) (namespace_of outer p)
+
+abbrev pub in_namespace : List ℕ → Option (List ℕ) → Option Name
+in_namespace local None = None
+in_namespace local (Some uri) = Some (record { ns = uri; local = local })
+
+unfoldable pub element_name : Declared → WrittenName → Option Name
+element_name scope name = in_namespace name.local (namespace_of scope name.prefix)
+
+abbrev pub attribute_in : Declared → Option (List ℕ) → List ℕ → Option Name
+attribute_in scope None local = Some (record { ns = []; local = local })
+attribute_in scope (Some p) local = in_namespace local (namespace_of scope (Some p))
+
+unfoldable pub attribute_name : Declared → WrittenName → Option Name
+attribute_name scope name = attribute_in scope name.prefix name.local
+
+abbrev pub and_more : Option Name → List ℕ → Option (List Attribute) → Option (List Attribute)
+and_more None content rest = None
+and_more (Some name) content None = None
+and_more (Some name) content (Some attrs) = Some (record { name = name; content = content } ∷ attrs)
+
+unfoldable pub expanded : Declared → List WrittenAttribute → Option (List Attribute)
+expanded scope [] = Some []
+expanded scope (a ∷ more) = and_more (attribute_name scope a.name) a.content (expanded scope more)
+
+-- ---- names that stand twice
+
+abbrev pub same_written : WrittenName → WrittenName → Bool
+same_written a b = same_prefix a.prefix b.prefix && bytes_eq a.local b.local
+
+unfoldable pub is_written_in : WrittenName → List WrittenAttribute → Bool
+is_written_in name [] = false
+is_written_in name (a ∷ more) = same_written a.name name || is_written_in name more
+
+unfoldable pub is_written_twice : List WrittenAttribute → Bool
+is_written_twice [] = false
+is_written_twice (a ∷ more) = is_written_in a.name more || is_written_twice more
+
+abbrev pub same_name : Name → Name → Bool
+same_name a b = bytes_eq a.local b.local && bytes_eq a.ns b.ns
+
+unfoldable pub is_named_in : Name → List Attribute → Bool
+is_named_in name [] = false
+is_named_in name (a ∷ more) = same_name a.name name || is_named_in name more
+
+unfoldable pub is_named_twice : List Attribute → Bool
+is_named_twice [] = false
+is_named_twice (a ∷ more) = is_named_in a.name more || is_named_twice more
+
+-- ---- the tag
+
+-- a start, its names expanded
+pub record Element : Type 0 where
+  pub name : Name
+  pub attrs : List Attribute
+
+abbrev pub with_attributes : Name → List WrittenAttribute → Option (List Attribute) → Result Element ℕ
+with_attributes name declared None = Err 11
+with_attributes name declared (Some attrs) = if is_written_twice declared || is_named_twice attrs then Err 12
+    else Ok (record { name = name; attrs = attrs })
+
+abbrev pub with_name : Option Name → List WrittenAttribute → Option (List Attribute) → Result Element ℕ
+with_name None declared attrs = Err 11
+with_name (Some name) declared attrs = with_attributes name declared attrs
+
+-- A tag with this name, these declarations and these other `A` lines, inside the tags that declare these. Two of the `A` lines have one name as
+-- they are written, if two of the declarations have, or if two attributes have one name.
+unfoldable pub tag_read : Declared → WrittenName → List WrittenAttribute → List WrittenAttribute → Result Element ℕ
+tag_read outer name declared others = if any_forbidden declared then Err 11
+    else with_name (element_name (declared ∷ outer) name) declared (expanded (declared ∷ outer) others)

@@ -1,0 +1,7 @@
+-- Views of types, and invariants.
+pub mod Calls
+pub mod ElementView
+pub mod Held
+pub mod HeldCalls
+pub mod Standing
+pub mod View

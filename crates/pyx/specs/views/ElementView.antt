@@ -1,0 +1,65 @@
+-- What the elements that are open are seen as, and what is known of names among them.
+use Rattle.std.specs.Prelude.{◌≡◌, ◌<◌, ◌≤◌, ℕ, List, [], map, reverse, slice_index_or, Result, Ok, Err, Option, Some, None, string_bytes}
+use Rattle.std.specs.List.{All}
+use Rattle.rng_model.specs.names.Names.{Name}
+use Rattle.rng_model.specs.documents.PyxNamespaces.{WrittenAttribute}
+use Rattle.rng_model.specs.documents.DocumentViews.{attribute_of}
+use Rattle.rng_model.specs.names.NameViews.{name_of}
+use Rattle.rng_model.specs.declared.document.Attr.{Attr}
+use Rattle.pyx.specs.declared.fault.LineFault.{LineFault}
+use Rattle.pyx.specs.declared.fault.LineFault.TheVariants as faults
+use Rattle.pyx.specs.declared.written.WrittenAttribute as written
+use Rattle.pyx.specs.declared.scope.OpenElement.{OpenElement}
+use Rattle.pyx.specs.declared.known.KnownName.{KnownName}
+use Rattle.pyx.specs.plain.LineReader.{written_of}
+use Rattle.pyx.specs.plain.TagReader.{Declared, Element, element_name}
+use Rattle.pyx.specs.plain.DocumentReader.{Open, declared_in}
+
+-- what a fault of a tag says: nothing, where memory ran out
+abbrev pub clause_of : LineFault → Option ℕ
+clause_of faults.Memory = None
+clause_of (faults.Clause k) = Some k
+
+-- what a name stands for, or P11
+abbrev pub resolved : {A : Type 0} → Option A → Result A ℕ
+resolved None = Err 11
+resolved (Some a) = Ok a
+
+abbrev pub written_attribute : written.WrittenAttribute → WrittenAttribute
+written_attribute a = record { name = written_of (string_bytes a.name); content = string_bytes a.value }
+
+abbrev pub open_of : OpenElement → Open
+open_of e = record { name = written_of (string_bytes e.name); declared = map written_attribute e.declarations.items }
+
+-- the open elements, the innermost first
+abbrev pub stack_of : List OpenElement → List Open
+stack_of opened = reverse (map open_of opened)
+
+-- what is declared where these elements are open
+abbrev pub scope_of : List OpenElement → Declared
+scope_of opened = declared_in (stack_of opened)
+
+-- ---- names that are known
+
+-- the names in their places
+abbrev pub names_of : List KnownName → List Name
+names_of known = map (λ k. name_of k.name) known
+
+abbrev pub name_at : List Name → ℕ → Name
+name_at names at = slice_index_or names at (record { ns = []; local = [] })
+
+-- the start of an element whose name stands in this place
+abbrev pub element_at : List Name → List Attr → ℕ → Element
+element_at names attrs at = record { name = name_at names at; attrs = map attribute_of attrs }
+
+-- no name is of a later round than this, and one of this round stands in the scope for what it stood for when it was looked up
+abbrev pub IsKnown : Declared → ℕ → KnownName → Type 0
+IsKnown scope round k = (k.round ≤ round) × (k.round ≡ round → element_name scope (written_of (string_bytes k.written)) ≡ Some (name_of k.name))
+
+abbrev pub AreKnown : Declared → ℕ → List KnownName → Type 0
+AreKnown scope round known = (0 < round) × All (IsKnown scope round) known
+
+-- the elements that are open, the innermost first, and the names that were looked up among them, in their places
+pub record Elements : Type 0 where
+  pub opened : List Open
+  pub names : List Name

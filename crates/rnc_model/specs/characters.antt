@@ -1,0 +1,3 @@
+-- The characters of a file.
+pub mod Characters
+pub mod Decoding

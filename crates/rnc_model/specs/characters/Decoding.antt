@@ -1,0 +1,78 @@
+-- From the bytes of a file to characters (RELAX NG Compact Syntax, "Lexical structure"): the bytes are UTF-8, a CR LF, a CR
+-- and an LF are one line end each, and an escape `\x{H}` stands for the character whose number is H. Here a CR or LF that
+-- came of an escape ends no line.
+use Rattle.std.specs.Prelude.{◌≡◌, ◌⊎◌, ◌==◌, ◌≢◌, ℕ, ◌+◌, ◌*◌, ◌<◌, ◌≤◌, true, List, [], ◌∷◌, ◌++◌, length, Some}
+use Rattle.std.specs.List.{fold, list_all, slice_get}
+use Rattle.std.specs.Char.{is_digit, digit_value}
+use Rattle.std.specs.Str.{IsUtf8, IsValidUpTo, encode_utf8_all, all_scalars}
+use Rattle.rng_model.specs.names.Characters.{is_xml_char}
+use Rattle.rnc_model.specs.declared.character.Character.{Character}
+use Rattle.rnc_model.specs.declared.character.Character.TheVariants.{LineEnd, Ordinary}
+
+-- one to six hexadecimal digits, of either case
+pub record AreDigits (digits : List ℕ) : Type 0 where
+  pub some : 0 < length digits
+  pub most : length digits ≤ 6
+  pub are_hexadecimal : list_all (λ c. is_digit c 16) digits ≡ true
+
+-- their number
+abbrev pub hexadecimal : List ℕ → ℕ
+hexadecimal digits = fold (λ n c. n * 16 + digit_value c) 0 digits
+
+-- `\`, one `x` or more and `{` are in front, so that here an escape begins, be it a good or a bad one
+pub record OpensEscape (numbers : List ℕ) : Type 0 where
+  pub more : List ℕ
+  pub rest : List ℕ
+  pub are_x : list_all (λ c. c == 0x78) more ≡ true
+  pub is : numbers ≡ 0x5C ∷ 0x78 ∷ (more ++ 0x7B ∷ rest)
+
+-- The Unicode numbers begin with a character, and the rest follows it.
+pub data Begins : List ℕ → Character → List ℕ → Type 0 where
+  -- a CR LF is one line end
+  carriage_return_line_feed : {numbers rest : List ℕ} → numbers ≡ 0xD ∷ 0xA ∷ rest → Begins numbers LineEnd rest
+  -- so is a CR that no LF follows
+  carriage_return : {numbers rest : List ℕ} → numbers ≡ 0xD ∷ rest → slice_get rest 0 ≢ Some 0xA → Begins numbers LineEnd rest
+  -- and an LF
+  line_feed : {numbers rest : List ℕ} → numbers ≡ 0xA ∷ rest → Begins numbers LineEnd rest
+  -- `\x{`, digits and `}`, for the Char with that number (XML 1.0 Fifth Edition, section 2.2)
+  escape : {numbers : List ℕ} {c : ℕ} {rest : List ℕ} {digits : List ℕ} → AreDigits digits → c ≡ hexadecimal digits → is_xml_char c ≡ true
+      → numbers ≡ 0x5C ∷ 0x78 ∷ 0x7B ∷ (digits ++ 0x7D ∷ rest) → Begins numbers (Ordinary c) rest
+  -- any other Char at which no escape begins
+  other : {numbers : List ℕ} {c : ℕ} {rest : List ℕ} → c ≢ 0xD → c ≢ 0xA → is_xml_char c ≡ true → ¬ (OpensEscape numbers) → numbers ≡ c ∷ rest
+      → Begins numbers (Ordinary c) rest
+
+-- the numbers begin with these characters, one after the other, and the rest follows them
+pub data Decodes : List ℕ → List Character → List ℕ → Type 0 where
+  here : {numbers rest : List ℕ} → numbers ≡ rest → Decodes numbers [] rest
+  next_is : {numbers : List ℕ} {all : List Character} {rest : List ℕ} {c : Character} {after : List ℕ} {cs : List Character} → Begins numbers c after
+      → Decodes after cs rest → all ≡ c ∷ cs → Decodes numbers all rest
+
+-- the bytes are the UTF-8 of these numbers
+pub record IsSpelling (bytes : List ℕ) (numbers : List ℕ) : Type 0 where
+  pub scalars : all_scalars numbers ≡ true
+  pub spelled : encode_utf8_all numbers ≡ bytes
+
+-- the bytes of a file stand for these characters
+pub record IsDecoded (bytes : List ℕ) (characters : List Character) : Type 0 where
+  pub numbers : List ℕ
+  pub spelling : IsSpelling bytes numbers
+  pub decoded : Decodes numbers characters []
+
+-- clause S3: the bytes are not UTF-8, and the longest front that is ends at the offset
+abbrev pub BreaksUtf8At : List ℕ → ℕ → Type 0
+BreaksUtf8At bytes offset = ¬ (IsUtf8 bytes) × IsValidUpTo bytes offset
+
+-- clause S4: the bytes are UTF-8, and at the offset, up to which they are characters, no character begins
+pub record BreaksCharactersAt (bytes : List ℕ) (offset : ℕ) : Type 0 where
+  pub numbers : List ℕ
+  pub spelling : IsSpelling bytes numbers
+  pub front : List Character
+  pub rest : List ℕ
+  pub decoded : Decodes numbers front rest
+  pub some : 0 < length rest
+  pub nothing : (c : Character) (after : List ℕ) → ¬ (Begins rest c after)
+  pub offset_is : offset + length (encode_utf8_all rest) ≡ length bytes
+
+-- a clause of these two, and the offset at which the bytes break it
+abbrev pub BreaksTextAt : List ℕ → ℕ → ℕ → Type 0
+BreaksTextAt bytes clause offset = ((clause ≡ 3) × BreaksUtf8At bytes offset) ⊎ ((clause ≡ 4) × BreaksCharactersAt bytes offset)

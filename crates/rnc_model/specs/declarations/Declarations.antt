@@ -1,0 +1,176 @@
+-- Declarations applied: from a syntax tree to the file tree, or to nothing where a rule about declarations is broken
+-- (RELAX NG Compact Syntax, "Declarations").
+use Rattle.std.specs.Prelude.{ℕ, List, [], ◌∷◌, Option, Some, None, Bool, true, false, is_none, if◌then◌else◌, codes}
+use Rattle.std.specs.Str.{bytes_eq}
+use Rattle.rng_model.specs.datatypes.Datatypes.{xsd_uri}
+use Rattle.rng_model.specs.documents.PyxNamespaces.{xml_uri}
+use Rattle.rnc_model.specs.grammar.Syntax as syntax
+use Rattle.rnc_model.specs.declarations.FileTree as tree
+use Rattle.rnc_model.specs.declarations.FileTree.{Namespace, inherited, given, FileTree}
+
+infixl 10 ◌>>=◌
+-- one part, and then the next with its value
+abbrev pub ◌>>=◌ : {A B : Type 0} → Option A → (A → Option B) → Option B
+None >>= f = None
+(Some x) >>= f = f x
+
+-- this, where there is nothing
+abbrev pub option_or : {A : Type 0} → A → Option A → A
+option_or a None = a
+option_or a (Some b) = b
+
+-- the second, where there is no first; nothing, where there is one
+abbrev pub option_none_else : {A B : Type 0} → Option A → Option B → Option B
+option_none_else None b = b
+option_none_else (Some a) b = None
+
+-- ---- declarations
+
+-- what the declarations so far declare
+pub record Scope : Type 0 where
+  pub default : Option Namespace
+  -- what each namespace prefix is declared as
+  pub namespaces : List ℕ → Option Namespace
+  -- what each datatype prefix is declared as
+  pub datatypes : List ℕ → Option (List ℕ)
+
+-- nothing is declared
+abbrev pub nothing_declared : Scope
+nothing_declared = record { default = None; namespaces = λ p. None; datatypes = λ p. None }
+
+abbrev pub uri_of : syntax.Uri → Namespace
+uri_of syntax.inherit = inherited
+uri_of (syntax.literal u) = given u
+
+abbrev pub is_xml_uri : Namespace → Bool
+is_xml_uri inherited = false
+is_xml_uri (given u) = bytes_eq u xml_uri
+
+-- a namespace prefix may stand for this: `xml` only for its own, and `xmlns` for none
+abbrev pub may_stand_for : List ℕ → Namespace → Bool
+may_stand_for p u = if bytes_eq p (codes "xml") then is_xml_uri u else (if bytes_eq p (codes "xmlns") then false else true)
+
+-- a datatype prefix may stand for this uri: `xsd` only for its own
+abbrev pub may_stand_for_types : List ℕ → List ℕ → Bool
+may_stand_for_types p u = if bytes_eq p (codes "xsd") then bytes_eq u xsd_uri else true
+
+-- one more, unless one of this prefix is there
+abbrev pub with_one : {A : Type 0} → List ℕ → A → (List ℕ → Option A) → Option (List ℕ → Option A)
+with_one p a declared = if is_none (declared p) then Some (λ q. if bytes_eq p q then Some a else declared q) else None
+
+-- the scope with one namespace prefix more
+abbrev pub with_prefix : List ℕ → Namespace → Scope → Option Scope
+with_prefix p u s = if may_stand_for p u then (with_one p u s.namespaces >>= λ all. Some (record s { namespaces = all })) else None
+
+-- the scope with this default namespace, unless there is one
+abbrev pub with_default : Namespace → Scope → Option Scope
+with_default u s = option_none_else s.default (Some (record s { default = Some u }))
+
+-- the scope with one datatype prefix more
+abbrev pub with_datatypes : List ℕ → List ℕ → Scope → Option Scope
+with_datatypes p u s = if may_stand_for_types p u then (with_one p u s.datatypes >>= λ all. Some (record s { datatypes = all })) else None
+
+-- the scope with one declaration more
+abbrev pub declare : Scope → syntax.Declaration → Option Scope
+declare s (syntax.namespace p u) = with_prefix p (uri_of u) s
+declare s (syntax.default_namespace None u) = with_default (uri_of u) s
+declare s (syntax.default_namespace (Some p) u) = with_default (uri_of u) s >>= λ s. with_prefix p (uri_of u) s
+declare s (syntax.datatypes p u) = with_datatypes p u s
+
+-- the scope with these declarations more, in order
+abbrev pub declare_all : Scope → List syntax.Declaration → Option Scope
+declare_all s [] = Some s
+declare_all s (d ∷ ds) = declare s d >>= λ s. declare_all s ds
+
+-- ---- prefixes
+
+-- the namespace of elements' names without a prefix, and what a mention hands on that names none
+abbrev pub default_of : Scope → Namespace
+default_of s = option_or inherited s.default
+
+-- the namespace of a prefix: `xml` is declared beforehand
+abbrev pub namespace_in : Scope → List ℕ → Option Namespace
+namespace_in s p = if bytes_eq p (codes "xml") then Some (given xml_uri) else s.namespaces p
+
+-- the uri of a datatype prefix: `xsd` is declared beforehand
+abbrev pub library_in : Scope → List ℕ → Option (List ℕ)
+library_in s p = if bytes_eq p (codes "xsd") then Some xsd_uri else s.datatypes p
+
+-- a name, where those without a prefix have this namespace
+abbrev pub name_in : Scope → Namespace → syntax.Name → Option tree.Name
+name_in s ns (syntax.unprefixed l) = Some (record { namespace = ns; local = l })
+name_in s ns (syntax.prefixed p l) = namespace_in s p >>= λ u. Some (record { namespace = u; local = l })
+
+abbrev mutual
+  -- a name class, where names without a prefix have this namespace
+  pub class_in : Scope → Namespace → syntax.NameClass → Option tree.NameClass
+  class_in s ns syntax.any_name = Some tree.any_name
+  class_in s ns (syntax.any_except c) = class_in s ns c >>= λ c. Some (tree.any_except c)
+  class_in s ns (syntax.ns_name p) = namespace_in s p >>= λ u. Some (tree.ns_name u)
+  class_in s ns (syntax.ns_except p c) = namespace_in s p >>= λ u. class_in s ns c >>= λ c. Some (tree.ns_except u c)
+  class_in s ns (syntax.name_is n) = name_in s ns n >>= λ n. Some (tree.name_is n)
+  class_in s ns (syntax.one_of cs) = classes_in s ns cs >>= λ cs. Some (tree.one_of cs)
+
+  pub classes_in : Scope → Namespace → syntax.NameClasses → Option tree.NameClasses
+  classes_in s ns syntax.no_classes = Some tree.no_classes
+  classes_in s ns (syntax.class_and c cs) = class_in s ns c >>= λ c. classes_in s ns cs >>= λ cs. Some (tree.class_and c cs)
+
+-- a datatype: `string` and `token` are in the library with the empty uri
+abbrev pub type_in : Scope → syntax.DatatypeName → Option tree.DatatypeName
+type_in s syntax.string_type = Some (record { library = []; name = codes "string" })
+type_in s syntax.token_type = Some (record { library = []; name = codes "token" })
+type_in s (syntax.prefixed_type p l) = library_in s p >>= λ u. Some (record { library = u; name = l })
+
+-- a mention hands on the namespace of its prefix, or the default one
+abbrev pub handed_on : Scope → Option (List ℕ) → Option Namespace
+handed_on s None = Some (default_of s)
+handed_on s (Some p) = namespace_in s p
+
+abbrev pub mention_in : Scope → syntax.Mention → Option tree.Mention
+mention_in s m = handed_on s m.inherit >>= λ u. Some (record { href = m.href; namespace = u; token = m.token })
+
+abbrev mutual
+  -- an unprefixed name has the default namespace in an element's class, and none in an attribute's
+  pub pattern_in : Scope → syntax.Pattern → Option tree.Pattern
+  pattern_in s (syntax.element c p) = class_in s (default_of s) c >>= λ c. pattern_in s p >>= λ p. Some (tree.element c p)
+  pattern_in s (syntax.attribute c p) = class_in s (given []) c >>= λ c. pattern_in s p >>= λ p. Some (tree.attribute c p)
+  pattern_in s (syntax.list p) = pattern_in s p >>= λ p. Some (tree.list p)
+  pattern_in s (syntax.mixed p) = pattern_in s p >>= λ p. Some (tree.mixed p)
+  pattern_in s (syntax.optional p) = pattern_in s p >>= λ p. Some (tree.optional p)
+  pattern_in s (syntax.zero_or_more p) = pattern_in s p >>= λ p. Some (tree.zero_or_more p)
+  pattern_in s (syntax.one_or_more p) = pattern_in s p >>= λ p. Some (tree.one_or_more p)
+  pattern_in s (syntax.ref n) = Some (tree.ref n)
+  pattern_in s (syntax.parent_ref n) = Some (tree.parent_ref n)
+  pattern_in s syntax.empty = Some tree.empty
+  pattern_in s syntax.text = Some tree.text
+  pattern_in s syntax.not_allowed = Some tree.not_allowed
+  pattern_in s (syntax.value d v) = type_in s d >>= λ d. Some (tree.value d v)
+  pattern_in s (syntax.data_of d ps) = type_in s d >>= λ d. Some (tree.data_of d ps)
+  pattern_in s (syntax.data_except d ps p) = type_in s d >>= λ d. pattern_in s p >>= λ p. Some (tree.data_except d ps p)
+  pattern_in s (syntax.external m) = mention_in s m >>= λ m. Some (tree.external m)
+  pattern_in s (syntax.grammar cs) = components_in s cs >>= λ cs. Some (tree.grammar cs)
+  pattern_in s (syntax.joined k ps) = patterns_in s ps >>= λ ps. Some (tree.joined k ps)
+
+  pub patterns_in : Scope → syntax.Patterns → Option tree.Patterns
+  patterns_in s syntax.no_patterns = Some tree.no_patterns
+  patterns_in s (syntax.pattern_and p ps) = pattern_in s p >>= λ p. patterns_in s ps >>= λ ps. Some (tree.pattern_and p ps)
+
+  pub component_in : Scope → syntax.Component → Option tree.Component
+  component_in s (syntax.start m p) = pattern_in s p >>= λ p. Some (tree.start m p)
+  component_in s (syntax.define n m p) = pattern_in s p >>= λ p. Some (tree.define n m p)
+  component_in s (syntax.div cs) = components_in s cs >>= λ cs. Some (tree.div cs)
+  component_in s (syntax.include m cs) = mention_in s m >>= λ m. components_in s cs >>= λ cs. Some (tree.include m cs)
+
+  pub components_in : Scope → syntax.Components → Option tree.Components
+  components_in s syntax.no_components = Some tree.no_components
+  components_in s (syntax.component_and c cs) = component_in s c >>= λ c. components_in s cs >>= λ cs. Some (tree.component_and c cs)
+
+-- ---- files
+
+abbrev pub body_in : Scope → syntax.Body → Option FileTree
+body_in s (syntax.pattern_body p) = pattern_in s p >>= λ p. Some (tree.pattern_file p)
+body_in s (syntax.grammar_body cs) = components_in s cs >>= λ cs. Some (tree.grammar_file cs)
+
+-- the file tree of a syntax tree; none where a declaration or a prefix breaks a rule
+unfoldable pub file_tree : syntax.File → Option FileTree
+file_tree f = declare_all nothing_declared f.declarations >>= λ s. body_in s f.body

@@ -1,0 +1,4 @@
+-- The productions of the compact syntax.
+pub mod Grammar
+pub mod Sentence
+pub mod Syntax

@@ -1,0 +1,10 @@
+-- Mentions, load order, clauses 1 to 10.
+pub mod FaultVerdicts
+pub mod Files
+pub mod GrammarNames
+pub mod LoadedSchema
+pub mod Loading
+pub mod MentionPaths
+pub mod Mentions
+pub mod Places
+pub mod SchemaFile

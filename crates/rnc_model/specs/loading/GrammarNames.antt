@@ -1,0 +1,21 @@
+-- Which names a grammar has, and whether a start, through the files that it includes (RELAX NG Specification, section 4.7).
+use Rattle.std.specs.Prelude.{◌≡◌, ℕ, List, Option, Some, None}
+use Rattle.rng_model.specs.declared.method.Method.{Method}
+use Rattle.rnc_model.specs.declarations.FileTree as tree
+use Rattle.rnc_model.specs.declarations.FileTree.{FileTree, Mention, grammar_of}
+
+module _ (files : List ℕ → Option FileTree) where
+  -- these components give their grammar a component of this name, or a start: directly, or through an include, of which an
+  -- overridden one is replaced by one of its name
+  mutual
+    pub data HasName (y : Option (List ℕ)) : tree.Components → Type 0 where
+      of_first : {c : tree.Component} {cs : tree.Components} → NamesIt y c → HasName y (tree.component_and c cs)
+      of_later : {c : tree.Component} {cs : tree.Components} → HasName y cs → HasName y (tree.component_and c cs)
+
+    pub data NamesIt (y : Option (List ℕ)) : tree.Component → Type 0 where
+      of_start : {p : tree.Pattern} {m : Method} → y ≡ None → NamesIt y (tree.start m p)
+      of_define : {n : List ℕ} {p : tree.Pattern} {m : Method} → y ≡ Some n → NamesIt y (tree.define n m p)
+      of_div : {cs : tree.Components} → HasName y cs → NamesIt y (tree.div cs)
+      of_braces : {m : Mention} {over : tree.Components} → HasName y over → NamesIt y (tree.include m over)
+      of_file : {m : Mention} {over cs : tree.Components} {f : FileTree} → files m.href ≡ Some f → grammar_of f ≡ Some cs → HasName y cs
+          → NamesIt y (tree.include m over)

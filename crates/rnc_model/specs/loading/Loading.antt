@@ -1,0 +1,113 @@
+-- Files become one schema: the order in which they are taken, and the verdict on them up to S10 (RELAX NG Specification, sections 4.6 and 4.7;
+-- the order and the limit of S9: profile).
+use Rattle.std.specs.Prelude.{◌≡◌, ℕ, ◌≤◌, List, [], ◌∷◌, ◌++◌, map, fold, length, slice_get, Option, Some, None, if◌then◌else◌}
+use Rattle.std.specs.List.{list_any}
+use Rattle.std.specs.Map.{lookup}
+use Rattle.std.specs.Str.{bytes_eq}
+use Rattle.rng_model.specs.names.Lists.{Among}
+use Rattle.rnc_model.specs.declarations.FileTree.{FileTree, Mention, grammar_of}
+use Rattle.rnc_model.specs.declarations.FileTree as tree
+use Rattle.rnc_model.specs.loading.MentionPaths.{BreaksMentions}
+use Rattle.rnc_model.specs.loading.Mentions.{MentionedFile, external_file, included_file, mention_of, mentions_of}
+use Rattle.rnc_model.specs.loading.GrammarNames.{HasName}
+use Rattle.rnc_model.specs.loading.SchemaFile.{Name, NamedFile, BreaksOwn, HasTree}
+
+-- the names that a tree mentions, in order
+abbrev pub hrefs_of : FileTree → List Name
+hrefs_of t = map (λ m. (mention_of m).href) (mentions_of t)
+
+-- ---- the load order
+
+-- the names with this one at the end, unless it is there
+abbrev pub with_name : List Name → Name → List Name
+with_name ns n = if list_any (λ m. bytes_eq n m) ns then ns else ns ++ n ∷ []
+
+-- files with their trees, in the order in which they are taken
+abbrev pub TakenFiles : Type 0
+TakenFiles = List (Name × FileTree)
+
+module _ (files : List NamedFile) (main : Name) where
+  -- The load order, as far as it goes: these files are taken, each with its tree, and these are the names so far, theirs first. First stands the main
+  -- file. The next of the names is that of the file that is taken next, and the names that it mentions are put at the end, each that is not there yet.
+  pub data IsTaken : TakenFiles → List Name → Type 0 where
+    none_yet : {read : TakenFiles} {names : List Name} → read ≡ [] → names ≡ main ∷ [] → IsTaken read names
+    one_more : {read all : TakenFiles} {names more : List Name} {f : Name} {t : FileTree} → IsTaken read names → slice_get names (length read) ≡ Some f →
+        HasTree files main f t → all ≡ read ++ (f, t) ∷ [] → more ≡ fold with_name names (hrefs_of t) → IsTaken all more
+
+  -- these are all the files of the schema, in load order: each breaks no clause by itself, and no name is left
+  pub record AreTaken (read : TakenFiles) : Type 0 where
+    pub names : List Name
+    pub taken : IsTaken read names
+    pub all : length names ≤ length read
+
+  -- in load order this file is the first to break a clause by itself, and this is the first that it breaks
+  pub record IsFirstBroken (f : Name) (k : ℕ) : Type 0 where
+    pub before : TakenFiles
+    pub names : List Name
+    pub taken : IsTaken before names
+    pub next : slice_get names (length before) ≡ Some f
+    pub broken : BreaksOwn files main f k
+
+-- ---- what the files are together
+
+-- the tree of the file of this name
+abbrev pub tree_in : TakenFiles → Name → Option FileTree
+tree_in read f = lookup (bytes_eq f) read
+
+-- the names that a file mentions; one that is none of these mentions nothing
+abbrev pub hrefs_if : Option FileTree → List Name
+hrefs_if None = []
+hrefs_if (Some t) = hrefs_of t
+
+abbrev pub hrefs_in : TakenFiles → Name → List Name
+hrefs_in read f = hrefs_if (tree_in read f)
+
+abbrev pub grammar_if : Option FileTree → Option tree.Components
+grammar_if None = None
+grammar_if (Some t) = grammar_of t
+
+-- the components of the grammar that the file of this name is
+abbrev pub grammar_in : TakenFiles → Name → Option tree.Components
+grammar_in read f = grammar_if (tree_in read f)
+
+module _ (read : TakenFiles) where
+  -- an include that stands in a file, also in a component that is overridden: the file that it mentions is no grammar, or the grammar of that has no
+  -- component of a name, or no start, that the braces override
+  pub data BreaksInclude (m : Mention) (over : tree.Components) : Type 0 where
+    no_grammar : {t : FileTree} → tree_in read m.href ≡ Some t → grammar_of t ≡ None → BreaksInclude m over
+    nothing_to_override : {t : FileTree} {cs : tree.Components} {y : Option (List ℕ)} → tree_in read m.href ≡ Some t → grammar_of t ≡ Some cs
+        → HasName (tree_in read) y over → ¬ (HasName (tree_in read) y cs) → BreaksInclude m over
+
+  abbrev pub IsBrokenInclude : MentionedFile → Type 0
+  IsBrokenInclude (external_file m) = ⊥
+  IsBrokenInclude (included_file m over) = BreaksInclude m over
+
+  -- an include in one of the files, wherever it stands, breaks that
+  abbrev pub HasBrokenInclude : FileTree → Type 0
+  HasBrokenInclude t = (m : MentionedFile) × Among m (mentions_of t) × IsBrokenInclude m
+
+  abbrev pub BreaksIncludes : Type 0
+  BreaksIncludes = (file : Name × FileTree) × Among file read × HasBrokenInclude file.1
+
+  -- the clause of all files together that is broken first: that on paths of mentions (9), or that on includes (10)
+  pub data BreaksTogether (main : Name) (k : ℕ) : Type 0 where
+    mentions_break : BreaksMentions (hrefs_in read) main → k ≡ 9 → BreaksTogether main k
+    includes_break : ¬ (BreaksMentions (hrefs_in read) main) → BreaksIncludes → k ≡ 10 → BreaksTogether main k
+
+-- what is found of the files: one is the first to break a clause by itself, and this one first; or they break this clause together; or they are one
+-- schema, with these trees
+pub data FilesVerdict : Type 0 where
+  file_breaks : Name → ℕ → FilesVerdict
+  together_break : ℕ → FilesVerdict
+  are_taken : TakenFiles → FilesVerdict
+
+module _ (files : List NamedFile) (main : Name) where
+  abbrev pub IsFilesVerdict : FilesVerdict → Type 0
+  IsFilesVerdict (file_breaks f k) = IsFirstBroken files main f k
+  IsFilesVerdict (together_break k) = (read : TakenFiles) × AreTaken files main read × BreaksTogether read main k
+  IsFilesVerdict (are_taken read) = AreTaken files main read × ((k : ℕ) → ¬ (BreaksTogether read main k))
+
+  -- this is the verdict, and no other is
+  pub record IsTheFilesVerdict (v : FilesVerdict) : Type 0 where
+    pub is : IsFilesVerdict v
+    pub only : (other : FilesVerdict) → IsFilesVerdict other → v ≡ other

@@ -1,0 +1,154 @@
+-- The schema of a set of files: the components of the grammar at each place, through `div`, `include` and overriding, every name
+-- with its namespace (RELAX NG Specification, sections 4.6, 4.7, 4.9, 4.11 and 4.18; Compact Syntax, "Declarations").
+--
+-- A place is the way to a grammar in the tree of the main file with each mention followed: the number of the child at each level,
+-- the innermost first. Of an include its file is the child 0 and its braces the child 1; the pattern of an external is its child 0, and grammar
+-- content of an external's file is a grammar at the external's own place.
+use Rattle.std.specs.Prelude.{◌≡◌, ℕ, ◌+◌, List, [], ◌∷◌, ◌++◌, filter, map, not, Option, Some, None, Bool}
+use Rattle.std.specs.List.{list_any}
+use Rattle.rng_model.specs.names.Lists.{Among}
+use Rattle.rng_model.specs.names.Names as names
+use Rattle.rng_model.specs.simple.Tree.{Datatype, Connector}
+use Rattle.rng_model.specs.schema.Patterns.{Place, Pattern, members}
+use Rattle.rng_model.specs.schema.Patterns as pattern
+use Rattle.rng_model.specs.schema.Schema.{Schema, Component, same_name}
+use Rattle.rng_model.specs.declared.method.Method.{Method}
+use Rattle.rng_model.specs.declared.method.Method.TheVariants as methods
+use Rattle.rnc_model.specs.declarations.FileTree as tree
+use Rattle.rnc_model.specs.declarations.FileTree.{FileTree, Namespace, inherited, given, DatatypeName, grammar_file, pattern_file, grammar_of, whole_grammar}
+
+-- ---- names, in a file that inherits a namespace
+
+abbrev pub uri_in : List ℕ → Namespace → List ℕ
+uri_in u inherited = u
+uri_in u (given v) = v
+
+abbrev pub name_in : List ℕ → tree.Name → names.Name
+name_in u n = record { ns = uri_in u n.namespace; local = n.local }
+
+abbrev mutual
+  pub class_in : List ℕ → tree.NameClass → names.NameClass
+  class_in u tree.any_name = names.any_name
+  class_in u (tree.any_except c) = names.any_except (class_in u c)
+  class_in u (tree.ns_name ns) = names.ns_name (uri_in u ns)
+  class_in u (tree.ns_except ns c) = names.ns_except (uri_in u ns) (class_in u c)
+  class_in u (tree.name_is n) = names.name_is (name_in u n)
+  class_in u (tree.one_of cs) = names.some_of (classes_in u cs)
+
+  pub classes_in : List ℕ → tree.NameClasses → List names.NameClass
+  classes_in u tree.no_classes = []
+  classes_in u (tree.class_and c cs) = class_in u c ∷ classes_in u cs
+
+abbrev pub datatype_in : DatatypeName → List (List ℕ × List ℕ) → Datatype
+datatype_in d ps = record { library = d.library; name = d.name; parameters = ps }
+
+-- ---- patterns
+
+-- the way to a pattern or a component in that tree; that to a grammar is its place
+abbrev pub Way : Type 0
+Way = List ℕ
+
+-- a grammar that is nested in another: its place, the namespace that its file inherits, and its components
+pub record Nested : Type 0 where
+  pub place : Place
+  pub uri : List ℕ
+  pub components : tree.Components
+
+-- a component that its grammar gets, and the grammars that are nested in it directly, in no other
+pub record Gathered : Type 0 where
+  pub component : Component
+  pub nested : List Nested
+
+-- a component is overridden by one of its name, a start by a start
+abbrev pub is_overridden : List Gathered → Gathered → Bool
+is_overridden os g = list_any (λ o. same_name o.component.name g.component.name) os
+
+-- the grammar of the main file; one of another pattern is the start of a grammar
+abbrev pub grammar_or_start : tree.Pattern → Option tree.Components → tree.Components
+grammar_or_start p None = tree.component_and (tree.start methods.Plain p) tree.no_components
+grammar_or_start p (Some cs) = cs
+
+abbrev pub main_grammar : FileTree → tree.Components
+main_grammar (grammar_file cs) = cs
+main_grammar (pattern_file p) = grammar_or_start p (whole_grammar p)
+
+module _ (files : List ℕ → Option FileTree) where
+  -- in a file that inherits this namespace the pattern, at this way, is that one, and these grammars are nested in it directly
+  mutual
+    pub data Reads : List ℕ → Way → tree.Pattern → Pattern → List Nested → Type 0 where
+      element_is : {u : List ℕ} {x : Way} {c : tree.NameClass} {a : tree.Pattern} {p : Pattern} {gs : List Nested} → Reads u (0 ∷ x) a p gs
+          → Reads u x (tree.element c a) (pattern.element (class_in u c) p) gs
+      attribute_is : {u : List ℕ} {x : Way} {c : tree.NameClass} {a : tree.Pattern} {p : Pattern} {gs : List Nested} → Reads u (0 ∷ x) a p gs
+          → Reads u x (tree.attribute c a) (pattern.attribute (class_in u c) p) gs
+      list_is : {u : List ℕ} {x : Way} {a : tree.Pattern} {p : Pattern} {gs : List Nested} → Reads u (0 ∷ x) a p gs
+          → Reads u x (tree.list a) (pattern.list p) gs
+      mixed_is : {u : List ℕ} {x : Way} {a : tree.Pattern} {p : Pattern} {gs : List Nested} → Reads u (0 ∷ x) a p gs
+          → Reads u x (tree.mixed a) (pattern.mixed p) gs
+      optional_is : {u : List ℕ} {x : Way} {a : tree.Pattern} {p : Pattern} {gs : List Nested} → Reads u (0 ∷ x) a p gs
+          → Reads u x (tree.optional a) (pattern.optional p) gs
+      zero_or_more_is : {u : List ℕ} {x : Way} {a : tree.Pattern} {p : Pattern} {gs : List Nested} → Reads u (0 ∷ x) a p gs
+          → Reads u x (tree.zero_or_more a) (pattern.zero_or_more p) gs
+      one_or_more_is : {u : List ℕ} {x : Way} {a : tree.Pattern} {p : Pattern} {gs : List Nested} → Reads u (0 ∷ x) a p gs
+          → Reads u x (tree.one_or_more a) (pattern.one_or_more p) gs
+      ref_is : {u : List ℕ} {x : Way} {y : List ℕ} → Reads u x (tree.ref y) (pattern.ref y) []
+      parent_ref_is : {u : List ℕ} {x : Way} {y : List ℕ} → Reads u x (tree.parent_ref y) (pattern.parent_ref y) []
+      empty_is : {u : List ℕ} {x : Way} → Reads u x tree.empty pattern.empty []
+      text_is : {u : List ℕ} {x : Way} → Reads u x tree.text pattern.text []
+      not_allowed_is : {u : List ℕ} {x : Way} → Reads u x tree.not_allowed pattern.not_allowed []
+      value_is : {u : List ℕ} {x : Way} {d : DatatypeName} {v : List ℕ} → Reads u x (tree.value d v) (pattern.value d.library d.name v) []
+      data_is : {u : List ℕ} {x : Way} {d : DatatypeName} {ps : List (List ℕ × List ℕ)} →
+          Reads u x (tree.data_of d ps) (pattern.data_of (datatype_in d ps)) []
+      except_is : {u : List ℕ} {x : Way} {d : DatatypeName} {ps : List (List ℕ × List ℕ)} {a : tree.Pattern} {p : Pattern} {gs : List Nested} →
+          Reads u (0 ∷ x) a p gs → Reads u x (tree.data_except d ps a) (pattern.data_except (datatype_in d ps) p) gs
+      -- a nested grammar stands at this place
+      grammar_is : {u : List ℕ} {x : Way} {cs : tree.Components} →
+          Reads u x (tree.grammar cs) (pattern.grammar x) (record { place = x; uri = u; components = cs } ∷ [])
+      -- an external is its file's pattern, read with the namespace that is handed on; a file of grammar content is a nested grammar
+      pattern_file_is : {u : List ℕ} {x : Way} {m : tree.Mention} {a : tree.Pattern} {p : Pattern} {gs : List Nested} → files m.href ≡ Some (pattern_file a)
+          → Reads (uri_in u m.namespace) (0 ∷ x) a p gs → Reads u x (tree.external m) (pattern.external p) gs
+      grammar_file_is : {u : List ℕ} {x : Way} {m : tree.Mention} {cs : tree.Components} → files m.href ≡ Some (grammar_file cs) →
+          Reads u x (tree.external m) (pattern.external (pattern.grammar x)) (record { place = x; uri = uri_in u m.namespace; components = cs } ∷ [])
+      joined_is : {u : List ℕ} {x : Way} {k : Connector} {all : tree.Patterns} {ps : List Pattern} {gs : List Nested} → ReadAll u x 0 all ps gs
+          → Reads u x (tree.joined k all) (members k ps) gs
+
+    -- the first of them is the child with this number
+    pub data ReadAll : List ℕ → Way → ℕ → tree.Patterns → List Pattern → List Nested → Type 0 where
+      none_are : {u : List ℕ} {x : Way} {n : ℕ} → ReadAll u x n tree.no_patterns [] []
+      more_are : {u : List ℕ} {x : Way} {n : ℕ} {a : tree.Pattern} {all : tree.Patterns} {p : Pattern} {ps : List Pattern} {gs hs : List Nested}
+          {both : List Nested} → Reads u (n ∷ x) a p gs → ReadAll u x (n + 1) all ps hs → both ≡ gs ++ hs → ReadAll u x n (tree.pattern_and a all) (p ∷ ps) both
+
+  -- the components that these give to their grammar, in order; the first of them is the child with this number
+  pub data Gathers : List ℕ → Way → ℕ → tree.Components → List Gathered → Type 0 where
+    nothing : {u : List ℕ} {x : Way} {n : ℕ} → Gathers u x n tree.no_components []
+    a_start : {u : List ℕ} {x : Way} {n : ℕ} {m : Method} {a : tree.Pattern} {cs : tree.Components} {p : Pattern} {gs : List Nested} {rest : List Gathered} →
+        Reads u (n ∷ x) a p gs → Gathers u x (n + 1) cs rest →
+        Gathers u x n (tree.component_and (tree.start m a) cs) (record { component = record { name = None; method = m; pattern = p }; nested = gs } ∷ rest)
+    a_define : {u : List ℕ} {x : Way} {n : ℕ} {y : List ℕ} {m : Method} {a : tree.Pattern} {cs : tree.Components} {p : Pattern} {gs : List Nested}
+        {rest : List Gathered} → Reads u (n ∷ x) a p gs → Gathers u x (n + 1) cs rest →
+        Gathers u x n (tree.component_and (tree.define y m a) cs) (record { component = record { name = Some y; method = m; pattern = p }; nested = gs } ∷ rest)
+    a_div : {u : List ℕ} {x : Way} {n : ℕ} {is cs : tree.Components} {inner rest all : List Gathered} →
+        Gathers u (n ∷ x) 0 is inner → Gathers u x (n + 1) cs rest → all ≡ inner ++ rest → Gathers u x n (tree.component_and (tree.div is) cs) all
+    -- an include gives the components of its file that are not overridden, and then the overriding ones
+    an_include : {u : List ℕ} {x : Way} {n : ℕ} {m : tree.Mention} {over cs is : tree.Components} {f : FileTree}
+        {included overriding rest all : List Gathered} →
+        files m.href ≡ Some f → grammar_of f ≡ Some is → Gathers (uri_in u m.namespace) (0 ∷ n ∷ x) 0 is included →
+        Gathers u (1 ∷ n ∷ x) 0 over overriding → Gathers u x (n + 1) cs rest →
+        all ≡ (filter (λ g. not (is_overridden overriding g)) included ++ overriding) ++ rest →
+        Gathers u x n (tree.component_and (tree.include m over) cs) all
+
+  -- at the place there is a grammar of these components, in a file that inherits this namespace (the main file the empty one); and around it is the one at the
+  -- other place, if there is one
+  pub data HasGrammar (main : FileTree) : Place → Option Place → List ℕ → tree.Components → Type 0 where
+    main_is : {cs : tree.Components} → cs ≡ main_grammar main → HasGrammar main [] None [] cs
+    nested_is : {x : Place} {o : Option Place} {u : List ℕ} {cs : tree.Components} {gathered : List Gathered} {g : Gathered} {n : Nested} →
+        HasGrammar main x o u cs → Gathers u x 0 cs gathered → Among g gathered → Among n g.nested → HasGrammar main n.place (Some x) n.uri n.components
+
+  -- The schema of these files, where they break none of S1 to S10: at each place at which a grammar is, its components and the place of the grammar
+  -- around it; at any other place nothing.
+  pub record IsSchemaOf (main : FileTree) (s : Schema) : Type 0 where
+    pub main_place : s.main ≡ []
+    pub there : (x : Place) (o : Option Place) (u : List ℕ) (cs : tree.Components) → HasGrammar main x o u cs →
+        (gathered : List Gathered) × Gathers u x 0 cs gathered × (s.components x ≡ Some (map (λ g. g.component) gathered)) × (s.outer x ≡ o)
+    pub only_there : (x : Place) (all : List Component) → s.components x ≡ Some all →
+        (o : Option Place) × (u : List ℕ) × (cs : tree.Components) × HasGrammar main x o u cs
+    pub none_around : (x : Place) → s.components x ≡ None → s.outer x ≡ None

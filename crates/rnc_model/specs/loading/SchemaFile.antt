@@ -1,0 +1,120 @@
+-- What a file of a schema is by itself: it breaks a clause, or it has a tree (RELAX NG Compact Syntax, "Syntax"; sizes and numbers of files: profile).
+use Rattle.std.specs.Prelude.{◌≡◌, ◌≢◌, ◌⊎◌, ℕ, ◌<◌, List, length}
+use Rattle.rng_model.specs.names.Lists.{Among, HasTwo}
+use Rattle.rnc_model.specs.declared.character.Character.{Character}
+use Rattle.rnc_model.specs.characters.Decoding.{IsDecoded, BreaksUtf8At, BreaksCharactersAt}
+use Rattle.rnc_model.specs.tokens.Cut.{Token, HasTokens, BreaksTokensAt}
+use Rattle.rnc_model.specs.tokens.Lexeme.{lexemes}
+use Rattle.rnc_model.specs.declarations.FileTree.{FileTree}
+use Rattle.rnc_model.specs.grammar.Sentence.{BreaksGrammarAt, BreaksNesting}
+use Rattle.rnc_model.specs.declarations.Parsing.{BreaksDeclarations, IsFileTree}
+
+-- ---- what stands in a file
+
+-- the bytes stand for characters, and these are the tokens of the characters
+pub record AreTokensOf (bytes : List ℕ) (ts : List Token) : Type 0 where
+  pub characters : List Character
+  pub decoded : IsDecoded bytes characters
+  pub are : HasTokens characters ts
+
+-- The bytes break this clause. A clause is spoken of only where the bytes break none before it: of characters where the bytes
+-- are UTF-8, of tokens where they stand for characters, of the grammar where these are cut into tokens, of declarations
+-- where these are a sentence. Too many open brackets (7) come before the grammar (6), so that not both are broken.
+pub data BreaksClause : List ℕ → ℕ → Type 0 where
+  -- they are not UTF-8
+  not_utf8 : {bytes : List ℕ} {k : ℕ} (offset : ℕ) → BreaksUtf8At bytes offset → k ≡ 3 → BreaksClause bytes k
+  -- a character is none of XML's, or an escape is bad
+  bad_characters : {bytes : List ℕ} {k : ℕ} (offset : ℕ) → BreaksCharactersAt bytes offset → k ≡ 4 → BreaksClause bytes k
+  -- neither a blank, a comment nor a token begins
+  bad_tokens : {bytes : List ℕ} {k : ℕ} (characters : List Character) (offset : ℕ) → IsDecoded bytes characters → BreaksTokensAt characters offset → k ≡ 5 →
+      BreaksClause bytes k
+  -- the tokens are no sentence
+  no_sentence : {bytes : List ℕ} {k : ℕ} (ts : List Token) (number : ℕ) → AreTokensOf bytes ts → BreaksGrammarAt (lexemes ts) number → k ≡ 6 →
+      BreaksClause bytes k
+  -- too many brackets are open
+  too_deep : {bytes : List ℕ} {k : ℕ} (ts : List Token) → AreTokensOf bytes ts → BreaksNesting (lexemes ts) → k ≡ 7 → BreaksClause bytes k
+  -- a declaration or a prefix breaks a rule
+  bad_declarations : {bytes : List ℕ} {k : ℕ} (ts : List Token) → AreTokensOf bytes ts → BreaksDeclarations (lexemes ts) → k ≡ 8 → BreaksClause bytes k
+
+-- the bytes break no clause, and this is their tree
+pub record IsSchemaFile (bytes : List ℕ) (t : FileTree) : Type 0 where
+  pub tokens : List Token
+  pub are : AreTokensOf bytes tokens
+  pub tree : IsFileTree (lexemes tokens) t
+
+-- ---- the files that are handed in
+
+-- how many bytes a file may have
+abbrev pub size_limit : ℕ
+size_limit = 1048576
+
+-- how many files may be handed in
+abbrev pub file_limit : ℕ
+file_limit = 64
+
+-- a file's name, as its bytes
+abbrev pub Name : Type 0
+Name = List ℕ
+
+-- a file that is handed in
+pub record NamedFile : Type 0 where
+  pub name : Name
+  pub bytes : List ℕ
+
+-- what a file is by itself: it breaks this clause first, or it has this tree
+pub data FileVerdict : Type 0 where
+  breaks : ℕ → FileVerdict
+  has_tree : FileTree → FileVerdict
+
+module _ (files : List NamedFile) where
+  -- no file of this name is handed in
+  abbrev pub IsMissing : Name → Type 0
+  IsMissing f = (file : NamedFile) → Among file files → file.name ≢ f
+
+  -- two files of this name are handed in
+  abbrev pub IsHandedInTwice : Name → Type 0
+  IsHandedInTwice f = HasTwo (λ a b. (a.name ≡ f) × (b.name ≡ f)) files
+
+  -- one file of this name is handed in, with these bytes
+  pub record IsHandedIn (f : Name) (bytes : List ℕ) : Type 0 where
+    pub there : Among (record { name = f; bytes = bytes }) files
+    pub once : ¬ (IsHandedInTwice f)
+
+  module _ (main : Name) where
+    -- the file is the main one, and too many are handed in; or it has too many bytes (S2)
+    abbrev pub BreaksLimit : Name → List ℕ → Type 0
+    BreaksLimit f bytes = ((f ≡ main) × (file_limit < length files)) ⊎ (size_limit < length bytes)
+
+    -- The file of this name breaks this clause first. Its bytes are spoken of only where it does not break S2.
+    pub data BreaksOwn (f : Name) (k : ℕ) : Type 0 where
+      missing : IsMissing f → k ≡ 1 → BreaksOwn f k
+      handed_in_twice : IsHandedInTwice f → k ≡ 1 → BreaksOwn f k
+      too_large : {bytes : List ℕ} → IsHandedIn f bytes → BreaksLimit f bytes → k ≡ 2 → BreaksOwn f k
+      bad_content : {bytes : List ℕ} → IsHandedIn f bytes → ¬ (BreaksLimit f bytes) → BreaksClause bytes k → BreaksOwn f k
+
+    -- the file of this name breaks no clause by itself, and has this tree
+    pub record HasTree (f : Name) (t : FileTree) : Type 0 where
+      pub bytes : List ℕ
+      pub handed_in : IsHandedIn f bytes
+      pub small : ¬ (BreaksLimit f bytes)
+      pub is : IsSchemaFile bytes t
+
+    abbrev pub IsFileVerdict : Name → FileVerdict → Type 0
+    IsFileVerdict f (breaks k) = BreaksOwn f k
+    IsFileVerdict f (has_tree t) = HasTree f t
+
+    -- the file is this and nothing else
+    pub record IsTheFileVerdict (f : Name) (v : FileVerdict) : Type 0 where
+      pub is : IsFileVerdict f v
+      pub only : (other : FileVerdict) → IsFileVerdict f other → v ≡ other
+
+-- ---- the same of bytes, however many there may be
+
+abbrev pub IsContentVerdict : List ℕ → FileVerdict → Type 0
+IsContentVerdict bytes (breaks clause) = BreaksClause bytes clause
+IsContentVerdict bytes (has_tree t) = IsSchemaFile bytes t
+
+-- the bytes are this and nothing else
+pub record IsTheContentVerdict (bytes : List ℕ) (v : FileVerdict) : Type 0 where
+  pub is : IsContentVerdict bytes v
+  pub only : (other : FileVerdict) → IsContentVerdict bytes other → v ≡ other

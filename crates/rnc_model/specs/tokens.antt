@@ -1,0 +1,4 @@
+-- Its tokens.
+pub mod Cut
+pub mod Lexeme
+pub mod Tokens

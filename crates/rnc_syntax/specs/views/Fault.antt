@@ -1,0 +1,30 @@
+-- Faults, and what is told where the reading of tokens stops.
+use Rattle.std.specs.Prelude.{ℕ, ◌+◌, ◌-◌, Option, Some, None, Result, Ok, Err}
+use Rattle.rng_model.specs.plain.Answers.{Gives, Refuses}
+use Rattle.rnc_syntax.specs.declared.fault.ReadFault.{ReadFault}
+use Rattle.rnc_syntax.specs.declared.fault.ReadFault.TheVariants as read_faults
+use Rattle.rnc_syntax.specs.declared.fault.Stop.{Stop}
+use Rattle.rnc_syntax.specs.declared.fault.Stop.TheVariants as stops
+use Rattle.rnc_syntax.specs.declared.fault.SyntaxFault.{SyntaxFault}
+use Rattle.rnc_syntax.specs.declared.fault.SyntaxFault.TheVariants as faults
+
+-- what a fault says of the tokens: nothing, where memory ran out
+abbrev pub unless_memory : SyntaxFault → Option SyntaxFault
+unless_memory faults.Memory = None
+unless_memory faults.TooDeep = Some faults.TooDeep
+unless_memory (faults.Unexpected number) = Some (faults.Unexpected number)
+
+-- what stopped the reading, unless memory ran out
+abbrev pub stop_of : ReadFault → Option Stop
+stop_of read_faults.Memory = None
+stop_of (read_faults.Stop s) = Some s
+
+-- where the reading of so many tokens stopped
+abbrev pub fault_at : ℕ → Stop → SyntaxFault
+fault_at count stops.TooDeep = faults.TooDeep
+fault_at count (stops.Unexpected left) = faults.Unexpected ((count - left) + 1)
+
+-- what is told of so many tokens
+abbrev pub told : {Y : Type 0} → ℕ → Result Y Stop → Result Y SyntaxFault
+told count (Ok y) = Ok y
+told count (Err stop) = Err (fault_at count stop)

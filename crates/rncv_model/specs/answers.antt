@@ -1,0 +1,5 @@
+-- Verdicts, answers, status.
+pub mod Answer
+pub mod Input
+pub mod Run
+pub mod Verdict

@@ -1,0 +1,6 @@
+-- The text of a simple grammar.
+pub mod Numbering
+pub mod PrintedText
+pub mod Printing
+pub mod Same
+pub mod SchemaText

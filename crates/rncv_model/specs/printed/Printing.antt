@@ -1,0 +1,18 @@
+-- What printing a grammar leaves written.
+use Rattle.std.specs.Prelude.{ℕ, List, Option}
+use Rattle.std.specs.Io.KnownBytes.{Appends}
+use Rattle.rng_model.specs.simple.Table.{Grammar}
+use Rattle.rng_model.specs.devices.Written.{AppendsBeginning}
+use Rattle.rncv_model.specs.printed.PrintedText.{IsPrinted}
+
+-- the known bytes grow by the printed text of the grammar
+pub record AppendsPrinted (g : Grammar) (old new : Option (List ℕ)) : Type 0 where
+  pub text : List ℕ
+  pub is_printed : IsPrinted g text
+  pub output : Appends old new text
+
+-- the known bytes grow by a beginning of the printed text of the grammar
+pub record AppendsPrintedBeginning (g : Grammar) (old new : Option (List ℕ)) : Type 0 where
+  pub text : List ℕ
+  pub is_printed : IsPrinted g text
+  pub output : AppendsBeginning old new text

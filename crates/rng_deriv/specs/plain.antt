@@ -1,0 +1,5 @@
+-- Plain functions that the code is proved against, and private relations.
+pub mod Acceptance
+pub mod Content
+pub mod Derivative
+pub mod Named

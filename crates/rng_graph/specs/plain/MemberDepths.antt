@@ -1,0 +1,33 @@
+-- Depths member by member, without the nested form. Private contracts cite them.
+use Rattle.std.specs.Prelude.{◌⊎◌, ℕ, ◌<◌, max, List, [], ◌∷◌, slice_index_or}
+use Rattle.rng_model.specs.names.Names.{NameClasses, no_classes, class_and}
+use Rattle.rng_model.specs.schema.Depth.{class_depth, depth_limit}
+use Rattle.rng_model.specs.names.NameViews.{class_of}
+use Rattle.rng_graph.specs.plain.InTwos.{nested}
+use Rattle.rng_graph.specs.plain.DepthWith.{cut_off, one_more, nested_depth, depth_with}
+use Rattle.rng_graph.specs.plain.Graph.{Spot, of_spot}
+use Rattle.rng_graph.specs.views.GraphView.{graph_pattern_of}
+use Rattle.rng_graph.specs.declared.graph.GraphElement.{GraphElement}
+
+-- a name class that is nested already is so deep, and the members after it
+abbrev pub nested_class_depth : ℕ → NameClasses → ℕ
+nested_class_depth n no_classes = n
+nested_class_depth n (class_and c cs) = nested_class_depth (one_more (max n (cut_off (class_depth (nested c))))) cs
+
+-- the members are so deep: none are as deep as a leaf
+abbrev pub members_depth : List ℕ → ℕ
+members_depth [] = 1
+members_depth (n ∷ ns) = nested_depth n ns
+
+-- what a table says of a definition; it has 0 for those that are not there
+abbrev pub depth_in : List ℕ → ℕ → ℕ
+depth_in table j = slice_index_or table j 0
+
+-- the depth of an element is 1, of a definition what the table says
+abbrev pub depth_at_spot : List ℕ → Spot → ℕ
+depth_at_spot table = of_spot (λ k. 1) (depth_in table)
+
+-- the name class of the element, or the tree of its body, is too deep
+abbrev pub IsDeepElement : List ℕ → GraphElement → Type 0
+IsDeepElement table e =
+    (depth_limit < class_depth (nested (class_of e.class.now))) ⊎ (depth_limit < depth_with (depth_at_spot table) (graph_pattern_of e.content))

@@ -1,0 +1,45 @@
+-- Keys of names, and when they serve a grammar.
+use Rattle.std.specs.Prelude.{◌≡◌, ◌↔◌, ◌<◌, ℕ, Box, List, [], length, position, slice_get, slice_index_or, Some}
+use Rattle.std.specs.Global.{Global}
+use Rattle.std.specs.Map.{lookup}
+use Rattle.std.specs.Option.{unwrap_or}
+use Rattle.std.specs.Str.{bytes_eq}
+use Rattle.rng_model.specs.names.Names.{Name, NameClass, In}
+use Rattle.rng_model.specs.simple.Table.{Table}
+use Rattle.rng_model.specs.names.NameViews.{class_of}
+use Rattle.rng_model.specs.declared.name.NameClass as declared
+use Rattle.rng_model.specs.declared.simple.PatternId.{PatternId}
+use Rattle.rng_model.specs.declared.simple.Simple.TheVariants as simple
+use Rattle.rng_names.specs.plain.Holding.{pair, same_name}
+
+-- the name that stands for each key, and for each namespace that is written the key of its other names
+pub record Keys : Type 0 where
+  pub names : List Name
+  pub others : List (List ℕ × ℕ)
+
+-- the key of a name: its own, or that of the other names of its namespace, or 0, which is that of all others
+abbrev pub key_of : Keys → Name → ℕ
+key_of keys q = unwrap_or (position (same_name q) keys.names) (unwrap_or (lookup (bytes_eq q.ns) keys.others) 0)
+
+-- the name that stands for a key
+abbrev pub name_at : Keys → ℕ → Name
+name_at keys k = slice_index_or keys.names k (pair [] [])
+
+-- a name stands for each key
+pub record AreKeys (keys : Keys) : Type 0 where
+  pub first : 0 < length keys.names
+  pub others : (u : List ℕ) (k : ℕ) → lookup (bytes_eq u) keys.others ≡ Some k → k < length keys.names
+
+-- the class holds a name exactly if it holds the one that stands for its key (RELAX NG Specification, section 6.1)
+abbrev pub Serves : Keys → NameClass → Type 0
+Serves keys c = (q : Name) → In c q ↔ In c (name_at keys (key_of keys q))
+
+-- a name class of the grammar: that of an element, or of an attribute
+pub data IsClassOf (t : Table) (c : NameClass) : Type 0 where
+  of_element : (k : ℕ) (e : declared.NameClass × PatternId) → slice_get t.elements k ≡ Some e → c ≡ class_of e.0 → IsClassOf t c
+  of_attribute : (k : ℕ) (class : Box declared.NameClass Global) (body : PatternId) → slice_get t.patterns k ≡ Some (simple.Attribute class body)
+      → c ≡ class_of class.value → IsClassOf t c
+
+-- the keys serve each class of the grammar
+abbrev pub KeysServe : Table → Keys → Type 0
+KeysServe t keys = (c : NameClass) → IsClassOf t c → Serves keys c

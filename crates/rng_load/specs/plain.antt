@@ -1,0 +1,6 @@
+-- Plain functions that the code is proved against, and private relations.
+pub mod ComponentNames
+pub mod Counting
+pub mod FoundGrammars
+pub mod PlainReading
+pub mod SchemaPlaces

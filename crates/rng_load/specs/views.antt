@@ -1,0 +1,8 @@
+-- Views of types, and invariants.
+pub mod FileFaults
+pub mod FilesView
+pub mod GatheredComponents
+pub mod Loaded
+pub mod LoadingFaults
+pub mod PlacedGrammars
+pub mod ReadPatterns

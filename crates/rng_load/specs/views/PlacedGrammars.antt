@@ -1,0 +1,45 @@
+-- What the grammars of a schema are in the code, by their places, apart from where they lie in memory.
+use Rattle.std.specs.Prelude.{List, map, Option, Some, None, option_map}
+use Rattle.std.specs.Map.{lookup}
+use Rattle.std.specs.Str.{bytes_eq}
+use Rattle.indexmap.specs.IndexMap.{IndexMap}
+use Rattle.rng_model.specs.schema.Patterns as pattern
+use Rattle.rng_model.specs.schema.Schema as schema
+use Rattle.rng_model.specs.views.SchemaView.{place_of, schema_component_of}
+use Rattle.rng_model.specs.declared.place.Place.{Place}
+use Rattle.rng_load.specs.declared.schema.Grammar.{Grammar}
+use Rattle.rng_load.specs.declared.schema.Schema.{Schema}
+
+-- the components of a grammar, and the place of the one around it
+pub record PlacedGrammar : Type 0 where
+  pub components : List schema.Component
+  pub outer : Option pattern.Place
+
+abbrev pub PlacedGrammars : Type 0
+PlacedGrammars = List (pattern.Place × PlacedGrammar)
+
+abbrev pub grammar_of : Grammar → PlacedGrammar
+grammar_of g = record { components = map schema_component_of g.components.items; outer = option_map place_of g.outer }
+
+module _ {S : Type 0} where
+  abbrev pub grammars_of : IndexMap Place Grammar S → PlacedGrammars
+  grammars_of grammars = map (λ e. (place_of e.0, grammar_of e.1)) grammars.entries
+
+-- the grammar at a place
+abbrev pub grammar_at : PlacedGrammars → pattern.Place → Option PlacedGrammar
+grammar_at gs x = lookup (bytes_eq x) gs
+
+abbrev pub outer_if : Option PlacedGrammar → Option pattern.Place
+outer_if None = None
+outer_if (Some g) = g.outer
+
+-- grammars at their places, with the main one at this place
+abbrev pub schema_with : pattern.Place → PlacedGrammars → schema.Schema
+schema_with main gs = record {
+  main = main;
+  components = λ x. option_map (λ g. g.components) (grammar_at gs x);
+  outer = λ x. outer_if (grammar_at gs x);
+}
+
+abbrev pub schema_of : Schema → schema.Schema
+schema_of s = schema_with (place_of s.main) (grammars_of s.grammars)

@@ -1,0 +1,10 @@
+-- Texts, values and datatypes.
+pub mod Blanks
+pub mod DatatypeTests
+pub mod DatatypeViews
+pub mod Datatypes
+pub mod Facets
+pub mod KnownDatatypes
+pub mod Numerals
+pub mod Texts
+pub mod Values

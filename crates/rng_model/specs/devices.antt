@@ -1,0 +1,3 @@
+-- Devices.
+pub mod Device
+pub mod Written

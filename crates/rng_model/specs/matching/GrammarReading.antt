@@ -1,0 +1,8 @@
+-- What comes first, and what may take it.
+use Rattle.rng_model.specs.simple.Table.{Table, grammar_of}
+use Rattle.rng_model.specs.datatypes.DatatypeTests.{text_tests}
+use Rattle.rng_model.specs.matching.Reading.{Reading}
+
+-- a grammar as matching reads it
+abbrev pub reading_of : Table → Reading
+reading_of t = record { grammar = grammar_of t; tests = text_tests }

@@ -1,0 +1,7 @@
+-- A simple grammar with tests for texts: how the names and the texts of a document are judged.
+use Rattle.rng_model.specs.simple.Table.{Grammar}
+use Rattle.rng_model.specs.datatypes.Texts.{TextTests}
+
+pub record Reading : Type 0 where
+  pub grammar : Grammar
+  pub tests : TextTests

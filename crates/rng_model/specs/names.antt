@@ -1,0 +1,5 @@
+-- Names, name classes, characters of names, lists.
+pub mod Characters
+pub mod Lists
+pub mod NameViews
+pub mod Names

@@ -1,0 +1,21 @@
+-- What the values of the code are, apart from where they lie in memory.
+use Rattle.std.specs.Prelude.{string_bytes}
+use Rattle.rng_model.specs.declared.name.Name.{Name}
+use Rattle.rng_model.specs.declared.name.NameClass.{NameClass, fold-NameClass}
+use Rattle.rng_model.specs.declared.name.NameClass.TheOpen.{NameClass-F}
+use Rattle.rng_model.specs.names.Names as names
+
+abbrev pub name_of : Name → names.Name
+name_of n = record { ns = string_bytes n.ns; local = string_bytes n.local }
+
+-- one level of a name class, with each class inside already seen as its twin
+abbrev pub class_step : NameClass-F names.NameClass → names.NameClass
+class_step NameClass-F.Any = names.any_name
+class_step (NameClass-F.AnyExcept except) = names.any_except except.value
+class_step (NameClass-F.Ns ns) = names.ns_name (string_bytes ns)
+class_step (NameClass-F.NsExcept ns except) = names.ns_except (string_bytes ns) except.value
+class_step (NameClass-F.Name n) = names.name_is (name_of n)
+class_step (NameClass-F.Choice all) = names.some_of all.items
+
+abbrev pub class_of : NameClass → names.NameClass
+class_of = fold-NameClass names.NameClass class_step

@@ -1,0 +1,118 @@
+-- Patterns as they are written, of all kinds (RELAX NG Specification, section 3; mentions of files followed, 4.6 and 4.7).
+-- Where an element stands, its position says, so that two equal ones are told apart.
+use Rattle.std.specs.Prelude.{ℕ, ◌+◌, List, [], ◌∷◌}
+use Rattle.rng_model.specs.names.Names.{NameClass}
+use Rattle.rng_model.specs.simple.Tree.{Datatype, Connector, choice, group, interleave}
+use Rattle.rng_model.specs.simple.Tree.{Tree, Trees}
+use Rattle.rng_model.specs.simple.Tree as tree
+
+-- where a grammar stands in a schema: the way to it from the main one, through nested grammars and mentions of files, the
+-- innermost first
+abbrev pub Place : Type 0
+Place = List ℕ
+
+-- where a pattern stands in the grammar at a place: the number of its component, and of the child at each level below, the
+-- innermost first
+abbrev pub Position : Type 0
+Position = List ℕ
+
+mutual
+  pub data Pattern : Type 0 where
+    not_allowed : Pattern
+    empty : Pattern
+    text : Pattern
+    element : NameClass → Pattern → Pattern
+    attribute : NameClass → Pattern → Pattern
+    list : Pattern → Pattern
+    data_of : Datatype → Pattern
+    data_except : Datatype → Pattern → Pattern
+    -- the library and the name of its datatype, which has no parameters, and its text
+    value : List ℕ → List ℕ → List ℕ → Pattern
+    mixed : Pattern → Pattern
+    optional : Pattern → Pattern
+    zero_or_more : Pattern → Pattern
+    one_or_more : Pattern → Pattern
+    joined : Connector → Pattern → Pattern → Patterns → Pattern
+    -- by name
+    ref : List ℕ → Pattern
+    parent_ref : List ℕ → Pattern
+    -- a nested grammar, at its place
+    grammar : Place → Pattern
+    -- the pattern of another file, which is a nested grammar where the file is a grammar
+    external : Pattern → Pattern
+
+  pub data Patterns : Type 0 where
+    no_patterns : Patterns
+    pattern_and : Pattern → Patterns → Patterns
+
+abbrev pub patterns_of : List Pattern → Patterns
+patterns_of [] = no_patterns
+patterns_of (p ∷ ps) = pattern_and p (patterns_of ps)
+
+-- a list of members about a connector: one alone is itself (section 4.12); none, which no file has, change nothing beside others
+abbrev pub members : Connector → List Pattern → Pattern
+members choice [] = not_allowed
+members group [] = empty
+members interleave [] = empty
+members k (p ∷ []) = p
+members k (p ∷ (q ∷ ps)) = joined k p q (patterns_of ps)
+
+-- the datatype of this name in this library, with no parameters
+abbrev pub without_parameters : List ℕ → List ℕ → Datatype
+without_parameters library name = record { library = library; name = name; parameters = [] }
+
+-- where the tree of a pattern ends: an element, at its position, with its class and its body; or what is looked up
+pub data Point : Type 0 where
+  an_element : Position → NameClass → Pattern → Point
+  a_ref : List ℕ → Point
+  a_parent_ref : List ℕ → Point
+  a_grammar : Place → Point
+
+-- the tree of the pattern at a position, down to its elements and refs; an external is its file's pattern (section 4.6)
+abbrev mutual
+  pub pattern_tree : Position → Pattern → Tree Point
+  pattern_tree x not_allowed = tree.not_allowed
+  pattern_tree x empty = tree.empty
+  pattern_tree x text = tree.text
+  pattern_tree x (element c p) = tree.leaf (an_element x c p)
+  pattern_tree x (attribute c p) = tree.attribute c (pattern_tree (0 ∷ x) p)
+  pattern_tree x (list p) = tree.list (pattern_tree (0 ∷ x) p)
+  pattern_tree x (data_of d) = tree.data_of d
+  pattern_tree x (data_except d p) = tree.data_except d (pattern_tree (0 ∷ x) p)
+  pattern_tree x (value library name v) = tree.value (without_parameters library name) v
+  pattern_tree x (mixed p) = tree.mixed (pattern_tree (0 ∷ x) p)
+  pattern_tree x (optional p) = tree.optional (pattern_tree (0 ∷ x) p)
+  pattern_tree x (zero_or_more p) = tree.zero_or_more (pattern_tree (0 ∷ x) p)
+  pattern_tree x (one_or_more p) = tree.one_or_more (pattern_tree (0 ∷ x) p)
+  pattern_tree x (joined k p q ps) = tree.joined k (pattern_tree (0 ∷ x) p) (pattern_tree (1 ∷ x) q) (pattern_trees 2 x ps)
+  pattern_tree x (ref y) = tree.leaf (a_ref y)
+  pattern_tree x (parent_ref y) = tree.leaf (a_parent_ref y)
+  pattern_tree x (grammar z) = tree.leaf (a_grammar z)
+  pattern_tree x (external p) = pattern_tree (0 ∷ x) p
+
+  -- the first of them is the child with this number
+  pub pattern_trees : ℕ → Position → Patterns → Trees Point
+  pattern_trees n x no_patterns = tree.no_trees
+  pattern_trees n x (pattern_and p ps) = tree.tree_and (pattern_tree (n ∷ x) p) (pattern_trees (n + 1) x ps)
+
+-- the pattern q is p or stands somewhere in it, also in the bodies of elements and in the patterns of other files; the
+-- components of a nested grammar stand at its own place
+mutual
+  pub data IsWrittenIn (q : Pattern) : Pattern → Type 0 where
+    itself : IsWrittenIn q q
+    in_element : {c : NameClass} {p : Pattern} → IsWrittenIn q p → IsWrittenIn q (element c p)
+    in_attribute : {c : NameClass} {p : Pattern} → IsWrittenIn q p → IsWrittenIn q (attribute c p)
+    in_list : {p : Pattern} → IsWrittenIn q p → IsWrittenIn q (list p)
+    in_except : {d : Datatype} {p : Pattern} → IsWrittenIn q p → IsWrittenIn q (data_except d p)
+    in_mixed : {p : Pattern} → IsWrittenIn q p → IsWrittenIn q (mixed p)
+    in_optional : {p : Pattern} → IsWrittenIn q p → IsWrittenIn q (optional p)
+    in_zero_or_more : {p : Pattern} → IsWrittenIn q p → IsWrittenIn q (zero_or_more p)
+    in_one_or_more : {p : Pattern} → IsWrittenIn q p → IsWrittenIn q (one_or_more p)
+    in_first : {k : Connector} {p r : Pattern} {ps : Patterns} → IsWrittenIn q p → IsWrittenIn q (joined k p r ps)
+    in_second : {k : Connector} {p r : Pattern} {ps : Patterns} → IsWrittenIn q r → IsWrittenIn q (joined k p r ps)
+    in_another : {k : Connector} {p r : Pattern} {ps : Patterns} → IsWrittenAmong q ps → IsWrittenIn q (joined k p r ps)
+    in_external : {p : Pattern} → IsWrittenIn q p → IsWrittenIn q (external p)
+
+  pub data IsWrittenAmong (q : Pattern) : Patterns → Type 0 where
+    in_this : {p : Pattern} {ps : Patterns} → IsWrittenIn q p → IsWrittenAmong q (pattern_and p ps)
+    in_later : {p : Pattern} {ps : Patterns} → IsWrittenAmong q ps → IsWrittenAmong q (pattern_and p ps)

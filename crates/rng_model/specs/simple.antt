@@ -1,0 +1,8 @@
+-- Trees, rewriting steps, simple grammars.
+pub mod ClassSteps
+pub mod Leaves
+pub mod SchemaForm
+pub mod Simplification
+pub mod SimplifiedSchema
+pub mod Table
+pub mod Tree

@@ -1,0 +1,92 @@
+-- Steps of simplification: one application of one rule, anywhere in a tree, and what is reached when no step leads on. The
+-- rules are of two groups: those that write one kind of pattern by others (RELAX NG Specification, sections 4.12 to 4.15),
+-- and those that carry notAllowed and empty outward (sections 4.20 and 4.21).
+use Rattle.std.specs.Prelude.{◌≡◌}
+use Rattle.rng_model.specs.names.Names.{NameClass}
+use Rattle.rng_model.specs.simple.ClassSteps.{ClassStep}
+use Rattle.rng_model.specs.simple.Tree.{Datatype, Connector, choice, interleave}
+use Rattle.rng_model.specs.simple.Tree.{Tree, not_allowed, empty, text, attribute, list, data_of, data_except, mixed, optional, zero_or_more, one_or_more, joined}
+use Rattle.rng_model.specs.simple.Tree.{Trees, no_trees, tree_and}
+
+pub data RuleGroup : Type 0 where
+  -- 4.12 to 4.15
+  rewriting : RuleGroup
+  -- 4.20 and 4.21
+  propagation : RuleGroup
+
+-- notAllowed is one of the trees
+pub data HasNotAllowed {L : Type 0} : Trees L → Type 0 where
+  this_one : {ts : Trees L} → HasNotAllowed (tree_and not_allowed ts)
+  later_one : {t : Tree L} {ts : Trees L} → HasNotAllowed ts → HasNotAllowed (tree_and t ts)
+
+-- one step of a group
+mutual
+  pub data Step {L : Type 0} : RuleGroup → Tree L → Tree L → Type 0 where
+    -- 4.12: three members or more are nested in twos from the left
+    nest : {k : Connector} {a b c : Tree L} {cs : Trees L} → Step rewriting (joined k a b (tree_and c cs)) (joined k (joined k a b no_trees) c cs)
+    in_class : {c d : NameClass} {a : Tree L} → ClassStep c d → Step rewriting (attribute c a) (attribute d a)
+    -- 4.13: mixed is an interleave with text
+    mixed_is : {a : Tree L} → Step rewriting (mixed a) (joined interleave a text no_trees)
+    -- 4.14: optional is a choice with empty
+    optional_is : {a : Tree L} → Step rewriting (optional a) (joined choice a empty no_trees)
+    -- 4.15: zeroOrMore is a choice of oneOrMore and empty
+    zero_or_more_is : {a : Tree L} → Step rewriting (zero_or_more a) (joined choice (one_or_more a) empty no_trees)
+    -- 4.20: what has a notAllowed child, and is no choice, is notAllowed
+    attribute_not_allowed : {c : NameClass} → Step propagation (attribute c not_allowed) not_allowed
+    list_not_allowed : Step propagation (list not_allowed) not_allowed
+    one_or_more_not_allowed : Step propagation (one_or_more not_allowed) not_allowed
+    first_not_allowed : {k : Connector} {b : Tree L} {ts : Trees L} → (k ≡ choice → ⊥) → Step propagation (joined k not_allowed b ts) not_allowed
+    second_not_allowed : {k : Connector} {a : Tree L} {ts : Trees L} → (k ≡ choice → ⊥) → Step propagation (joined k a not_allowed ts) not_allowed
+    other_not_allowed : {k : Connector} {a b : Tree L} {ts : Trees L} → (k ≡ choice → ⊥) → HasNotAllowed ts
+        → Step propagation (joined k a b ts) not_allowed
+    -- 4.20: a choice with one notAllowed side is the other side, with two notAllowed; a notAllowed except goes
+    no_first_side : {b : Tree L} → Step propagation (joined choice not_allowed b no_trees) b
+    no_second_side : {a : Tree L} → Step propagation (joined choice a not_allowed no_trees) a
+    no_except : {d : Datatype} → Step propagation (data_except d not_allowed) (data_of d)
+    -- 4.21: two empties are empty
+    two_empties : {k : Connector} → Step propagation (joined k empty empty no_trees) empty
+    -- 4.21: a group or interleave with one empty side is the other side
+    first_empty : {k : Connector} {b : Tree L} → (k ≡ choice → ⊥) → Step propagation (joined k empty b no_trees) b
+    second_empty : {k : Connector} {a : Tree L} → (k ≡ choice → ⊥) → Step propagation (joined k a empty no_trees) a
+    -- 4.21: a choice whose second side is empty and whose first is not changes its sides
+    sides_change : {a : Tree L} → (a ≡ empty → ⊥) → Step propagation (joined choice a empty no_trees) (joined choice empty a no_trees)
+    -- 4.21: one empty or more is empty
+    one_or_more_empty : Step propagation (one_or_more empty) empty
+    -- a step inside the tree
+    in_attribute : {g : RuleGroup} {c : NameClass} {a b : Tree L} → Step g a b → Step g (attribute c a) (attribute c b)
+    in_list : {g : RuleGroup} {a b : Tree L} → Step g a b → Step g (list a) (list b)
+    in_except : {g : RuleGroup} {d : Datatype} {a b : Tree L} → Step g a b → Step g (data_except d a) (data_except d b)
+    in_mixed : {g : RuleGroup} {a b : Tree L} → Step g a b → Step g (mixed a) (mixed b)
+    in_optional : {g : RuleGroup} {a b : Tree L} → Step g a b → Step g (optional a) (optional b)
+    in_zero_or_more : {g : RuleGroup} {a b : Tree L} → Step g a b → Step g (zero_or_more a) (zero_or_more b)
+    in_one_or_more : {g : RuleGroup} {a b : Tree L} → Step g a b → Step g (one_or_more a) (one_or_more b)
+    in_first : {g : RuleGroup} {k : Connector} {a b c : Tree L} {ts : Trees L} → Step g a b → Step g (joined k a c ts) (joined k b c ts)
+    in_second : {g : RuleGroup} {k : Connector} {a b c : Tree L} {ts : Trees L} → Step g a b → Step g (joined k c a ts) (joined k c b ts)
+    in_others : {g : RuleGroup} {k : Connector} {a b : Tree L} {ts us : Trees L} → StepAmong g ts us → Step g (joined k a b ts) (joined k a b us)
+
+  -- one step in one of the trees
+  pub data StepAmong {L : Type 0} : RuleGroup → Trees L → Trees L → Type 0 where
+    this_member : {g : RuleGroup} {a b : Tree L} {ts : Trees L} → Step g a b → StepAmong g (tree_and a ts) (tree_and b ts)
+    later_member : {g : RuleGroup} {a : Tree L} {ts us : Trees L} → StepAmong g ts us → StepAmong g (tree_and a ts) (tree_and a us)
+
+-- one step of either group
+abbrev pub AnyStep : {L : Type 0} → Tree L → Tree L → Type 0
+AnyStep a b = (g : RuleGroup) × Step g a b
+
+-- any number of these steps
+pub data Steps {L : Type 0} (IsStep : Tree L → Tree L → Type 0) : Tree L → Tree L → Type 0 where
+  no_step : {a : Tree L} → Steps IsStep a a
+  step_and : {a b c : Tree L} → IsStep a b → Steps IsStep b c → Steps IsStep a c
+
+-- b is reached from a by these steps, and none leads on from b
+pub record IsLast {L : Type 0} (IsStep : Tree L → Tree L → Type 0) (a b : Tree L) : Type 0 where
+  pub reached : Steps IsStep a b
+  pub last : (c : Tree L) → IsStep b c → ⊥
+
+-- 4.12 to 4.15 are applied to a, and no other rule
+abbrev pub IsRewritten : {L : Type 0} → Tree L → Tree L → Type 0
+IsRewritten a b = IsLast (Step rewriting) a b
+
+-- all rules are applied to a, in any order
+abbrev pub IsSimpleFormOf : {L : Type 0} → Tree L → Tree L → Type 0
+IsSimpleFormOf a b = IsLast AnyStep a b

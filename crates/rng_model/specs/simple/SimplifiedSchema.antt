@@ -1,0 +1,20 @@
+-- What the simplification of a schema has to answer.
+use Rattle.std.specs.Prelude.{ℕ, ◌<◌, length}
+use Rattle.rng_model.specs.schema.Least.{IsLeast}
+use Rattle.rng_model.specs.restrictions.Restrictions.{IsPart, StandsIn}
+use Rattle.rng_model.specs.schema.Schema.{Schema}
+use Rattle.rng_model.specs.schema.SchemaClauses.{BreaksSchemaClause}
+use Rattle.rng_model.specs.simple.Table.{Table, grammar_of, tree_at}
+use Rattle.rng_model.specs.simple.Tree.{Simple}
+use Rattle.rng_model.specs.declared.fault.SchemaFault.{SchemaFault}
+use Rattle.rng_model.specs.declared.fault.SchemaFault.TheVariants as faults
+
+-- the least clause that the schema breaks, of those that come before its simple form; want of memory tells nothing
+abbrev pub IsSchemaFault : Schema → SchemaFault → Type 0
+IsSchemaFault s (faults.Clause clause) = IsLeast (BreaksSchemaClause s) clause
+IsSchemaFault s (faults.File clause name) = ⊥
+IsSchemaFault s faults.Memory = Unit {0}
+
+-- the tables hold no more than the grammar: each pattern stands in the start, or in the body of an element
+abbrev pub AreAllUsed : Table → Type 0
+AreAllUsed t = (i : ℕ) → i < length t.patterns → (part : Simple ℕ) × IsPart (grammar_of t) part × StandsIn (tree_at t.patterns (record { 0 = i })) part

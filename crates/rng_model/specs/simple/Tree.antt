@@ -1,0 +1,95 @@
+-- Trees of patterns, as they are written and in simple form. An element is a leaf with a name in `L`.
+use Rattle.std.specs.Prelude.{ℕ, List}
+use Rattle.rng_model.specs.names.Names.{NameClass}
+
+-- a datatype: its library, its name there, and its parameters in the order in which they are written
+-- (RELAX NG Specification, section 2)
+pub record Datatype : Type 0 where
+  pub library : List ℕ
+  pub name : List ℕ
+  pub parameters : List (List ℕ × List ℕ)
+
+-- what stands between members: `|`, `,` or `&`
+pub data Connector : Type 0 where
+  choice : Connector
+  group : Connector
+  interleave : Connector
+
+-- a tree as it is written: two members or more about a connector (RELAX NG Specification, section 3)
+mutual
+  pub data Tree (L : Type 0) : Type 0 where
+    not_allowed : Tree L
+    empty : Tree L
+    text : Tree L
+    leaf : L → Tree L
+    attribute : NameClass → Tree L → Tree L
+    list : Tree L → Tree L
+    data_of : Datatype → Tree L
+    data_except : Datatype → Tree L → Tree L
+    value : Datatype → List ℕ → Tree L
+    mixed : Tree L → Tree L
+    optional : Tree L → Tree L
+    zero_or_more : Tree L → Tree L
+    one_or_more : Tree L → Tree L
+    joined : Connector → Tree L → Tree L → Trees L → Tree L
+
+  pub data Trees (L : Type 0) : Type 0 where
+    no_trees : Trees L
+    tree_and : Tree L → Trees L → Trees L
+
+-- a tree in the simple syntax: two sides about a connector (RELAX NG Specification, section 5)
+pub data Simple (L : Type 0) : Type 0 where
+  s_not_allowed : Simple L
+  s_empty : Simple L
+  s_text : Simple L
+  s_leaf : L → Simple L
+  s_attribute : NameClass → Simple L → Simple L
+  s_list : Simple L → Simple L
+  s_data : Datatype → Simple L
+  s_data_except : Datatype → Simple L → Simple L
+  s_value : Datatype → List ℕ → Simple L
+  s_one_or_more : Simple L → Simple L
+  s_joined : Connector → Simple L → Simple L → Simple L
+
+-- the same tree among the trees as written
+abbrev pub as_tree : {L : Type 0} → Simple L → Tree L
+as_tree s_not_allowed = not_allowed
+as_tree s_empty = empty
+as_tree s_text = text
+as_tree (s_leaf l) = leaf l
+as_tree (s_attribute c s) = attribute c (as_tree s)
+as_tree (s_list s) = list (as_tree s)
+as_tree (s_data d) = data_of d
+as_tree (s_data_except d s) = data_except d (as_tree s)
+as_tree (s_value d v) = value d v
+as_tree (s_one_or_more s) = one_or_more (as_tree s)
+as_tree (s_joined k s u) = joined k (as_tree s) (as_tree u) no_trees
+
+-- notAllowed stands nowhere in the tree
+abbrev pub IsFreeOfNotAllowed : {L : Type 0} → Simple L → Type 0
+IsFreeOfNotAllowed s_not_allowed = ⊥
+IsFreeOfNotAllowed s_empty = Unit {0}
+IsFreeOfNotAllowed s_text = Unit {0}
+IsFreeOfNotAllowed (s_leaf l) = Unit {0}
+IsFreeOfNotAllowed (s_attribute c s) = IsFreeOfNotAllowed s
+IsFreeOfNotAllowed (s_list s) = IsFreeOfNotAllowed s
+IsFreeOfNotAllowed (s_data d) = Unit {0}
+IsFreeOfNotAllowed (s_data_except d s) = IsFreeOfNotAllowed s
+IsFreeOfNotAllowed (s_value d v) = Unit {0}
+IsFreeOfNotAllowed (s_one_or_more s) = IsFreeOfNotAllowed s
+IsFreeOfNotAllowed (s_joined k s u) = IsFreeOfNotAllowed s × IsFreeOfNotAllowed u
+
+-- what a start or a body may be in the simple syntax: notAllowed as a whole, or a tree in which it stands nowhere
+-- (RELAX NG Specification, section 5 after 4.20)
+abbrev pub IsSimpleBody : {L : Type 0} → Simple L → Type 0
+IsSimpleBody s_not_allowed = Unit {0}
+IsSimpleBody s_empty = Unit {0}
+IsSimpleBody s_text = Unit {0}
+IsSimpleBody (s_leaf l) = Unit {0}
+IsSimpleBody (s_attribute c s) = IsFreeOfNotAllowed s
+IsSimpleBody (s_list s) = IsFreeOfNotAllowed s
+IsSimpleBody (s_data d) = Unit {0}
+IsSimpleBody (s_data_except d s) = IsFreeOfNotAllowed s
+IsSimpleBody (s_value d v) = Unit {0}
+IsSimpleBody (s_one_or_more s) = IsFreeOfNotAllowed s
+IsSimpleBody (s_joined k s u) = IsFreeOfNotAllowed s × IsFreeOfNotAllowed u

@@ -1,0 +1,6 @@
+-- Plain functions that the code is proved against, and private relations.
+pub mod Copies
+pub mod Facts
+pub mod Kept
+pub mod Reduced
+pub mod Selecting

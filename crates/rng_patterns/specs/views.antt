@@ -1,0 +1,6 @@
+-- Views of types, and invariants.
+pub mod Choices
+pub mod Node
+pub mod PatternTable
+pub mod Taking
+pub mod Trees

@@ -1,0 +1,56 @@
+-- Items of a grammar, as the code keeps them.
+use Rattle.std.specs.Prelude.{◌≡◌, ℕ, ◌<◌, ◌==◌, Bool, false, List, ◌++◌, length, map, Option, Some, None, codes, decimal}
+use Rattle.std.specs.List.{AllByRecursion, filter_map, position_or_len}
+use Rattle.rng_model.specs.simple.Table.{AreToldApart, Table, IsTable, tree_at}
+use Rattle.rng_model.specs.declared.simple.ElementId.{ElementId}
+use Rattle.rng_model.specs.declared.simple.PatternId.{PatternId}
+use Rattle.rncv_model.specs.printed.PrintedText as text
+use Rattle.rng_print.specs.declared.items.Item.{Item}
+use Rattle.rng_print.specs.declared.items.Item.TheVariants as variants
+use Rattle.rng_print.specs.declared.items.Items.{Items}
+
+-- what the item stands for
+abbrev pub item_at : Table → Item → text.Item
+item_at t (variants.Element e) = text.element e.0
+item_at t (variants.Pattern p) = text.pattern (tree_at t.patterns p)
+
+-- it stands in the tables
+abbrev pub IsInside : Table → Item → Type 0
+IsInside t (variants.Element e) = e.0 < length t.elements
+IsInside t (variants.Pattern p) = p.0 < length t.patterns
+
+abbrev pub element_of : Item → Option ElementId
+element_of (variants.Element e) = Some e
+element_of (variants.Pattern p) = None
+
+abbrev pub pattern_of : Item → Option PatternId
+pattern_of (variants.Element e) = None
+pattern_of (variants.Pattern p) = Some p
+
+-- the elements and the patterns among them, by number
+pub record AreIndexed (items : Items) : Type 0 where
+  pub elements : items.elements.keys ≡ filter_map element_of items.all.items
+  pub patterns : items.patterns.keys ≡ filter_map pattern_of items.all.items
+
+-- items of the tables, in which equal patterns have one number
+pub record AreItems (t : Table) (items : Items) : Type 0 where
+  pub table : IsTable t
+  pub apart : AreToldApart t
+  pub inside : AllByRecursion (IsInside t) items.all.items
+  pub indexed : AreIndexed items
+
+-- what they stand for, in the order in which they are first written
+abbrev pub items_seen : Table → Items → List text.Item
+items_seen t items = map (item_at t) items.all.items
+
+-- they have the same number in the tables
+abbrev pub same_number : Item → Item → Bool
+same_number (variants.Element d) (variants.Element e) = d.0 == e.0
+same_number (variants.Element d) (variants.Pattern q) = false
+same_number (variants.Pattern p) (variants.Element e) = false
+same_number (variants.Pattern p) (variants.Pattern q) = p.0 == q.0
+
+-- the name of an item by its number among those of its kind
+abbrev pub numbered_name : Items → Item → List ℕ
+numbered_name items (variants.Element e) = codes "e" ++ decimal (position_or_len (λ d. e.0 == d.0) items.elements.keys)
+numbered_name items (variants.Pattern p) = codes "p" ++ decimal (position_or_len (λ q. p.0 == q.0) items.patterns.keys)

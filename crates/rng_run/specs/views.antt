@@ -1,0 +1,4 @@
+-- Views of types, and invariants.
+pub mod AnswerView
+pub mod MalformedVerdict
+pub mod TakenDocuments

@@ -1,0 +1,63 @@
+-- What tells labels apart: the parts that each is written by.
+use Rattle.std.specs.Prelude.{◌≡◌, ℕ, List, [], ◌∷◌, ◌++◌, map, slice_get, Option, Some, None, Vec}
+use Rattle.indexmap.specs.IndexSet.{IndexSet}
+use Rattle.rng_model.specs.names.Names.{NameClass, any_name, any_except, ns_name, ns_except, name_is, one_of, NameClasses, no_classes, class_and}
+use Rattle.rng_model.specs.simple.Tree.{Datatype}
+use Rattle.rng_simple.specs.declared.label_codes.LabelPart.{LabelPart}
+use Rattle.rng_simple.specs.declared.label_codes.LabelPart.TheVariants as parts
+
+pub data Part : Type 0 where
+  text : List ℕ → Part
+  any : Part
+  any_but : Part
+  ns : List ℕ → Part
+  ns_but : List ℕ → Part
+  name : List ℕ → List ℕ → Part
+  either : Part
+
+abbrev pub part_of : LabelPart → Part
+part_of (parts.Text s) = text s.now
+part_of parts.Any = any
+part_of parts.AnyBut = any_but
+part_of (parts.Ns u) = ns u.now
+part_of (parts.NsBut u) = ns_but u.now
+part_of (parts.Name u s) = name u.now s.now
+part_of parts.Either = either
+
+-- the parts of a name class, before others: a class before what excepts it, members before what joins them
+unfoldable mutual
+  pub class_code : NameClass → List Part → List Part
+  class_code any_name rest = any ∷ rest
+  class_code (any_except c) rest = class_code c (any_but ∷ rest)
+  class_code (ns_name u) rest = ns u ∷ rest
+  class_code (ns_except u c) rest = class_code c (ns_but u ∷ rest)
+  class_code (name_is n) rest = name n.ns n.local ∷ rest
+  class_code (one_of c d cs) rest = class_code c (class_code d (either ∷ more_code cs rest))
+
+  pub more_code : NameClasses → List Part → List Part
+  more_code no_classes rest = rest
+  more_code (class_and c cs) rest = class_code c (either ∷ more_code cs rest)
+
+unfoldable pub parameters_code : List (List ℕ × List ℕ) → List Part
+parameters_code [] = []
+parameters_code (p ∷ ps) = text p.0 ∷ (text p.1 ∷ parameters_code ps)
+
+abbrev pub datatype_code : Datatype → List Part
+datatype_code d = text d.library ∷ (text d.name ∷ parameters_code d.parameters)
+
+-- a text of a datatype without parameters
+abbrev pub value_code : Datatype × List ℕ → List Part
+value_code v = text v.0.library ∷ (text v.0.name ∷ (text v.1 ∷ []))
+
+-- the codes of a set, in their order
+abbrev pub codes_of : {S Z : Type 0} → IndexSet (Vec LabelPart Z) S → List (List Part)
+codes_of set = map (λ c. map part_of c.items) set.keys
+
+-- no code stands twice
+abbrev pub AreApart : List (List Part) → Type 0
+AreApart codes = (i j : ℕ) (c : List Part) → slice_get codes i ≡ Some c → slice_get codes j ≡ Some c → i ≡ j
+
+-- the code stands at the place among those that are there; where there is none it has been put at their end
+abbrev pub IsPlaced : List (List Part) → List (List Part) → List Part → Option ℕ → Type 0
+IsPlaced old new c (Some n) = (new ≡ old) × (slice_get old n ≡ Some c)
+IsPlaced old new c None = new ≡ old ++ c ∷ []

@@ -1,0 +1,6 @@
+-- Views of types, and invariants.
+pub mod GrammarElements
+pub mod Joining
+pub mod RowIndex
+pub mod RowTable
+pub mod Rows

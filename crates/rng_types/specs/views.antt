@@ -1,0 +1,4 @@
+-- Views of types, and invariants.
+pub mod Fault
+pub mod Finding
+pub mod View

@@ -1,0 +1,36 @@
+-- What the datatypes of the code are, apart from how they are held.
+use Rattle.std.specs.Prelude.{ℕ, List, map, String, Result, Ok, Err}
+use Rattle.rng_model.specs.simple.Tree.{Datatype}
+use Rattle.rng_model.specs.datatypes.DatatypeViews.{parameter_of}
+use Rattle.rng_model.specs.datatypes.Facets as facets
+use Rattle.rng_model.specs.datatypes.Datatypes.{BuiltInType, plain_string, plain_token, xsd_string, xsd_token, xsd_ncname, xsd_nmtoken, xsd_boolean, xsd_integer}
+use Rattle.rng_types.specs.declared.lengths.Lengths.{Lengths}
+use Rattle.rng_types.specs.declared.numerals.Bounds.{Bounds}
+use Rattle.rng_types.specs.declared.builtin.Builtin.{Builtin}
+use Rattle.rng_types.specs.declared.builtin.Builtin.TheVariants as types
+use Rattle.rng_types.specs.declared.builtin.TypeFault.{TypeFault}
+
+abbrev pub lengths_of : Lengths → facets.Lengths
+lengths_of l = record { least = l.min; greatest = l.max }
+
+abbrev pub bounds_of : Bounds → facets.Bounds
+bounds_of b = record { least = b.min; greatest = b.max }
+
+abbrev pub built_in_type_of : Builtin → BuiltInType
+built_in_type_of (types.PlainString d) = plain_string
+built_in_type_of (types.PlainToken d) = plain_token
+built_in_type_of (types.XsdString d) = xsd_string (lengths_of d.lengths)
+built_in_type_of (types.XsdToken d) = xsd_token (lengths_of d.lengths)
+built_in_type_of (types.NcName d) = xsd_ncname (lengths_of d.lengths)
+built_in_type_of (types.NmToken d) = xsd_nmtoken (lengths_of d.lengths)
+built_in_type_of (types.Boolean d) = xsd_boolean
+built_in_type_of (types.Integer d) = xsd_integer (bounds_of d.bounds)
+
+-- the datatype of this library and name, with these parameters
+abbrev pub datatype_at : {Z : Type 0} → List ℕ → List ℕ → List (String Z × String Z) → Datatype
+datatype_at library name parameters = record { library = library; name = name; parameters = map parameter_of parameters }
+
+-- an answer, seen through the view of what it is
+abbrev pub seen : {X Y : Type 0} → (X → Y) → Result X TypeFault → Result Y TypeFault
+seen view (Ok x) = Ok (view x)
+seen view (Err f) = Err f

@@ -1,0 +1,4 @@
+-- Views of types, and invariants.
+pub mod Datatypes
+pub mod KnownRests
+pub mod KnownWays
