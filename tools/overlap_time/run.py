@@ -3,8 +3,8 @@
 
     tools/overlap_time/run.py [PROGRAM]
 
-PROGRAM is `crates/rng_names_cases/out/rng_names_cases` where none is given: it answers rows, and this writes one row for it, of two classes in their
-words (`crates/rng_names_cases/src/classes.rt`). Each line tells the answers, either way round, and the seconds of a processor for the two calls
+PROGRAM is `crates/parts_cases/out/parts_cases` where none is given: it answers rows, and this writes one row for it, of two classes in their
+words (`crates/parts_cases/src/name_classes.rt`). Each line tells the answers, either way round, and the seconds of a processor for the two calls
 together, less those for the same row with one call that is quick (what it takes to read the row and to make the classes).
 """
 import pathlib
@@ -48,7 +48,9 @@ ROWS = [
 def run(program, row):
     """What is printed for the row, and the seconds of a processor."""
     with tempfile.TemporaryDirectory() as folder:
-        pathlib.Path(folder, "cases.txt").write_text(row + "\n")
+        for name in ("texts", "types", "model"):
+            pathlib.Path(folder, f"{name}.txt").touch()
+        pathlib.Path(folder, "names.txt").write_text(row + "\n")
         before = resource.getrusage(resource.RUSAGE_CHILDREN)
         answer = subprocess.run([program], cwd=folder, capture_output=True, text=True)
         after = resource.getrusage(resource.RUSAGE_CHILDREN)
@@ -57,7 +59,7 @@ def run(program, row):
 
 
 def main():
-    program = str(pathlib.Path(sys.argv[1] if len(sys.argv) > 1 else HERE.parents[1] / "crates/rng_names_cases/out/rng_names_cases").resolve())
+    program = str(pathlib.Path(sys.argv[1] if len(sys.argv) > 1 else HERE.parents[1] / "crates/parts_cases/out/parts_cases").resolve())
     for what, first, second in ROWS:
         answer, seconds = run(program, f"overlap\t{first}\t{second}")
         _, reading = run(program, f"overlap\tp:a\t{first} {second} |")

@@ -224,7 +224,7 @@ class Tokens(unittest.TestCase):
 
 
 class Sentences(unittest.TestCase):
-    """The texts of `rnc_grammar_cases` and `rnc_text_cases`, with the trees and the clauses that stand beside them."""
+    """The texts of `rnc_grammar_cases` and `parts_cases`, with the trees and the clauses that stand beside them."""
 
     @staticmethod
     def rows(crate, *names):
@@ -261,7 +261,7 @@ class Sentences(unittest.TestCase):
                 pass
 
     def test_texts_break_the_same_clauses(self):
-        for row, answer in self.rows("rnc_text_cases", "cases.txt"):
+        for row, answer in self.rows("parts_cases", "texts.txt"):
             call, _, data = row.partition(b"\t")
             reading = decoded(data)
             wanted = (re.match(r"([345]) at \d+$", answer) or "  ")[1].strip()

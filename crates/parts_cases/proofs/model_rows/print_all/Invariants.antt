@@ -1,0 +1,6 @@
+use Rattle.std.specs.Prelude.{All, IfSome}
+use Rattle.rng_model.specs.simple.Table.{IsOfFirstKind}
+use Rattle.parts_cases.proofs.model_rows.print_all.Given as goal
+
+abbrev pub invariant-rows : goal.invariant-rows
+invariant-rows g l = IfSome l.grammar (λ g. All IsOfFirstKind g.patterns)

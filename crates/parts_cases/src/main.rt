@@ -1,0 +1,25 @@
+//! Prints what calls answer for rows, a line a row: of texts of schema files, of names, of datatypes, and of what all crates share.
+//!
+//! The rows of each stand in a file of their own, and what they are says the module that reads them.
+#![tactic(auto)]
+
+mod grammar_builder;
+mod model_devices;
+mod model_document;
+mod model_rows;
+mod model_texts;
+mod name_classes;
+mod name_rows;
+mod text_rows;
+mod type_rows;
+mod well_formed;
+mod written_tables;
+
+use std::io;
+
+fn main(rt: HostRuntime) -> io::Result<()> {
+    text_rows::print_all(&rt)?;
+    name_rows::print_all(&rt)?;
+    type_rows::print_all(&rt)?;
+    model_rows::print_all(&rt)
+}

@@ -1,0 +1,54 @@
+// Prints what `rng_names` answers for each row of `names.txt`, a line a row.
+//
+// A row is `contains`, a class and a name, or `overlap` and two classes, which are tried either way round.
+
+use crate::name_classes::{class_in, name_in};
+use case_rows::{Row, rows};
+use rng_model::NameClass;
+use rng_names::{contains, overlap};
+use std::io;
+use std::rt::Files;
+
+/// Prints what is answered for each row of `names.txt`.
+pub fn print_all(rt: &(impl Files + Print + AllocGlobal)) -> io::Result<()> {
+    let rows = rows(rt, "names.txt")?;
+    for row in rows.iter() {
+        print_answer(rt, row)?;
+    }
+    Ok(())
+}
+
+/// Prints what is answered for a row.
+fn print_answer(rt: &(impl Print + AllocGlobal), row: &Row) -> io::Result<()> {
+    let call = row.text(0)?;
+    let other = row.text(2)?;
+    let class = class_in(rt.alloc(), row.text(1)?)?;
+    match call {
+        "contains" => print_contains(rt, &class, other),
+        _ => print_overlap(rt, &class, other),
+    }
+}
+
+/// Prints whether a class holds the name that is written so.
+fn print_contains(
+    rt: &(impl Print + AllocGlobal),
+    class: &NameClass,
+    name: &str,
+) -> io::Result<()> {
+    let name = name_in(rt.alloc(), name)?;
+    let holds = contains(class, &name);
+    println!(rt; "{holds}")
+}
+
+/// Prints whether a class and the one that is written so overlap, by the first with the second and by the second with
+/// the first.
+fn print_overlap(
+    rt: &(impl Print + AllocGlobal),
+    first: &NameClass,
+    second: &str,
+) -> io::Result<()> {
+    let second = class_in(rt.alloc(), second)?;
+    let there = overlap(rt.alloc(), first, &second);
+    let back = overlap(rt.alloc(), &second, first);
+    println!(rt; "{there:?} {back:?}")
+}

@@ -1,0 +1,74 @@
+// Prints what `rng_types` answers for each row of `types.txt`, a line a row.
+//
+// A row is a call, a library, a type, the texts of the call, and then parameters, each a name and a value. Of `find` the
+// datatype is printed, of `allows` of one text, `equal` of two and `all` of three whether it holds, and of each the fault
+// where there is no such datatype.
+use case_rows::{Row, rows};
+use rng_types::{Builtin, Datatype, TypeFault, are_all_equal};
+use std::alloc::{AllocError, Global};
+use std::io;
+use std::rt::Files;
+
+/// Prints what is answered for each row of `types.txt`.
+pub fn print_all(rt: &(impl Files + Print + AllocGlobal)) -> io::Result<()> {
+    let rows = rows(rt, "types.txt")?;
+    for row in rows.iter() {
+        print_row(rt, row)?;
+    }
+    Ok(())
+}
+
+/// Prints what is answered for a row.
+fn print_row(rt: &(impl Print + AllocGlobal), row: &Row) -> io::Result<()> {
+    match found(rt.alloc(), row)? {
+        Ok(datatype) => print_answer(rt, row, datatype),
+        Err(fault) => println!(rt; "{fault:?}"),
+    }
+}
+
+/// The datatype of a row, or the fault.
+fn found(alloc: Global, row: &Row) -> io::Result<Result<Builtin, TypeFault>> {
+    let texts = text_count(row.text(0)?);
+    let library = row.text(1)?;
+    let name = row.text(2)?;
+    let parameters = parameters(alloc, row, texts.saturating_add(3))?;
+    Ok(Builtin::find(library, name, parameters.as_slice()))
+}
+
+/// How many texts a call takes.
+fn text_count(call: &str) -> usize {
+    match call {
+        "allows" => 1,
+        "equal" => 2,
+        "all" => 3,
+        _ => 0,
+    }
+}
+
+/// The parameters of a row, which stand from a field on.
+fn parameters(alloc: Global, row: &Row, first: usize) -> io::Result<Vec<(String, String)>> {
+    let mut all = Vec::new(alloc);
+    for field in (first..row.field_count()).step_by(2) {
+        all.push(parameter(alloc, row.text(field)?, row.text(field.saturating_add(1))?)?)?;
+    }
+    Ok(all)
+}
+
+/// A parameter of this name and value.
+fn parameter(alloc: Global, name: &str, value: &str) -> Result<(String, String), AllocError> {
+    Ok((
+        String::from_str(alloc, name)?,
+        String::from_str(alloc, value)?,
+    ))
+}
+
+/// Prints what a datatype answers for the texts of a row.
+fn print_answer(rt: &impl Print, row: &Row, datatype: Builtin) -> io::Result<()> {
+    let holds = match row.text(0)? {
+        "allows" => datatype.allows(row.text(3)?),
+        "equal" => datatype.equal(row.text(3)?, row.text(4)?),
+        "all" => are_all_equal(&datatype, row.text(3)?, row.text(4)?, row.text(5)?),
+        _ => return println!(rt; "{datatype:?}"),
+    };
+    println!(rt; "{holds}")
+}
