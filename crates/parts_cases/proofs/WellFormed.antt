@@ -10,8 +10,8 @@ use Rattle.rng_model.specs.declared.document.Attr.{Attr}
 use Rattle.rng_model.specs.declared.document.Item.{Element}
 use Rattle.rng_model.specs.declared.document.Item as source
 use Rattle.rng_model.specs.declared.name.Name.{Name}
-use Rattle.rng_deriv.proofs.Children.{element_is}
-use Rattle.rng_deriv.proofs.Content.{list_of-items}
+use Rattle.rng_tree_matcher.proofs.Children.{element_is}
+use Rattle.rng_tree_matcher.proofs.Content.{list_of-items}
 use Rattle.parts_cases.specs.plain.Separate.{StaysSeparate, is_text}
 use Rattle.rng_model.specs.matching.WellFormed as w
 

@@ -1,4 +1,4 @@
-// Prints what `rng_model` and `rng_deriv` answer for each row of `model.txt`, a line a row.
+// Prints what `rng_model` and `rng_tree_matcher` answer for each row of `model.txt`, a line a row.
 //
 // A row is a call and what it is of. `grammar` has the number of its elements and its tables, and prints nothing; `document`
 // has the lines of a document, parted by `/`, which is judged by the grammar before it. `reads` and `writes` count what fails
@@ -11,8 +11,8 @@ use crate::well_formed::is_well_formed;
 use crate::written_tables::read_grammar;
 use crate::{model_devices, model_texts};
 use case_rows::rows;
-use rng_deriv::is_valid;
 use rng_model::{OutOfMemory, SimpleGrammar};
+use rng_tree_matcher::is_valid;
 use std::io;
 use std::rt::Files;
 
