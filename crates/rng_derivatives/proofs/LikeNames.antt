@@ -11,8 +11,8 @@ use Rattle.rng_model.specs.declared.name.NameClass as declared
 use Rattle.rng_model.specs.declared.simple.PatternId.{PatternId}
 use Rattle.rng_names.specs.plain.Holding.{holds}
 use Rattle.rng_names.proofs.Holding.{holds-Decides}
-use Rattle.rng_keys.specs.plain.Keys.{Keys, KeysServe, key_of, name_at}
-use Rattle.rng_keys.specs.plain.Keys as keyed
+use Rattle.rng_names.specs.plain.Keys.{Keys, KeysServe, key_of, name_at}
+use Rattle.rng_names.specs.plain.Keys as keyed
 use Rattle.rng_matching.specs.plain.Derivatives as tree
 use Rattle.rng_matching.specs.plain.LevelStates as level
 use Rattle.rng_matching.specs.plain.LevelStates.{IsBodyNamed}

@@ -10,7 +10,7 @@ use Rattle.std.specs.Map.{lookup}
 use Rattle.rng_model.specs.names.Names.{Name}
 use Rattle.rng_model.specs.simple.Table.{Table}
 use Rattle.rng_model.specs.simple.Tree.{Simple}
-use Rattle.rng_keys.specs.plain.Keys.{Keys, KeysServe, key_of, name_at}
+use Rattle.rng_names.specs.plain.Keys.{Keys, KeysServe, key_of, name_at}
 use Rattle.rng_matching.specs.plain.LevelStates as level
 use Rattle.rng_model.specs.matching.Reading.{Reading}
 use Rattle.rng_patterns.specs.views.Node.{Node}

@@ -1,6 +1,6 @@
 // Patterns that nobody holds are let go.
 ghost use Rattle.std.specs.Prelude.{◌≡◌, ◌<◌, ◌++◌, All, IfOk, List, OnOk, length};
-ghost use Rattle.rng_keys.specs.plain.Keys.{Keys};
+ghost use Rattle.rng_names.specs.plain.Keys.{Keys};
 ghost use Rattle.rng_model.specs.simple.Table.{Table};
 ghost use Rattle.rng_patterns.specs.views.Node.{Node};
 ghost use Rattle.rng_ways.specs.views.KnownWays.{AreAllKnown};

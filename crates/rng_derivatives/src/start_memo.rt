@@ -4,9 +4,9 @@ ghost use Rattle.rng_matcher.specs.declared.derivatives.Way.{Way};
 ghost use Rattle.rng_derivatives.specs.views.StartMemo.{HasKept};
 ghost use Rattle.rng_derivatives.specs.declared.start_memo.StartKey.{StartKey};
 
-use rng_keys::NameKey;
 use rng_matcher::{Way, Ways};
 use rng_model::OutOfMemory;
+use rng_names::NameKey;
 use rng_patterns::PatternNumber;
 use smallvec::SmallVec;
 use std::alloc::Global;

@@ -2,7 +2,7 @@
 //!
 //! The definitions that every other crate's contracts cite stand in this crate's `specs/`: which names a class
 //! holds, which documents a pattern matches, and which lines are a document. Its own calls keep the tables of a
-//! simple grammar in order, and count the failed calls of a reader or a writer.
+//! simple grammar in order, count the failed calls of a reader or a writer, and write to a device until all is written.
 #![tactic(auto)]
 
 mod blanks;
@@ -10,6 +10,7 @@ mod character;
 mod component;
 mod datatype;
 mod device;
+mod device_writing;
 mod document;
 mod event;
 mod fault;
@@ -27,6 +28,7 @@ pub use character::{is_name_char, is_name_start, is_ncname, is_xml_char};
 pub use component::Component;
 pub use datatype::{Datatype, DatatypeValue, datatype_laws};
 pub use device::{Device, DeviceFault};
+pub use device_writing::write_whole;
 pub use document::{Attr, Item};
 pub use event::{Event, EventKind, Events};
 pub use fault::{OutOfMemory, SchemaFault};

@@ -5,3 +5,8 @@ pub mod Fresh
 pub mod PlainNames
 pub mod Keys
 pub mod HeldByAlternatives
+mod KeyLookups
+mod OwnKeys
+mod Growing
+mod Telling
+pub mod Serving

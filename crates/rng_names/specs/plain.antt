@@ -1,3 +1,5 @@
 -- Plain functions that the code is proved against, and private relations.
 pub mod Holding
 pub mod Written
+pub mod Keys
+pub mod WrittenNames

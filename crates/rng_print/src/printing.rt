@@ -9,8 +9,7 @@ use crate::items::Items;
 use crate::lines::Lines;
 use crate::prefixes::Prefixes;
 use rncv_model::PrintFault;
-use rng_model::{Device, OutOfMemory, SimpleGrammar};
-use rng_output::write_whole;
+use rng_model::{Device, OutOfMemory, SimpleGrammar, write_whole};
 use std::alloc::Global;
 use std::io::Write;
 

@@ -13,8 +13,7 @@ use crate::compiling::{Compiled, compile};
 use crate::judging::{JudgeFault, document_verdict};
 use rncv_model::{Command, RunFault, Status};
 use rng_load::{Schema, load};
-use rng_model::{Device, OutOfMemory, SchemaFault};
-use rng_output::write_whole;
+use rng_model::{Device, OutOfMemory, SchemaFault, write_whole};
 use std::alloc::Global;
 use std::io::{Read, Write};
 

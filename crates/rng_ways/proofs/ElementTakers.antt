@@ -2,7 +2,7 @@
 use Rattle.std.proofs.Common.{◌≡◌, ◌∙◌, ◌+◌, ◌<◌, ℕ, zero, suc, ◌⊎◌, inl, inr, ⊎_elim, List, [], ◌∷◌, ◌++◌, slice_get, slice_set, Some, None}
 use Rattle.std.proofs.Common.{subst, sym, refl, true, false, arith}
 use Rattle.std.proofs.lemmas.Option.{slice_get_cases}
-use Rattle.rng_keys.specs.plain.Keys.{Keys, key_of}
+use Rattle.rng_names.specs.plain.Keys.{Keys, key_of}
 use Rattle.rng_model.specs.names.Names.{Name}
 use Rattle.rng_model.specs.simple.Table.{Table}
 use Rattle.rng_model.specs.datatypes.Texts.{is_blank}

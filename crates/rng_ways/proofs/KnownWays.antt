@@ -6,9 +6,9 @@ use Rattle.std.proofs.lemmas.Bool.Decides.{Decides-eqb}
 use Rattle.std.specs.HashMap.{HashMap, IsEmpty, get}
 use Rattle.std.specs.Map.{lookup}
 use Rattle.smallvec.specs.SmallVec.{SmallVec}
-use Rattle.rng_keys.specs.plain.Keys.{Keys, name_at}
-use Rattle.rng_keys.specs.declared.name_keys.NameKey.{NameKey}
-use Rattle.rng_keys.specs.contracts.name_keys.NameKeyPartialEq.TheImpl as same_key
+use Rattle.rng_names.specs.plain.Keys.{Keys, name_at}
+use Rattle.rng_names.specs.declared.name_keys.NameKey.{NameKey}
+use Rattle.rng_names.specs.contracts.name_keys.NameKeyPartialEq.TheImpl as same_key
 use Rattle.rng_model.specs.names.Names.{Name}
 use Rattle.rng_model.specs.simple.Table.{Table}
 use Rattle.rng_model.specs.simple.Tree.{Simple}

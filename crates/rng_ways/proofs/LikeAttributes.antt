@@ -6,8 +6,8 @@ use Rattle.std.proofs.Common.{Option, Some, None, refl, sym, ap, ap₂, subst, s
 use Rattle.std.specs.Borrow.{Bor}
 use Rattle.std.proofs.lemmas.Bool.{cases_lt}
 use Rattle.std.proofs.lemmas.List.Elements.{All-append, All-cons, All-nil}
-use Rattle.rng_keys.specs.plain.Keys.{Keys, KeysServe, key_of, name_at}
-use Rattle.rng_keys.specs.plain.Keys as keyed
+use Rattle.rng_names.specs.plain.Keys.{Keys, KeysServe, key_of, name_at}
+use Rattle.rng_names.specs.plain.Keys as keyed
 use Rattle.rng_model.specs.matching.Document.{Attribute, Item, Interleaves, SharesName}
 use Rattle.rng_model.specs.matching.Document as document
 use Rattle.rng_model.specs.names.Names.{In, Name, NameClass}

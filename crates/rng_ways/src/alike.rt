@@ -4,8 +4,8 @@ ghost use Rattle.rng_model.specs.names.NameViews.{name_of};
 ghost use Rattle.rng_model.specs.declared.name.NameClass.TheVariants as classes;
 ghost use Rattle.rng_ways.specs.plain.Alike.{AreAlike, IsAlike};
 
-use rng_keys::{NameKey, NameKeys};
 use rng_model::{ElementId, Name, NameClass, OutOfMemory, PatternId, SimpleGrammar};
+use rng_names::{NameKey, NameKeys};
 use std::alloc::Global;
 use std::collections::HashMap;
 

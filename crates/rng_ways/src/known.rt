@@ -1,6 +1,6 @@
 // Ways that are known of patterns.
 ghost use Rattle.std.specs.Prelude.{◌≡◌, ◌⊎◌, IfOk, IfSome, List, OnOk};
-ghost use Rattle.rng_keys.specs.plain.Keys.{Keys, KeysServe};
+ghost use Rattle.rng_names.specs.plain.Keys.{Keys, KeysServe};
 ghost use Rattle.rng_model.specs.simple.Table.{Table};
 ghost use Rattle.rng_patterns.specs.views.Node.{Node};
 ghost use Rattle.rng_patterns.specs.declared.pattern.PatternNumber.{PatternNumber};
@@ -12,8 +12,8 @@ use crate::datatypes::Datatypes;
 use crate::rests::KnownRests;
 use crate::takers::Takers;
 use crate::way::{Way, Ways};
-use rng_keys::{NameKey, NameKeys};
 use rng_model::{ElementId, OutOfMemory, SimpleGrammar};
+use rng_names::{NameKey, NameKeys};
 use rng_patterns::{PatternNumber, Span};
 use smallvec::SmallVec;
 use std::alloc::Global;

@@ -1,6 +1,6 @@
 // Patterns after a start tag.
 ghost use Rattle.std.specs.Prelude.{◌≡◌, [], ◌<◌, IfOk, OnOk, length, slice_index_or};
-ghost use Rattle.rng_keys.specs.plain.Keys.{name_at};
+ghost use Rattle.rng_names.specs.plain.Keys.{name_at};
 ghost use Rattle.rng_model.specs.names.NameViews.{name_of};
 ghost use Rattle.rng_patterns.specs.views.PatternTable.{Longer};
 ghost use Rattle.rng_patterns.specs.views.Trees.{tree_of};
@@ -15,8 +15,8 @@ use crate::by_key::ways_by_key;
 use crate::known::{Known, KnownByKey};
 use crate::leaves::element_takes;
 use crate::way::{Candidates, Kind, Way, Ways};
-use rng_keys::{NameKey, NameKeys};
 use rng_model::{ElementId, Name, OutOfMemory, PatternId, SimpleGrammar};
+use rng_names::{NameKey, NameKeys};
 use rng_patterns::{Pattern, PatternNumber, PatternTable, Span};
 use smallvec::SmallVec;
 use std::alloc::Global;

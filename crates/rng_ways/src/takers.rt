@@ -1,14 +1,14 @@
 // The elements and the attributes of a grammar that may have a name.
 ghost use Rattle.std.specs.Prelude.{◌≡◌, ℕ, IfOk, length, true};
-ghost use Rattle.rng_keys.specs.plain.Keys.{key_of};
+ghost use Rattle.rng_names.specs.plain.Keys.{key_of};
 ghost use Rattle.rng_model.specs.names.Names as names;
 ghost use Rattle.rng_model.specs.names.NameViews.{class_of};
 ghost use Rattle.rng_names.specs.plain.Holding.{holds};
 ghost use Rattle.rng_patterns.specs.plain.Facts.{IsWithin};
 ghost use Rattle.rng_ways.specs.plain.Takers.{AreAllTold, AreAttributesTold, IsTold};
 
-use rng_keys::{NameKey, NameKeys};
 use rng_model::{ElementId, NameClass, OutOfMemory, PatternId, Simple, SimpleGrammar};
+use rng_names::{NameKey, NameKeys};
 use rng_patterns::Span;
 use std::alloc::Global;
 

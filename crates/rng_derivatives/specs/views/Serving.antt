@@ -2,7 +2,7 @@
 use Rattle.std.specs.Prelude.{⊤, List, [], Bool, true, false}
 use Rattle.smallvec.specs.SmallVec.{SmallVec}
 use Rattle.std.specs.HashMap.{HashMap}
-use Rattle.rng_keys.specs.plain.Keys.{Keys, KeysServe}
+use Rattle.rng_names.specs.plain.Keys.{Keys, KeysServe}
 use Rattle.rng_matcher.specs.declared.derivatives.Way.{Way}
 use Rattle.rng_model.specs.simple.Table.{Table}
 use Rattle.rng_patterns.specs.views.Node.{Node}

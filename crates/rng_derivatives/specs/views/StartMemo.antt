@@ -4,7 +4,7 @@ use Rattle.smallvec.specs.SmallVec.{SmallVec}
 use Rattle.std.specs.HashMap.{HashMap, get}
 use Rattle.rng_model.specs.names.Names.{Name}
 use Rattle.rng_model.specs.simple.Table.{Table}
-use Rattle.rng_keys.specs.plain.Keys.{Keys, key_of}
+use Rattle.rng_names.specs.plain.Keys.{Keys, key_of}
 use Rattle.rng_matcher.specs.views.Numbers.{AddsStarts, IsInside, tree_of}
 use Rattle.rng_matcher.specs.declared.derivatives.Way.{Way}
 use Rattle.rng_patterns.specs.views.Node.{Node}

@@ -1,6 +1,6 @@
 -- What may take what comes first: elements of a grammar, by their numbers, and attributes, by their positions.
 use Rattle.std.specs.Prelude.{◌≡◌, ◌⊎◌, ◌<◌, ℕ, List, Some, length, slice_get, true}
-use Rattle.rng_keys.specs.plain.Keys.{Keys, key_of}
+use Rattle.rng_names.specs.plain.Keys.{Keys, key_of}
 use Rattle.rng_model.specs.names.Names.{Name}
 use Rattle.rng_model.specs.simple.Table.{Table}
 use Rattle.rng_model.specs.simple.Tree.{Simple, s_not_allowed, s_empty, s_text, s_leaf, s_attribute, s_list, s_data, s_data_except, s_value, s_one_or_more}

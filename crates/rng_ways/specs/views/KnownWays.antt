@@ -2,9 +2,9 @@
 use Rattle.std.specs.Prelude.{◌≡◌, ◌<◌, List, Some, false, length}
 use Rattle.std.specs.HashMap.{HashMap, get}
 use Rattle.smallvec.specs.SmallVec.{SmallVec}
-use Rattle.rng_keys.specs.plain.Keys.{Keys, KeysServe, name_at}
-use Rattle.rng_keys.specs.declared.name_keys.NameKey.{NameKey}
-use Rattle.rng_keys.specs.contracts.name_keys.NameKeyPartialEq.TheImpl as same_key
+use Rattle.rng_names.specs.plain.Keys.{Keys, KeysServe, name_at}
+use Rattle.rng_names.specs.declared.name_keys.NameKey.{NameKey}
+use Rattle.rng_names.specs.contracts.name_keys.NameKeyPartialEq.TheImpl as same_key
 use Rattle.rng_model.specs.names.Names.{Name}
 use Rattle.rng_model.specs.simple.Table.{Table}
 use Rattle.rng_model.specs.names.NameViews.{name_of}

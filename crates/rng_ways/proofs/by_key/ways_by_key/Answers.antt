@@ -1,7 +1,7 @@
 use Rattle.std.proofs.Common.{sym, rules}
 use Rattle.std.specs.HashMap.{get}
 use Rattle.std.specs.Option.{IsSome}
-use Rattle.rng_keys.specs.contracts.name_keys.NameKeyPartialEq.TheImpl as same_key
+use Rattle.rng_names.specs.contracts.name_keys.NameKeyPartialEq.TheImpl as same_key
 use Rattle.rng_patterns.proofs.Choices.{if_ok}
 use Rattle.rng_ways.proofs.KnownWays.{known_for, none_known}
 use Rattle.rng_ways.proofs.by_key.ways_by_key.Goals as goal

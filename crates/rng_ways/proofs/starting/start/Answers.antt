@@ -1,5 +1,5 @@
 use Rattle.std.proofs.Common.{List, sym, subst}
-use Rattle.rng_keys.specs.plain.Keys.{name_at}
+use Rattle.rng_names.specs.plain.Keys.{name_at}
 use Rattle.rng_patterns.specs.views.Trees.{tree_of}
 use Rattle.rng_ways.specs.plain.Alike.{AreAlike}
 use Rattle.rng_ways.specs.plain.Starting.{AreBodies}

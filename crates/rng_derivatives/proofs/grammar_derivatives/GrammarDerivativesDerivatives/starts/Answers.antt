@@ -1,6 +1,6 @@
 use Rattle.std.proofs.Common.{List, refl, subst, sym}
 use Rattle.rng_model.specs.simple.Table.{Table}
-use Rattle.rng_keys.specs.plain.Keys.{name_at}
+use Rattle.rng_names.specs.plain.Keys.{name_at}
 use Rattle.rng_model.specs.names.NameViews.{name_of}
 use Rattle.rng_patterns.specs.views.Node.{Node}
 use Rattle.rng_patterns.specs.views.Trees.{tree_of, trees}

@@ -1,5 +1,5 @@
 use Rattle.std.proofs.Common.{◌≡◌, ◌∙◌, List, slice_set, ap, subst, sym, true}
-use Rattle.rng_keys.specs.plain.Keys.{key_of}
+use Rattle.rng_names.specs.plain.Keys.{key_of}
 use Rattle.rng_model.specs.names.NameViews.{name_of}
 use Rattle.rng_names.specs.plain.Holding.{holds}
 use Rattle.rng_names.proofs.Holding.{same_name-Decides}

@@ -1,5 +1,0 @@
-mod KeyLookups
-mod OwnKeys
-mod Growing
-mod Telling
-pub mod Serving

@@ -1,9 +1,0 @@
-use Rattle.std.proofs.Common.{◌≡◌, ◌-◌, length, map, take}
-use Rattle.rng_keys.specs.views.GrammarClasses.{attribute_class, seen_class}
-use Rattle.rng_keys.proofs.classes.attribute_classes.Given as goal
-
-abbrev pub invariant-patterns : goal.invariant-patterns
-invariant-patterns l = map seen_class l.all.items ≡ take (length (map seen_class l.all.items)) (map attribute_class l.grammar.patterns)
-
-abbrev pub decreases-patterns : goal.decreases-patterns
-decreases-patterns l = length l.grammar.patterns - length l.all.items

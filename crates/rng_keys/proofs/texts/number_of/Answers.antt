@@ -1,6 +1,0 @@
-use Rattle.std.proofs.Common.{◌∙◌}
-use Rattle.rng_keys.proofs.KeyLookups.{number_found}
-use Rattle.rng_keys.proofs.texts.number_of.Goals as goal
-
-pub returns : goal.returns
-returns c = c.copied.ensures ∙ c.get.ensures.value ∙ number_found c.args.text.now c.args.numbers.now.entries

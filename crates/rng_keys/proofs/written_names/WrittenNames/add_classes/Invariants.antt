@@ -1,9 +1,0 @@
-use Rattle.std.proofs.Common.{map}
-use Rattle.rng_keys.specs.views.GrammarClasses.{seen_class}
-use Rattle.rng_keys.specs.plain.WrittenNames.{written_in}
-use Rattle.rng_keys.proofs.Growing.{AreAdded}
-use Rattle.rng_keys.proofs.written_names.WrittenNames.add_classes.Given as goal
-
--- what is written in the classes so far is collected
-abbrev pub invariant-classes : goal.invariant-classes
-invariant-classes l = AreAdded (written_in l.fn.self) (written_in l.self) (map seen_class l.classes) l.class-index

@@ -1,3 +1,0 @@
--- Views of types, and invariants.
-pub mod GrammarClasses
-pub mod KeyTables

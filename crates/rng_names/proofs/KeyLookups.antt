@@ -1,0 +1,66 @@
+-- Where names stand in a row, and which number a text has.
+use Rattle.std.proofs.Common.{◌≡◌, refl, sym, ap, ◌∙◌, ℕ, zero, suc, ◌+◌, Bool, true, false, not, cond, nat_lt}
+use Rattle.std.proofs.Common.{List, [], ◌∷◌, ◌++◌, Some, None, option_map, map, length, position, slice_get, string_bytes, String, bytes_eq}
+use Rattle.std.specs.List.{list_any, prefix_len, position_or_len}
+use Rattle.std.specs.Map.{lookup}
+use Rattle.std.proofs.Math.Bool.{and_comm}
+use Rattle.std.proofs.lemmas.List.{length-map, map-append}
+use Rattle.std.proofs.lemmas.Option.{slice_get-map}
+use Rattle.indexmap.specs.IndexSet.{insert_key}
+use Rattle.rng_model.specs.names.Names as names
+use Rattle.rng_model.specs.names.NameViews.{name_of}
+use Rattle.rng_model.specs.declared.name.Name.{Name}
+use Rattle.rng_model.specs.contracts.name.NamePartialEq.TheImpl as same
+use Rattle.rng_names.specs.plain.Holding.{same_name}
+use Rattle.rng_names.proofs.Holding.{same_name-Decides}
+use Rattle.rng_names.specs.plain.WrittenNames.{seen_numbers}
+
+-- ---- names are compared by their bytes
+
+pub same_names : (n m : Name) → same.ghosts.eq n m ≡ same_name (name_of n) (name_of m)
+same_names n m = and_comm (bytes_eq (string_bytes n.ns) (string_bytes m.ns)) (bytes_eq (string_bytes n.local) (string_bytes m.local))
+
+prefix_len-map : {A B : Type 0} (f : A → B) (p : B → Bool) (xs : List A) → prefix_len (λ x. p (f x)) xs ≡ prefix_len p (map f xs)
+prefix_len-map f p [] = refl
+prefix_len-map f p (x ∷ xs) = ap (λ n. cond (p (f x)) (1 + n) 0) (prefix_len-map f p xs)
+
+position-map : {A B : Type 0} (f : A → B) (p : B → Bool) (xs : List A) → position (λ x. p (f x)) xs ≡ position p (map f xs)
+position-map f p xs =
+    ap (λ n. cond (nat_lt n (length xs)) (Some n) None) (prefix_len-map f (λ x. not (p x)) xs)
+    ∙ ap (λ m. cond (nat_lt (position_or_len p (map f xs)) m) (Some (position_or_len p (map f xs))) None) (sym (length-map xs f))
+
+pub place_found : (n : Name) (ks : List Name) → position (same.ghosts.eq n) ks ≡ position (same_name (name_of n)) (map name_of ks)
+place_found n ks = ap (λ test. position test ks) (λ i m. same_names n m i) ∙ position-map name_of (same_name (name_of n)) ks
+
+-- ---- one more name
+
+stays_in_front : {A : Type 0} (xs ys : List A) (k : ℕ) (x : A) → slice_get xs k ≡ Some x → slice_get (xs ++ ys) k ≡ Some x
+stays_in_front [] ys k x e = absurd (cc)
+stays_in_front (z ∷ xs) ys zero x e = e
+stays_in_front (z ∷ xs) ys (suc k) x e = stays_in_front xs ys k x e
+
+stays_by : (ks : List Name) (n : Name) (b : Bool) (k : ℕ) (q : names.Name) → slice_get (map name_of ks) k ≡ Some q
+    → slice_get (map name_of (cond b ks (ks ++ n ∷ []))) k ≡ Some q
+stays_by ks n true k q e = e
+stays_by ks n false k q e = ap (λ xs. slice_get xs k) (map-append name_of ks (n ∷ [])) ∙ stays_in_front (map name_of ks) (name_of n ∷ []) k q e
+
+pub stays : (ks : List Name) (n : Name) (k : ℕ) (q : names.Name) → slice_get (map name_of ks) k ≡ Some q
+    → slice_get (map name_of (insert_key same.ghosts.eq ks n)) k ≡ Some q
+stays ks n = stays_by ks n (list_any (same.ghosts.eq n) ks)
+
+-- the first one
+pub is_first : (ks ms : List Name) (n : Name) (q : names.Name) → ks ≡ [] → ms ≡ insert_key same.ghosts.eq ks n → name_of n ≡ q
+    → slice_get (map name_of ms) 0 ≡ Some q
+is_first ks ms n q none more is =
+    ap (λ xs. slice_get (map name_of xs) 0) (more ∙ ap (λ xs. insert_key same.ghosts.eq xs n) none) ∙ ap Some is
+
+pub is_there : (ks : List Name) (n m : Name) (k : ℕ) → slice_get ks k ≡ Some m → same.ghosts.eq n m ≡ true → slice_get (map name_of ks) k ≡ Some (name_of n)
+is_there ks n m k at e =
+    slice_get-map name_of ks k ∙ ap (option_map name_of) at
+    ∙ ap Some ((same_name-Decides (name_of n) (name_of m)).0 (sym (same_names n m) ∙ e))
+
+-- ---- texts and their numbers
+
+pub number_found : {Z : Type 0} (u : List ℕ) (es : List (String Z × ℕ)) → lookup (λ k. bytes_eq u (string_bytes k)) es ≡ lookup (bytes_eq u) (seen_numbers es)
+number_found u [] = refl
+number_found u (e ∷ es) = ap (cond (bytes_eq u (string_bytes e.0)) (Some e.1)) (number_found u es)

@@ -1,0 +1,80 @@
+// Keys of names.
+ghost use Rattle.std.specs.Prelude.{◌≡◌, ◌<◌, ℕ, IfOk, length};
+ghost use Rattle.rng_model.specs.names.NameViews.{name_of};
+ghost use Rattle.rng_names.specs.plain.Keys.{KeysServe, key_of, name_at};
+
+use crate::grammar_classes::{attribute_classes, element_classes};
+use crate::key_tables::Tables;
+use crate::texts::{number_of, place_of};
+use rng_model::{Name, OutOfMemory, SimpleGrammar};
+use std::alloc::Global;
+use std::marker::Model;
+
+/// A key of names, from 0.
+#[derive(Clone, Copy, PartialEq, Eq, PartialOrd, Ord, Hash)]
+pub struct NameKey(pub usize);
+
+/// The keys of names for a grammar, and a name for each key.
+///
+/// RELAX NG Specification, section 6.1. No name of a document is kept. Contracts see the names in the order of their keys, and
+/// for each namespace that is written the key of its other names.
+#[derive(Drop)]
+pub struct NameKeys {
+    tables: Tables,
+}
+
+impl Model for NameKeys {
+    ghost use Rattle.rng_names.specs.plain.Keys.{AreKeys, Keys};
+    ghost use Rattle.rng_names.specs.views.KeyTables.{keys_in};
+
+    ghost Value = { Keys };
+
+    ghost view = { λ k. keys_in k.tables };
+
+    ghost invariant = { λ k. AreKeys (keys_in k.tables) };
+}
+
+impl NameKeys {
+    /// The keys for the name classes of a grammar: those of its elements and those of its attributes.
+    ///
+    /// Only want of memory is an error. Memory is linear in the tables of the grammar and in the texts that are written in the
+    /// classes; so is the cost, but for hashing.
+    pub fn of(alloc: Global, grammar: &SimpleGrammar) -> Result<Self, OutOfMemory>
+        ensures { IfOk result (KeysServe grammar.now) }
+    {
+        let elements = element_classes(alloc, grammar)?;
+        let attributes = attribute_classes(alloc, grammar)?;
+        let tables = Tables::of_classes(alloc, elements.as_slice(), attributes.as_slice())?;
+        Ok(NameKeys { tables })
+    }
+
+    /// The key of a name. Takes no memory. The cost is two look-ups by hashing at most.
+    pub fn key(&self, name: &Name) -> NameKey
+        ensures key { result.0 ≡ key_of self.now (name_of name.now) }
+        ensures inside { result.0 < length self.now.names }
+    {
+        if let Some(key) = place_of(&self.tables.names, name) {
+            return NameKey(key);
+        }
+        match number_of(&self.tables.namespaces, name.ns.as_str()) {
+            Some(key) => NameKey(key),
+            None => NameKey(0),
+        }
+    }
+
+    /// The name that stands for all names of a key, and has this key itself. Takes no memory.
+    pub fn name(&self, key: NameKey) -> &Name
+        requires { key.0 < length self.now.names }
+        ensures name { name_of result.now ≡ name_at self.now key.0 }
+        ensures own { key_of self.now (name_of result.now) ≡ key.0 }
+    {
+        &self.tables.names.as_slice()[key.0]
+    }
+
+    /// How many keys there are. Takes no memory.
+    pub fn len(&self) -> usize
+        ensures { result ≡ length self.now.names }
+    {
+        self.tables.names.len()
+    }
+}

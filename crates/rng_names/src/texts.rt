@@ -1,0 +1,58 @@
+// Names in a row, and a number for each text.
+ghost use Rattle.std.specs.Prelude.{◌≡◌, ℕ, IfOk, List, OnOk, Option, Some, map, position, slice_get, string_bytes};
+ghost use Rattle.std.specs.Map.{lookup, update};
+ghost use Rattle.std.specs.Str.{bytes_eq};
+ghost use Rattle.rng_model.specs.names.Names as names;
+ghost use Rattle.rng_model.specs.names.NameViews.{name_of};
+ghost use Rattle.rng_names.specs.plain.Holding.{pair, same_name};
+ghost use Rattle.rng_names.specs.plain.WrittenNames.{seen_numbers};
+
+use indexmap::{IndexMap, IndexSet};
+use rng_model::{Name, OutOfMemory};
+use std::alloc::Global;
+
+/// A copy of the name of this namespace and this local name.
+pub(crate) fn copied(alloc: Global, ns: &str, local: &str) -> Result<Name, OutOfMemory>
+    ensures { IfOk result (λ name. name_of name ≡ pair ns.now local.now) }
+{
+    Ok(Name {
+        ns: String::from_str(alloc, ns)?,
+        local: String::from_str(alloc, local)?,
+    })
+}
+
+/// Where a name stands.
+pub(crate) fn place_of(names: &IndexSet<Name>, name: &Name) -> Option<usize>
+    ensures { result ≡ position (same_name (name_of name.now)) (map name_of names.now.keys) }
+{
+    names.get_index_of(name)
+}
+
+/// Puts a name at the end of these, unless it is there. Answers where it stands.
+pub(crate) fn put(all: &mut IndexSet<Name>, name: Name) -> Result<usize, OutOfMemory>
+    ensures stays { OnOk result ((k : ℕ) (q : names.Name) → slice_get (map name_of all.old.keys) k ≡ Some q → slice_get (map name_of all.new.keys) k ≡ Some q) }
+    ensures there { IfOk result (λ k. slice_get (map name_of all.new.keys) k ≡ Some (name_of name)) }
+{
+    let (place, _) = all.insert_full(name)?;
+    Ok(place)
+}
+
+/// The number of a text.
+pub(crate) fn number_of(numbers: &IndexMap<String, usize>, text: &str) -> Option<usize>
+    ensures { result ≡ lookup (bytes_eq text.now) (seen_numbers numbers.now.entries) }
+{
+    numbers.get(text).copied()
+}
+
+/// Notes the number of a text.
+pub(crate) fn note(
+    numbers: &mut IndexMap<String, usize>,
+    text: String,
+    number: usize,
+) -> Result<(), OutOfMemory>
+    ensures { OnOk result ((u : List ℕ) → lookup (bytes_eq u) (seen_numbers numbers.new.entries)
+        ≡ update bytes_eq (λ v. lookup (bytes_eq v) (seen_numbers numbers.old.entries)) (string_bytes text) (Some number) u) }
+{
+    numbers.insert(text, number)?;
+    Ok(())
+}

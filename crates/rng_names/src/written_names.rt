@@ -1,0 +1,101 @@
+// What is written in name classes.
+ghost use Rattle.std.specs.Prelude.{◌≡◌, ◌≤◌, ℕ, IfOk, OnOk, Option, Some, map, slice_get};
+ghost use Rattle.std.specs.Map.{lookup};
+ghost use Rattle.std.specs.Str.{bytes_eq};
+ghost use Rattle.rng_model.specs.names.Names as names;
+ghost use Rattle.rng_model.specs.names.NameViews.{class_of, name_of};
+ghost use Rattle.rng_names.specs.views.GrammarClasses.{seen_class};
+ghost use Rattle.rng_names.specs.plain.WrittenNames.{Grows, Knows, written_in};
+
+use crate::texts::{copied, note, number_of, put};
+use indexmap::{IndexMap, IndexSet};
+use rng_model::{Name, NameClass, OutOfMemory};
+use std::alloc::Global;
+
+/// The names that are written in classes, and the namespaces.
+#[derive(Drop)]
+pub(crate) struct WrittenNames {
+    /// The names, behind a first one.
+    pub(crate) names: IndexSet<Name>,
+    /// For each namespace the bytes of its longest local name, 0 where none is written.
+    pub(crate) longest: IndexMap<String, usize>,
+}
+
+impl WrittenNames {
+    /// Those of no class, with a first name.
+    pub(crate) fn new(alloc: Global, first: Name) -> Result<Self, OutOfMemory>
+        ensures { IfOk result (λ all. slice_get (written_in all).names 0 ≡ Some (name_of first)) }
+    {
+        let mut names = IndexSet::new(alloc);
+        names.insert(first)?;
+        Ok(WrittenNames {
+            names,
+            longest: IndexMap::new(alloc),
+        })
+    }
+
+    /// Adds what is written in these classes.
+    pub(crate) fn add_classes(
+        &mut self,
+        alloc: Global,
+        classes: &[Option<&NameClass>],
+    ) -> Result<(), OutOfMemory>
+        ensures grows { OnOk result (Grows (written_in self.old) (written_in self.new)) }
+        ensures knows { OnOk result ((k : ℕ) (c : names.NameClass) → slice_get (map seen_class classes.now) k ≡ Some (Some c) → Knows (written_in self.new) c) }
+    {
+        'classes: for class in classes {
+            let Some(class) = class else {
+                continue;
+            };
+            self.add_class(alloc, class)?;
+        }
+        Ok(())
+    }
+
+    /// Adds what is written in a class.
+    fn add_class(&mut self, alloc: Global, class: &NameClass) -> Result<(), OutOfMemory>
+        ensures grows { OnOk result (Grows (written_in self.old) (written_in self.new)) }
+        ensures knows { OnOk result (Knows (written_in self.new) (class_of class.now)) }
+    {
+        match class {
+            NameClass::Any => Ok(()),
+            NameClass::AnyExcept(except) => self.add_class(alloc, except),
+            NameClass::Ns(ns) => self.add_namespace(alloc, ns.as_str(), 0),
+            NameClass::NsExcept(ns, except) => {
+                self.add_namespace(alloc, ns.as_str(), 0)?;
+                self.add_class(alloc, except)
+            }
+            NameClass::Name(name) => self.add_name(alloc, name),
+            NameClass::Choice(members) => {
+                'members: for member in members {
+                    self.add_class(alloc, member)?;
+                }
+                Ok(())
+            }
+        }
+    }
+
+    /// Adds a name, and its namespace.
+    fn add_name(&mut self, alloc: Global, name: &Name) -> Result<(), OutOfMemory>
+        ensures grows { OnOk result (Grows (written_in self.old) (written_in self.new)) }
+        ensures knows { OnOk result (Knows (written_in self.new) (names.name_is (name_of name.now))) }
+    {
+        self.add_namespace(alloc, name.ns.as_str(), name.local.len())?;
+        let name = copied(alloc, name.ns.as_str(), name.local.as_str())?;
+        put(&mut self.names, name)?;
+        Ok(())
+    }
+
+    /// Adds a namespace, and that a local name of these bytes is written in it.
+    fn add_namespace(&mut self, alloc: Global, ns: &str, bytes: usize) -> Result<(), OutOfMemory>
+        ensures grows { OnOk result (Grows (written_in self.old) (written_in self.new)) }
+        ensures has { OnOk result ((m : ℕ) × (lookup (bytes_eq ns.now) (written_in self.new).longest ≡ Some m) × (bytes ≤ m)) }
+    {
+        if let Some(most) = number_of(&self.longest, ns) {
+            if bytes <= most {
+                return Ok(());
+            }
+        }
+        note(&mut self.longest, String::from_str(alloc, ns)?, bytes)
+    }
+}
