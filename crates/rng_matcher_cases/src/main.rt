@@ -11,9 +11,8 @@ ghost use Rattle.rng_model.specs.simple.Table.{grammar_of};
 
 use case_rows::{Row, rows};
 use pyx::Reader;
-use rng_derivatives::matcher;
+use rng_deriv::{Outcome, matcher};
 use rng_load::load;
-use rng_matcher::Outcome;
 use rng_model::{SchemaFault, SimpleGrammar};
 use rng_rules::restrict;
 use rng_simple::simplify_schema;

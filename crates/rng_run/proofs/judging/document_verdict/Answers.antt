@@ -1,5 +1,5 @@
 use Rattle.std.proofs.Common.{Err, IsErrOf, ap, subst}
-use Rattle.rng_matcher.specs.views.Positions.{IsKnown}
+use Rattle.rng_deriv.specs.views.Positions.{IsKnown}
 use Rattle.rng_model.specs.declared.outcome.Outcome.TheVariants as outcome
 use Rattle.rng_patterns.specs.views.Trees.{trees}
 use Rattle.rng_model.specs.matching.GrammarReading.{reading_of}

@@ -1,0 +1,9 @@
+use Rattle.std.proofs.Common.{refl, false, None}
+use Rattle.rng_deriv.proofs.Knowing.{comes_first}
+use Rattle.rng_deriv.proofs.event_matcher.Matcher.new.Goals as goal
+
+pub returns-clause-stands : goal.returns-clause-stands
+returns-clause-stands g c =
+    comes_first (g.D.Derivatives.reading c.args.derivatives) (g.D.Derivatives.trees c.args.derivatives)
+    (record { state = record { now = c.in_ok-now.now; levels = c.new.result }; has_begun = false; held = None }) 0 c.args.start
+    c.in_ok-now.ensures.ok c.new.ensures.items refl refl c.requires.start

@@ -1,0 +1,25 @@
+use Rattle.std.proofs.Common.{map}
+use Rattle.rng_model.specs.documents.DocumentViews.{attribute_of}
+use Rattle.rng_deriv.proofs.Memo.{serves_longer}
+use Rattle.rng_deriv.proofs.Served.{below_there, seen_there, tag_added, there_served}
+use Rattle.rng_deriv.proofs.grammar_derivatives.GrammarDerivativesDerivatives.after_tag.Goals as goal
+
+pub after_tag-requires-clause-inside : goal.after_tag-requires-clause-inside
+after_tag-requires-clause-inside c =
+    let d = c.self.inside in
+    below_there d.grammar.now d.lost d.table c.args.self.now c.if-self.false c.self.view_is c.args.body c.requires
+
+pub invariant_of-self-2 : goal.invariant_of-self-2
+invariant_of-self-2 c =
+    let d = c.self.inside in
+    serves_longer d.grammar.now d.table c.after_tag.new.table d.keys c.in_ok-number.ensures.longer d.numbers.items d.memo d.known
+    (there_served d.grammar.now d.keys d.lost d.table d.numbers.items d.memo d.known c.if-self.false c.self.invariant)
+    c.after_tag.new.known c.in_ok-number.ensures.known
+
+pub returns-clause-after : goal.returns-clause-after
+returns-clause-after c =
+    let t = c.self.inside.grammar.now in
+    let old = c.self.inside.table in
+    let now = c.in_ok-number.ensures in
+    tag_added t old c.after_tag.new.table c.args.self.now (seen_there t c.self.inside.lost old c.args.self.now c.if-self.false c.self.view_is)
+    now.longer (map attribute_of c.args.attrs.now) c.args.body c.in_ok-number.number now.after c.requires

@@ -1,0 +1,10 @@
+use Rattle.rng_deriv.proofs.Served.{below_there, none_there}
+use Rattle.rng_deriv.proofs.grammar_derivatives.GrammarDerivativesDerivatives.is_nullable.Goals as goal
+
+pub facts-requires : goal.facts-requires
+facts-requires c =
+    below_there c.self.inside.grammar.now c.self.inside.lost c.self.inside.table c.args.self.now c.if-self.false c.self.view_is c.args.pattern c.requires
+
+pub returns-then-self : goal.returns-then-self
+returns-then-self c =
+    absurd (none_there c.self.inside.grammar.now c.self.inside.lost c.self.inside.table c.args.self.now c.args.pattern c.if-self.true c.self.view_is c.requires)

@@ -1,0 +1,14 @@
+use Rattle.std.proofs.Common.{[], sym, subst}
+use Rattle.rng_model.specs.simple.Table.{Table, tree_at}
+use Rattle.rng_matching.specs.plain.Taking.{Same}
+use Rattle.rng_deriv.specs.views.Numbers.{tree_of}
+use Rattle.rng_patterns.specs.views.Trees.{trees}
+use Rattle.rng_model.specs.matching.GrammarReading.{reading_of}
+use Rattle.rng_deriv.proofs.grammar_matcher.matcher.Goals as goal
+
+pub new-requires-2-clause-start : goal.new-requires-2-clause-start
+new-requires-2-clause-start c =
+    let made = c.in_ok-derivatives in
+    let same = subst (λ (t : Table). Same (reading_of t) (tree_of (trees t made.derivatives.1) made.start) (tree_at t.patterns t.start))
+    (sym made.ensures.grammar) made.ensures.start in
+    λ ns. (same.to [] ns, same.back [] ns)

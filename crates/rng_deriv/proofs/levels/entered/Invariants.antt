@@ -1,0 +1,14 @@
+use Rattle.std.proofs.Common.{◌≡◌, map, take}
+use Rattle.rng_model.specs.documents.DocumentViews.{attribute_of}
+use Rattle.rng_matching.specs.plain.LevelStates.{IsAfterTag}
+use Rattle.rng_deriv.specs.views.Numbers.{AddsEach}
+use Rattle.rng_deriv.proofs.levels.entered.Given as goal
+
+abbrev pub invariant-bodies : goal.invariant-bodies
+invariant-bodies g l =
+    let trees = g.D.Derivatives.trees in
+    let reading = g.D.Derivatives.reading in record {
+      same : reading l.derivatives ≡ reading l.fn.derivatives;
+      first : AddsEach (IsAfterTag (reading l.fn.derivatives) (map attribute_of l.attrs)) (trees l.fn.derivatives) (trees l.derivatives)
+          (take l.body-index l.bodies) l.entered.items;
+    }

@@ -1,0 +1,11 @@
+-- Views of types, and invariants.
+pub mod Levels
+pub mod Numbers
+pub mod Positions
+pub mod LevelRenewal
+pub mod States
+pub mod Strings
+pub mod PatternRenewal
+pub mod Serving
+pub mod StartMemo
+pub mod Starts

@@ -1,0 +1,51 @@
+-- Renewal: the patterns that nobody holds are let go, and the others stand in another table, by new numbers.
+use Rattle.std.specs.Prelude.{◌≡◌, ℕ, List, [], ◌∷◌, map}
+use Rattle.std.specs.List.{AllZip, flat_map}
+use Rattle.rng_model.specs.simple.Tree.{Simple}
+use Rattle.rng_model.specs.matching.Reading.{Reading}
+use Rattle.rng_matching.specs.plain.LevelEvents.{LevelMatcher}
+use Rattle.rng_patterns.specs.declared.pattern.PatternNumber.{PatternNumber}
+use Rattle.rng_deriv.specs.views.Numbers.{IsInside, tree_of}
+use Rattle.rng_deriv.specs.views.States.{IsStateInside, state_of}
+use Rattle.rng_deriv.specs.views.Positions.{IsPositionInside, IsPositionOf}
+use Rattle.rng_deriv.specs.declared.links.Link.{Link}
+use Rattle.rng_deriv.specs.declared.state.Level.{Level}
+use Rattle.rng_deriv.specs.declared.state.State.{State}
+use Rattle.rng_deriv.specs.declared.position.Position.{Position}
+
+-- what the ways out of an element leave
+abbrev pub rests_of : List Link → List PatternNumber
+rests_of links = map (λ l. l.rest) links
+
+-- what those of all these elements leave
+abbrev pub rests_in : List Level → List PatternNumber
+rests_in levels = flat_map (λ l. rests_of l.links.items) levels
+
+-- the links, each with one of the numbers for its rest
+abbrev pub with_rests : List Link → List PatternNumber → List Link
+with_rests [] ns = []
+with_rests (l ∷ ls) [] = l ∷ ls
+with_rests (l ∷ ls) (n ∷ ns) = record { inner = l.inner; outer = l.outer; rest = n } ∷ with_rests ls ns
+
+-- a pattern by its number in one table, and by its number in the other
+abbrev pub IsRenewed : List (Simple ℕ) → List (Simple ℕ) → PatternNumber → PatternNumber → Type 0
+IsRenewed old new p n = IsInside new n × (tree_of new n ≡ tree_of old p)
+
+pub record IsLinkRenewed (old new : List (Simple ℕ)) (l k : Link) : Type 0 where
+  pub inner : k.inner ≡ l.inner
+  pub outer : k.outer ≡ l.outer
+  pub rest : IsRenewed old new l.rest k.rest
+
+pub record IsLevelRenewed (old new : List (Simple ℕ)) (l k : Level) : Type 0 where
+  pub around : k.around ≡ l.around
+  pub links : AllZip (IsLinkRenewed old new) l.links.items k.links.items
+
+-- it is the same state over trees
+pub record IsStateRenewed (old new : List (Simple ℕ)) (s t : State) : Type 0 where
+  pub inside : IsStateInside new t
+  pub same : state_of new t ≡ state_of old s
+
+-- it is the same position over level states
+pub record IsPositionRenewed (old new : List (Simple ℕ)) (p q : Position) : Type 0 where
+  pub inside : IsPositionInside new q
+  pub same : (g : Reading) (m : LevelMatcher) → IsPositionOf g old p m → IsPositionOf g new q m

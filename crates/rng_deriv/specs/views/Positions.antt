@@ -1,0 +1,73 @@
+-- What a matcher knows between two events.
+use Rattle.std.specs.Prelude.{◌≡◌, ◌⊎◌, ⊤, ℕ, List, [], ◌∷◌, ◌++◌, length, All, Bool, true, false}
+use Rattle.rng_model.specs.simple.Tree.{Simple}
+use Rattle.rng_model.specs.documents.PyxTrees.{Event, EventKind}
+use Rattle.rng_model.specs.matching.Reading.{Reading}
+use Rattle.rng_matching.specs.plain.Events.{kinds}
+use Rattle.rng_matching.specs.plain.LevelEvents.{LevelMatcher, StepsTo, StandsFor}
+use Rattle.rng_deriv.specs.views.Numbers.{Longer}
+use Rattle.rng_deriv.specs.views.States.{state_of, IsStateInside}
+use Rattle.rng_deriv.specs.views.Strings.{IsHeld, IsHeldInside}
+use Rattle.rng_model.specs.matching.Outcomes.{KnowsName, FailsAt}
+use Rattle.rng_deriv.specs.declared.position.Position.{Position}
+use Rattle.rng_deriv.specs.declared.progress.Progress.{Progress}
+use Rattle.rng_deriv.specs.declared.progress.Progress.TheVariants as progress
+
+pub record IsPositionInside (trees : List (Simple ℕ)) (p : Position) : Type 0 where
+  pub state : IsStateInside trees p.state
+  pub held : IsHeldInside trees (length p.state.now.items) p.held
+
+-- what the position is over level states
+pub record IsPositionOf (g : Reading) (trees : List (Simple ℕ)) (p : Position) (m : LevelMatcher) : Type 0 where
+  pub state : m.state ≡ state_of trees p.state
+  pub has_begun : m.has_begun ≡ p.has_begun
+  pub held : IsHeld g trees p.state.now.items p.held m.held
+
+-- where an event leads over level states, and that the position behind it is that
+pub record Leads (g : Reading) (kind : EventKind) (new : List (Simple ℕ)) (m : LevelMatcher) (q : Position) : Type 0 where
+  pub matcher : LevelMatcher
+  pub steps : StepsTo g m kind matcher
+  pub position : IsPositionOf g new q matcher
+
+-- an event leads from a position to another, in a table that may have grown
+pub record AddsStep (g : Reading) (kind : EventKind) (old new : List (Simple ℕ)) (p q : Position) : Type 0 where
+  pub longer : Longer old new
+  pub inside : IsPositionInside new q
+  pub leads : (m : LevelMatcher) → IsPositionOf g old p m → Leads g kind new m q
+
+-- it is the line of the last event, if there is one
+abbrev pub IsLastLine : List Event → ℕ → Type 0
+IsLastLine es line = (es ≡ []) ⊎ ((front : List Event) × (kind : EventKind) × (es ≡ front ++ record { line = line; kind = kind } ∷ []))
+
+-- the events have led to the position, and none of them is the start of an element that the grammar has no name for
+pub record HasCome (g : Reading) (trees : List (Simple ℕ)) (p : Position) (line : ℕ) (es : List Event) : Type 0 where
+  pub matcher : LevelMatcher
+  pub position : IsPositionOf g trees p matcher
+  pub stands : StandsFor g matcher (kinds es)
+  pub known : All (λ e. KnowsName g.grammar e.kind) es
+  pub last : IsLastLine es line
+
+-- what is known of a document where all went well before, and after the event of this line may or may not go well still
+abbrev pub progress_at : Bool → Position → ℕ → Progress
+progress_at true p line = progress.Going p line
+progress_at false p line = progress.Failed line
+
+abbrev pub IsProgressInside : List (Simple ℕ) → Progress → Type 0
+IsProgressInside trees (progress.Going p line) = IsPositionInside trees p
+IsProgressInside trees (progress.Failed line) = ⊤
+IsProgressInside trees progress.Lost = ⊤
+
+-- memory was wanting
+abbrev pub IsLost : Progress → Type 0
+IsLost p = p ≡ progress.Lost
+
+-- what is known stands for the events
+abbrev pub IsKnown : Reading → List (Simple ℕ) → Progress → List Event → Type 0
+IsKnown g trees (progress.Going p line) es = HasCome g trees p line es
+IsKnown g trees (progress.Failed line) es = FailsAt g es line
+IsKnown g trees progress.Lost es = ⊤
+
+-- what is known after one more event, in the table as it is then
+pub record AddsProgress (g : Reading) (e : Event) (Before : List Event → Type 0) (new : List (Simple ℕ)) (p : Progress) : Type 0 where
+  pub inside : IsProgressInside new p
+  pub stands : (es : List Event) → Before es → IsKnown g new p (es ++ e ∷ [])

@@ -1,0 +1,29 @@
+-- The patterns of a grammar in a table, for a matcher.
+use Rattle.std.specs.Prelude.{⊤, List, [], Bool, true, false}
+use Rattle.smallvec.specs.SmallVec.{SmallVec}
+use Rattle.std.specs.HashMap.{HashMap}
+use Rattle.rng_names.specs.plain.Keys.{Keys, KeysServe}
+use Rattle.rng_deriv.specs.declared.derivatives.Way.{Way}
+use Rattle.rng_model.specs.simple.Table.{Table}
+use Rattle.rng_patterns.specs.views.Node.{Node}
+use Rattle.rng_patterns.specs.declared.pattern.PatternNumber.{PatternNumber}
+use Rattle.rng_ways.specs.views.KnownWays.{AreAllKnown}
+use Rattle.rng_ways.specs.plain.Starting.{IsReady, HasRestrictedBodies}
+use Rattle.rng_ways.specs.declared.known.Known.{Known}
+use Rattle.rng_deriv.specs.views.StartMemo.{AreAnswers}
+use Rattle.rng_deriv.specs.declared.start_memo.StartKey.{StartKey}
+
+-- the patterns of the grammar stand in the table by these numbers, and there the bodies of its elements obey the restrictions
+pub record IsServed (t : Table) (ns : List Node) (numbers : List PatternNumber) : Type 0 where
+  pub ready : IsReady t ns numbers
+  pub bodies : HasRestrictedBodies t ns numbers
+
+-- so it is, and what is kept of starts and known of ways is so in the table, unless memory was wanting
+abbrev pub IsServedBy : {Z : Type 0} → Table → Keys → Bool → List Node → List PatternNumber → HashMap StartKey (SmallVec Way) Z → Known → Type 0
+IsServedBy t keys true ns numbers memo known = ⊤
+IsServedBy t keys false ns numbers memo known = IsServed t ns numbers × KeysServe t keys × AreAnswers t ns keys memo × AreAllKnown t keys ns known
+
+-- the patterns of a table; none where memory was wanting
+abbrev pub nodes_unless : Bool → List Node → List Node
+nodes_unless true ns = []
+nodes_unless false ns = ns

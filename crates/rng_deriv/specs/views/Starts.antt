@@ -1,0 +1,32 @@
+-- Ways of a start that something may match.
+use Rattle.std.specs.Prelude.{◌↔◌, ◌<◌, List, [], ◌∷◌, ◌++◌, length, map, All}
+use Rattle.rng_model.specs.names.Names.{Name}
+use Rattle.rng_model.specs.matching.Document.{Attribute, Item}
+use Rattle.rng_model.specs.simple.Table.{Table}
+use Rattle.rng_matching.specs.plain.Derivatives as tree
+use Rattle.rng_matching.specs.plain.Restricted.{IsRestricted}
+use Rattle.rng_matching.specs.plain.Ways.{EachWay, Opens}
+use Rattle.rng_deriv.specs.views.Numbers.{way_of}
+use Rattle.rng_deriv.specs.declared.derivatives.Way.{Way}
+use Rattle.rng_patterns.specs.views.Node.{Node}
+use Rattle.rng_patterns.specs.views.Trees.{trees, tree_of}
+use Rattle.rng_model.specs.matching.GrammarReading.{reading_of}
+use Rattle.rng_ways.specs.plain.Starting.{IsRestrictedBodyNamed}
+use Rattle.rng_ways.specs.plain.Ways.{way_by}
+use Rattle.rng_ways.specs.declared.way.Way as numbered
+
+-- the numbers of the way are numbers of the table
+abbrev pub IsWayInside : List Node → Way → Type 0
+IsWayInside ns w = (w.body.0 < length ns) × (w.rest.0 < length ns)
+
+-- what these ways open those do, and these are restricted where those are
+pub record OpensLike (t : Table) (ns : List Node) (those : List tree.Way) (these : List Way) : Type 0 where
+  pub inside : All (IsWayInside ns) these
+  pub opens : (xs : List Attribute) (kids ms : List Item) → Opens (reading_of t) xs kids ms (map (way_of (trees t ns)) these)
+      ↔ Opens (reading_of t) xs kids ms those
+  pub kept : (q : Name) → EachWay (IsRestrictedBodyNamed (reading_of t) q) IsRestricted those
+      → EachWay (IsRestrictedBodyNamed (reading_of t) q) IsRestricted (map (way_of (trees t ns)) these)
+
+-- some ways, and one more
+abbrev pub with_way : Table → List Node → List Way → numbered.Way → List tree.Way
+with_way t ns before w = map (way_of (trees t ns)) before ++ way_by (tree_of t ns) w ∷ []

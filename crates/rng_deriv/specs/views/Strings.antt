@@ -1,0 +1,26 @@
+-- A string of which it is not told yet whether it is an only child.
+use Rattle.std.specs.Prelude.{◌≡◌, ⊤, ℕ, List, [], length, map, All, Option, Some, None}
+use Rattle.std.specs.List.{AllZip}
+use Rattle.rng_model.specs.simple.Tree.{Simple}
+use Rattle.rng_model.specs.datatypes.Texts.{is_blank}
+use Rattle.rng_model.specs.matching.Reading.{Reading}
+use Rattle.rng_matching.specs.plain.LevelStates.{IsAfterText}
+use Rattle.rng_patterns.specs.declared.pattern.PatternNumber.{PatternNumber}
+use Rattle.rng_deriv.specs.views.Numbers.{Longer, IsInside, tree_of}
+use Rattle.rng_deriv.specs.declared.held.Held.{Held}
+
+-- this string is held, and something is left of each alternative after it; where none is held it is the empty one
+abbrev pub IsHeld : Reading → List (Simple ℕ) → List PatternNumber → Option Held → List ℕ → Type 0
+IsHeld g trees now None s = s ≡ []
+IsHeld g trees now (Some h) s = (is_blank s ≡ h.blank) × AllZip (IsAfterText g s) (map (tree_of trees) now) (map (tree_of trees) h.after.items)
+
+-- of each alternative something is left that has a number of the table
+abbrev pub IsHeldInside : List (Simple ℕ) → ℕ → Option Held → Type 0
+IsHeldInside trees count None = ⊤
+IsHeldInside trees count (Some h) = (count ≡ length h.after.items) × All (IsInside trees) h.after.items
+
+-- a string that is so is held, in a table that may have grown
+pub record AddsHeld (Is : List ℕ → Type 0) (g : Reading) (old new : List (Simple ℕ)) (now : List PatternNumber) (h : Held) : Type 0 where
+  pub longer : Longer old new
+  pub inside : IsHeldInside new (length now) (Some h)
+  pub held : (s : List ℕ) → Is s → IsHeld g new now (Some h) s

@@ -1,0 +1,95 @@
+// Ways out of elements.
+ghost use Rattle.std.specs.Prelude.{◌≡◌, ◌⊎◌, ◌++◌, ◌∷◌, [], All, IfOk, OnOk, Some, length, slice_get};
+ghost use Rattle.rng_model.specs.names.NameViews.{name_of};
+ghost use Rattle.rng_deriv.specs.views.Levels.{AddsLinks, AddsOpened};
+ghost use Rattle.rng_deriv.specs.views.Numbers.{IsInside};
+
+use crate::derivatives::{Derivatives, Way};
+use crate::lists::{Links, Numbers};
+use rng_model::{Name, OutOfMemory};
+use rng_patterns::PatternNumber;
+use smallvec::SmallVec;
+use std::alloc::Global;
+
+/// A way out of an element: once the alternative at the place `inner` ends, the one around it at the place `outer` goes on
+/// with the rest.
+#[derive(Clone, Copy)]
+pub struct Link {
+    pub inner: usize,
+    pub outer: usize,
+    pub rest: PatternNumber,
+}
+
+/// The way out with the first pattern of a table, which stands for none.
+impl Default for Link {
+    fn default() -> Self {
+        Link {
+            inner: 0,
+            outer: 0,
+            rest: PatternNumber(0),
+        }
+    }
+}
+
+/// The bodies of the elements that a start may begin, each once, and the ways out of them.
+#[derive(Drop)]
+pub struct Opened {
+    pub bodies: Numbers,
+    pub links: Links,
+}
+
+/// The place of a body among others; it is added where it is not there.
+fn place_of(bodies: &mut Numbers, body: PatternNumber) -> Result<usize, OutOfMemory>
+    ensures found { IfOk result (λ i. slice_get bodies.new.items i ≡ Some body) }
+    ensures others { OnOk result ((bodies.new.items ≡ bodies.old.items) ⊎ (bodies.new.items ≡ bodies.old.items ++ body ∷ [])) }
+{
+    let place = bodies.len();
+    for (known, other) in bodies.as_slice().iter().enumerate() {
+        if *other == body {
+            return Ok(known);
+        }
+    }
+    bodies.push(body)?;
+    Ok(place)
+}
+
+/// Adds the bodies of ways, and links for them to the alternative at a place.
+fn add_links(
+    bodies: &mut Numbers,
+    links: &mut Links,
+    outer: usize,
+    ways: &[Way],
+) -> Result<(), OutOfMemory>
+    ensures { OnOk result (AddsLinks outer ways.now bodies.old.items bodies.new.items links.old.items links.new.items) }
+{
+    'ways: for way in ways {
+        let inner = place_of(bodies, way.body)?;
+        links.push(Link {
+            inner,
+            outer,
+            rest: way.rest,
+        })?;
+    }
+    Ok(())
+}
+
+/// What an element of this name opens in each of the alternatives.
+pub fn started<D: Derivatives>(
+    derivatives: &mut D,
+    alloc: Global,
+    now: &[PatternNumber],
+    name: &Name,
+) -> Result<Opened, OutOfMemory>
+    requires { All (IsInside (D.trees derivatives.old)) now.now }
+    ensures reading { OnOk result (D.reading derivatives.new ≡ D.reading derivatives.old) }
+    ensures opened { IfOk result (λ o. AddsOpened (D.reading derivatives.old) (name_of name.now) (D.trees derivatives.old) (D.trees derivatives.new)
+        now.now o.bodies.items o.links.items) }
+{
+    let mut bodies = SmallVec::new(alloc);
+    let mut links = SmallVec::new(alloc);
+    'alternatives: for (outer, pattern) in now.iter().enumerate() {
+        let ways = derivatives.starts(alloc, *pattern, name)?;
+        add_links(&mut bodies, &mut links, outer, ways.as_slice())?;
+    }
+    Ok(Opened { bodies, links })
+}

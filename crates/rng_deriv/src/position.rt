@@ -1,0 +1,101 @@
+// What a matcher keeps between two events.
+ghost use Rattle.std.specs.Prelude.{◌≡◌, ℕ, List, None, OnOk, map};
+ghost use Rattle.rng_model.specs.documents.PyxTrees as trees;
+ghost use Rattle.rng_model.specs.simple.Tree.{Simple};
+ghost use Rattle.rng_model.specs.documents.DocumentViews.{attribute_of};
+ghost use Rattle.rng_model.specs.names.NameViews.{name_of};
+ghost use Rattle.rng_matching.specs.plain.LevelEvents.{LevelMatcher, SettlesLevels};
+ghost use Rattle.rng_model.specs.matching.Reading.{Reading};
+ghost use Rattle.rng_deriv.specs.views.Positions.{AddsStep, IsPositionInside, IsPositionOf};
+ghost use Rattle.rng_deriv.specs.views.States.{IsStateInside, state_of};
+
+use crate::closing::{after_elements, after_lone_string};
+use crate::derivatives::Derivatives;
+use crate::held::{Held, hold};
+use crate::state::{State, enter};
+use rng_model::{Attr, Name, OutOfMemory};
+use std::alloc::Global;
+
+/// Where a matcher stands in a document.
+#[derive(Drop)]
+pub struct Position {
+    pub state: State,
+    /// Whether the innermost open element has an element before this.
+    pub has_begun: bool,
+    pub held: Option<Held>,
+}
+
+/// Lets the held string go, once it has turned out to stand beside an element: a blank one is nothing there (RELAX NG
+/// Specification, section 6.2.7).
+fn settle(position: &mut Position)
+    ensures inside { (trees : List (Simple ℕ)) → IsPositionInside trees position.old → IsStateInside trees position.new.state }
+    ensures settles { (g : Reading) (trees : List (Simple ℕ)) (m : LevelMatcher) → IsPositionOf g trees position.old m
+        → SettlesLevels g m.held m.state (state_of trees position.new.state) }
+    ensures begun { position.new.has_begun ≡ position.old.has_begun }
+    ensures held { position.new.held ≡ None }
+{
+    let Some(Held { blank, after }) = position.held.take() else {
+        return;
+    };
+    if blank {
+        return;
+    }
+    position.state.now = after;
+}
+
+/// Takes a start tag.
+pub fn after_start<D: Derivatives>(
+    derivatives: &mut D,
+    alloc: Global,
+    position: &mut Position,
+    name: &Name,
+    attrs: &[Attr],
+) -> Result<(), OutOfMemory>
+    requires { IsPositionInside (D.trees derivatives.old) position.old }
+    ensures reading { OnOk result (D.reading derivatives.new ≡ D.reading derivatives.old) }
+    ensures step { OnOk result (AddsStep (D.reading derivatives.old) (trees.a_start (name_of name.now) (map attribute_of attrs.now))
+        (D.trees derivatives.old) (D.trees derivatives.new) position.old position.new) }
+{
+    settle(position);
+    enter(derivatives, alloc, &mut position.state, name, attrs)?;
+    position.has_begun = false;
+    Ok(())
+}
+
+/// Takes a string.
+pub fn after_text<D: Derivatives>(
+    derivatives: &mut D,
+    alloc: Global,
+    position: &mut Position,
+    text: &str,
+) -> Result<(), OutOfMemory>
+    requires { IsPositionInside (D.trees derivatives.old) position.old }
+    ensures reading { OnOk result (D.reading derivatives.new ≡ D.reading derivatives.old) }
+    ensures step { OnOk result (AddsStep (D.reading derivatives.old) (trees.a_string text.now)
+        (D.trees derivatives.old) (D.trees derivatives.new) position.old position.new) }
+{
+    let held = hold(derivatives, alloc, position.state.now.as_slice(), text)?;
+    position.held = Some(held);
+    Ok(())
+}
+
+/// Takes an end tag.
+pub fn after_end<D: Derivatives>(
+    derivatives: &mut D,
+    alloc: Global,
+    position: &mut Position,
+) -> Result<(), OutOfMemory>
+    requires { IsPositionInside (D.trees derivatives.old) position.old }
+    ensures reading { OnOk result (D.reading derivatives.new ≡ D.reading derivatives.old) }
+    ensures step { OnOk result (AddsStep (D.reading derivatives.old) trees.an_end
+        (D.trees derivatives.old) (D.trees derivatives.new) position.old position.new) }
+{
+    if position.has_begun {
+        settle(position);
+        return after_elements(derivatives, alloc, &mut position.state);
+    }
+    let string = position.held.take();
+    after_lone_string(derivatives, alloc, &mut position.state, string)?;
+    position.has_begun = true;
+    Ok(())
+}

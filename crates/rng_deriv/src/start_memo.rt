@@ -1,0 +1,58 @@
+// The ways of starts that are kept from one event to the next.
+ghost use Rattle.std.specs.Prelude.{◌≡◌, ◌⊎◌, IfOk, IfSome, List, OnOk};
+ghost use Rattle.rng_deriv.specs.declared.derivatives.Way.{Way};
+ghost use Rattle.rng_deriv.specs.views.StartMemo.{HasKept};
+ghost use Rattle.rng_deriv.specs.declared.start_memo.StartKey.{StartKey};
+
+use crate::derivatives::Way;
+use crate::lists::Ways;
+use rng_model::OutOfMemory;
+use rng_names::NameKey;
+use rng_patterns::PatternNumber;
+use smallvec::SmallVec;
+use std::alloc::Global;
+use std::collections::HashMap;
+
+/// What the ways of a start depend on: the pattern, and the name as far as the grammar tells names apart.
+#[derive(Clone, Copy, PartialEq, Eq, Hash)]
+pub struct StartKey {
+    pub pattern: PatternNumber,
+    pub name: NameKey,
+}
+
+/// The ways of starts, as far as they are kept.
+pub type StartMemo = HashMap<StartKey, Ways>;
+
+/// How many starts are kept at most, so that memory stays bounded however many patterns a document leads to.
+const MOST_KEPT: usize = 16_384;
+
+/// A copy of ways. The error is want of memory.
+pub fn copied(alloc: Global, ways: &[Way]) -> Result<Ways, OutOfMemory>
+    ensures { IfOk result (λ copy. copy.items ≡ ways.now) }
+{
+    Ok(SmallVec::from_slice(alloc, ways)?)
+}
+
+/// The ways that are kept for a start.
+pub fn kept(memo: &StartMemo, start: StartKey) -> Option<&[Way]>
+    ensures { IfSome result (λ ways. HasKept memo.now start ways.now) }
+{
+    Some(memo.get(&start)?.as_slice())
+}
+
+/// Keeps the ways of a start. Where `MOST_KEPT` are kept, all others go first. The error is want of memory.
+pub fn keep(
+    alloc: Global,
+    memo: &mut StartMemo,
+    start: StartKey,
+    ways: &[Way],
+) -> Result<(), OutOfMemory>
+    ensures { OnOk result ((k : StartKey) (ws : List Way) → HasKept memo.new k ws → HasKept memo.old k ws ⊎ ((k ≡ start) × (ws ≡ ways.now))) }
+{
+    let copy = copied(alloc, ways)?;
+    if memo.len() >= MOST_KEPT {
+        *memo = HashMap::new(alloc);
+    }
+    memo.insert(start, copy)?;
+    Ok(())
+}

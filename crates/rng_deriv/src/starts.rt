@@ -1,0 +1,93 @@
+// The ways of a start that something may match.
+ghost use Rattle.std.specs.Prelude.{◌≡◌, ◌||◌, ◌<◌, All, IfOk, IfNone, IfSome, OnOk, Some, length, slice_get};
+ghost use Rattle.rng_model.specs.simple.Table.{Table};
+ghost use Rattle.rng_deriv.specs.declared.derivatives.Way.{Way};
+ghost use Rattle.rng_matching.specs.plain.Derivatives.{is_not_allowed};
+ghost use Rattle.rng_patterns.specs.views.PatternTable.{Longer};
+ghost use Rattle.rng_patterns.specs.views.Trees.{tree_of};
+ghost use Rattle.rng_ways.specs.plain.Ways.{AreInside, IsInside, IsTakenOut, ways_by};
+ghost use Rattle.rng_deriv.specs.views.Starts.{IsWayInside, OpensLike, with_way};
+
+use crate::derivatives::Way;
+use crate::lists::Ways;
+use rng_model::OutOfMemory;
+use rng_patterns::{PatternNumber, PatternTable};
+use smallvec::SmallVec;
+use std::alloc::Global;
+
+/// Whether one of the two is notAllowed.
+fn is_one_not_allowed(table: &PatternTable, body: PatternNumber, rest: PatternNumber) -> bool
+    requires body { body.0 < length table.now }
+    requires rest { rest.0 < length table.now }
+    ensures { (t : Table) → result ≡ is_not_allowed (tree_of t table.now body.0) || is_not_allowed (tree_of t table.now rest.0) }
+{
+    table.is_not_allowed(body) || table.is_not_allowed(rest)
+}
+
+/// The place of a way with this rest among others.
+fn place_of_rest(ways: &[Way], rest: PatternNumber) -> Option<usize>
+    ensures found { IfSome result (λ i. (w : Way) × (slice_get ways.now i ≡ Some w) × (w.rest ≡ rest)) }
+    ensures none { IfNone result (All (λ w. ¬ (w.rest ≡ rest)) ways.now) }
+{
+    'others: for (place, way) in ways.iter().enumerate() {
+        if way.rest == rest {
+            return Some(place);
+        }
+    }
+    None
+}
+
+/// Takes a way with this rest out of others, if there is one.
+fn take_rest(ways: &mut Ways, rest: PatternNumber) -> Option<Way>
+    ensures found { IfSome result (λ w. (w.rest ≡ rest) × IsTakenOut ways.old.items ways.new.items w) }
+    ensures none { IfNone result (ways.new.items ≡ ways.old.items) }
+{
+    let place = place_of_rest(ways.as_slice(), rest)?;
+    Some(ways.remove(place))
+}
+
+/// Adds a way to others: one with the same rest becomes one with it, and one by which nothing is taken adds none.
+fn add_way(
+    alloc: Global,
+    table: &mut PatternTable,
+    all: &mut Ways,
+    way: rng_ways::Way,
+) -> Result<(), OutOfMemory>
+    requires inside { All (IsWayInside table.old) all.old.items }
+    requires way { IsInside table.old way }
+    ensures longer { OnOk result (Longer table.old table.new) }
+    ensures ways { OnOk result ((t : Table) → OpensLike t table.new (with_way t table.old all.old.items way) all.new.items) }
+{
+    if is_one_not_allowed(table, way.leaf, way.rest) {
+        return Ok(());
+    }
+    let Some(other) = take_rest(all, way.rest) else {
+        return Ok(all.push(Way {
+            body: way.leaf,
+            rest: way.rest,
+        })?);
+    };
+    let body = table.choice(alloc, &[other.body, way.leaf])?;
+    all.push(Way {
+        body,
+        rest: way.rest,
+    })?;
+    Ok(())
+}
+
+/// The ways without those by which nothing is taken, and each rest once.
+pub fn joined_ways(
+    alloc: Global,
+    table: &mut PatternTable,
+    ways: &[rng_ways::Way],
+) -> Result<Ways, OutOfMemory>
+    requires { AreInside table.old ways.now }
+    ensures longer { OnOk result (Longer table.old table.new) }
+    ensures ways { IfOk result (λ joined. (t : Table) → OpensLike t table.new (ways_by (tree_of t table.old) ways.now) joined.items) }
+{
+    let mut joined = SmallVec::new(alloc);
+    'ways: for way in ways {
+        add_way(alloc, table, &mut joined, *way)?;
+    }
+    Ok(joined)
+}

@@ -1,5 +1,0 @@
-mod Joining
-mod Served
-mod LikeNames
-mod Memo
-mod Renewal
