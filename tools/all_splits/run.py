@@ -1,9 +1,9 @@
 #!/usr/bin/env python3
 """A second program for matching, which tries all splits as the rules of matching say (RELAX NG Specification, section 6.2).
 
-It writes what `rng_run_cases` reads and must print of small documents: the schemas and the documents of at most six lines
-into crates/rng_run_cases/data/, and the letters, one for each document and schema (V: valid, I: invalid), to standard output:
-the end of crates/rng_run_cases/stdout. The schemas hold every kind of pattern; the last ones are put together at random.
+It writes what `rncv_run_cases` reads and must print of small documents: the schemas and the documents of at most six lines
+into crates/rncv_run_cases/data/, and the letters, one for each document and schema (V: valid, I: invalid), to standard output:
+the end of crates/rncv_run_cases/stdout. The schemas hold every kind of pattern; the last ones are put together at random.
 
     tools/all_splits/run.py [--kinds all]        (at the top of the repository; without it the kinds that `valid` serves today)
 """
@@ -434,7 +434,7 @@ def documents():
 def main():
     words = argparse.ArgumentParser(description=__doc__)
     words.add_argument("--kinds", choices=["first", "all"], default="first")
-    words.add_argument("--data", type=pathlib.Path, default=pathlib.Path("crates/rng_run_cases/data"))
+    words.add_argument("--data", type=pathlib.Path, default=pathlib.Path("crates/rncv_run_cases/data"))
     chosen = words.parse_args()
     schemas = FIRST_KINDS
     if chosen.kinds == "all":

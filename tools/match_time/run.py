@@ -23,7 +23,7 @@ import time
 
 HERE = pathlib.Path(__file__).resolve().parent
 CRATES = HERE.parents[1] / "crates"
-USES = "match_time: rng_deriv rng_matching rng_rules rng_simple rng_load rng_model pyx\n"
+USES = "match_time: rng_deriv rng_deriv_laws rng_rules rng_simple rng_load rng_model pyx\n"
 
 
 def element(name, inner=""):

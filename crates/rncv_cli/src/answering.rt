@@ -8,8 +8,8 @@ use crate::command_line::words_of;
 use crate::fault::Fault;
 use crate::invocation::Words;
 use crate::schema_files::read_files;
+use rncv_run::{Status, run};
 use rng_model::Device;
-use rng_run::{Status, run};
 use std::io::{Read, Write};
 use std::rt::{Env, Files};
 

@@ -10,7 +10,7 @@ use crate::fault::{Fault, is_want_of_memory};
 use crate::invocation::Words;
 use clap::error::ErrorKind;
 use clap::{Arg, ArgAction, ArgMatches, Error};
-use rng_run::Command;
+use rncv_run::Command;
 use std::alloc::{AllocError, Global};
 use std::env;
 use std::env::Args;

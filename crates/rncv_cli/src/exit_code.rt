@@ -4,7 +4,7 @@ ghost use Rattle.std.specs.Process.{exit_status};
 ghost use Rattle.rncv_cli.specs.views.ExitStatus.{exit_status_of};
 
 use crate::fault::Fault;
-use rng_run::Status;
+use rncv_run::Status;
 use std::process::ExitCode;
 
 /// The exit status: 0 to 3 by the status of a run that found an answer, else that of the fault (`Fault::status`). Takes no memory.

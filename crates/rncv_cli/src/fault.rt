@@ -4,7 +4,7 @@ ghost use Rattle.std.specs.IoError.{error_kind};
 ghost use Rattle.rncv_cli.specs.views.ExitStatus.{fault_status};
 ghost use Rattle.rncv_cli.specs.views.Faults.{fault_of_run};
 
-use rng_run::RunFault;
+use rncv_run::RunFault;
 use std::io;
 use std::io::ErrorKind;
 use thiserror::Error;

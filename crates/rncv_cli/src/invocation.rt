@@ -1,6 +1,6 @@
 // What the command line asks for.
 
-use rng_run::Command;
+use rncv_run::Command;
 
 /// What the words after the program's name ask for.
 #[derive(Drop)]

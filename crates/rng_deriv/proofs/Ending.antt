@@ -12,14 +12,14 @@ use Rattle.rng_model.specs.simple.Tree.{Simple}
 use Rattle.rng_model.specs.matching.Document.{Item}
 use Rattle.rng_model.specs.datatypes.Texts.{is_blank}
 use Rattle.rng_model.specs.matching.Reading.{Reading}
-use Rattle.rng_matching.specs.plain.Taking.{Takes}
-use Rattle.rng_matching.specs.plain.Derivatives.{is_not_allowed, is_nullable}
-use Rattle.rng_matching.specs.plain.LevelStates as level
-use Rattle.rng_matching.specs.plain.LevelStates.{AreEnded, EndsNow, EndsWith, IsAfterText}
-use Rattle.rng_matching.proofs.LevelStates.{beside_first, contained, nullable_may_end, may_end_with}
-use Rattle.rng_matching.proofs.States.{none_taken}
-use Rattle.rng_matching.proofs.LevelSteps.{none_ended, ended_no_more, ended_more}
-use Rattle.rng_patterns.specs.declared.pattern.PatternNumber.{PatternNumber}
+use Rattle.rng_deriv_laws.specs.plain.Taking.{Takes}
+use Rattle.rng_deriv_laws.specs.plain.Derivatives.{is_not_allowed, is_nullable}
+use Rattle.rng_deriv_laws.specs.plain.LevelStates as level
+use Rattle.rng_deriv_laws.specs.plain.LevelStates.{AreEnded, EndsNow, EndsWith, IsAfterText}
+use Rattle.rng_deriv_laws.proofs.LevelStates.{beside_first, contained, nullable_may_end, may_end_with}
+use Rattle.rng_deriv_laws.proofs.States.{none_taken}
+use Rattle.rng_deriv_laws.proofs.LevelSteps.{none_ended, ended_no_more, ended_more}
+use Rattle.rng_pattern_table.specs.declared.pattern.PatternNumber.{PatternNumber}
 use Rattle.rng_deriv.specs.views.Numbers.{IsInside, tree_of, Adds, IsChoiceOf}
 use Rattle.rng_deriv.specs.views.Levels.{link_of, IsOnlyRest, IsRestWithin, AreEndsWith, LeavesBy, AddsEnded}
 use Rattle.rng_deriv.specs.declared.links.Link.{Link}

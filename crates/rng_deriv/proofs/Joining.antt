@@ -7,28 +7,28 @@ use Rattle.rng_model.specs.names.Names.{Name}
 use Rattle.rng_model.specs.matching.Document.{Attribute, Item, list_of}
 use Rattle.rng_model.specs.simple.Table.{Table}
 use Rattle.rng_model.specs.simple.Tree.{Simple, choice, s_joined, s_not_allowed}
-use Rattle.rng_matching.specs.plain.Blanks.{cons, no_blanks}
-use Rattle.rng_matching.specs.plain.Derivatives.{is_not_allowed}
-use Rattle.rng_matching.specs.plain.Derivatives as tree
-use Rattle.rng_matching.specs.plain.LevelStates as level
-use Rattle.rng_matching.specs.plain.LevelStates.{IsBodyNamed}
+use Rattle.rng_deriv_laws.specs.plain.Blanks.{cons, no_blanks}
+use Rattle.rng_deriv_laws.specs.plain.Derivatives.{is_not_allowed}
+use Rattle.rng_deriv_laws.specs.plain.Derivatives as tree
+use Rattle.rng_deriv_laws.specs.plain.LevelStates as level
+use Rattle.rng_deriv_laws.specs.plain.LevelStates.{IsBodyNamed}
 use Rattle.rng_model.specs.matching.Reading.{Reading}
-use Rattle.rng_matching.specs.plain.Restricted.{IsRestricted, IsTyped}
-use Rattle.rng_matching.specs.plain.Taking.{Same, Takes, WeaklyTakes}
-use Rattle.rng_matching.specs.plain.Taking as t
-use Rattle.rng_matching.specs.plain.Ways.{EachWay, Opens}
-use Rattle.rng_matching.proofs.FreeForms.{bodies_joined, bodies_parted, way}
-use Rattle.rng_patterns.specs.views.Node.{Node}
-use Rattle.rng_patterns.specs.views.PatternTable.{Longer}
-use Rattle.rng_patterns.specs.views.Trees.{trees, tree_of}
-use Rattle.rng_patterns.specs.declared.pattern.PatternNumber.{PatternNumber}
-use Rattle.rng_patterns.proofs.Trees.{Longer-length, tree_stays}
+use Rattle.rng_deriv_laws.specs.plain.Restricted.{IsRestricted, IsTyped}
+use Rattle.rng_deriv_laws.specs.plain.Taking.{Same, Takes, WeaklyTakes}
+use Rattle.rng_deriv_laws.specs.plain.Taking as t
+use Rattle.rng_deriv_laws.specs.plain.Ways.{EachWay, Opens}
+use Rattle.rng_deriv_laws.proofs.FreeForms.{bodies_joined, bodies_parted, way}
+use Rattle.rng_pattern_table.specs.views.Node.{Node}
+use Rattle.rng_pattern_table.specs.views.PatternTable.{Longer}
+use Rattle.rng_pattern_table.specs.views.Trees.{trees, tree_of}
+use Rattle.rng_pattern_table.specs.declared.pattern.PatternNumber.{PatternNumber}
+use Rattle.rng_pattern_table.proofs.Trees.{Longer-length, tree_stays}
 use Rattle.rng_model.specs.matching.GrammarReading.{reading_of}
-use Rattle.rng_ways.specs.plain.Starting.{AreStarts, IsRestrictedBodyNamed}
-use Rattle.rng_ways.specs.plain.Ways.{AreInside, IsInside, way_by, ways_by}
-use Rattle.rng_ways.specs.declared.way.Way as numbered
-use Rattle.rng_ways.proofs.Kept.{each_both, each_first, each_second}
-use Rattle.rng_ways.proofs.Starts.{append_opens, opens_both, opens_first, opens_second}
+use Rattle.rng_pattern_derivatives.specs.plain.Starting.{AreStarts, IsRestrictedBodyNamed}
+use Rattle.rng_pattern_derivatives.specs.plain.Ways.{AreInside, IsInside, way_by, ways_by}
+use Rattle.rng_pattern_derivatives.specs.declared.way.Way as numbered
+use Rattle.rng_pattern_derivatives.proofs.Kept.{each_both, each_first, each_second}
+use Rattle.rng_pattern_derivatives.proofs.Starts.{append_opens, opens_both, opens_first, opens_second}
 use Rattle.rng_deriv.specs.views.Numbers as numbers
 use Rattle.rng_deriv.specs.views.Numbers.{way_of}
 use Rattle.rng_deriv.specs.declared.derivatives.Way.{Way}

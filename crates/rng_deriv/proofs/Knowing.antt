@@ -10,13 +10,13 @@ use Rattle.rng_model.specs.documents.PyxLines.{Said}
 use Rattle.rng_model.specs.documents.PyxNamespaces.{Scope}
 use Rattle.rng_model.specs.documents.PyxTrees.{Event, EventKind, a_start, a_string, an_end, Placed, events_of, IsPyxDocument, IsElement, element}
 use Rattle.rng_model.specs.matching.Reading.{Reading}
-use Rattle.rng_matching.specs.plain.Taking.{Takes}
-use Rattle.rng_matching.specs.plain.Derivatives.{is_nullable, is_not_allowed}
-use Rattle.rng_matching.specs.plain.Events.{kinds}
-use Rattle.rng_matching.specs.plain.LevelEvents.{LevelMatcher, StepsTo, StandsFor}
-use Rattle.rng_matching.proofs.Events.{kinds_append}
-use Rattle.rng_matching.proofs.LevelEvents.{stands_on, stands_first, levels_answer, no_levels_are_invalid, no_end_is_invalid, unknown_name_leaves_none}
-use Rattle.rng_patterns.specs.declared.pattern.PatternNumber.{PatternNumber}
+use Rattle.rng_deriv_laws.specs.plain.Taking.{Takes}
+use Rattle.rng_deriv_laws.specs.plain.Derivatives.{is_nullable, is_not_allowed}
+use Rattle.rng_deriv_laws.specs.plain.Events.{kinds}
+use Rattle.rng_deriv_laws.specs.plain.LevelEvents.{LevelMatcher, StepsTo, StandsFor}
+use Rattle.rng_deriv_laws.proofs.Events.{kinds_append}
+use Rattle.rng_deriv_laws.proofs.LevelEvents.{stands_on, stands_first, levels_answer, no_levels_are_invalid, no_end_is_invalid, unknown_name_leaves_none}
+use Rattle.rng_pattern_table.specs.declared.pattern.PatternNumber.{PatternNumber}
 use Rattle.rng_deriv.specs.views.Numbers.{tree_of}
 use Rattle.rng_deriv.specs.views.Strings.{IsHeld}
 use Rattle.rng_model.specs.matching.Outcomes.{KnowsName, IsValid, FailsAt}

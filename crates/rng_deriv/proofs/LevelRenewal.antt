@@ -7,8 +7,8 @@ use Rattle.std.proofs.lemmas.List.Elements.{All-append, All-map, All-nil, All-he
 use Rattle.rng_model.specs.simple.Tree.{Simple}
 use Rattle.rng_model.specs.documents.PyxTrees.{Event}
 use Rattle.rng_model.specs.matching.Reading.{Reading}
-use Rattle.rng_matching.specs.plain.LevelStates as level
-use Rattle.rng_patterns.specs.declared.pattern.PatternNumber.{PatternNumber}
+use Rattle.rng_deriv_laws.specs.plain.LevelStates as level
+use Rattle.rng_pattern_table.specs.declared.pattern.PatternNumber.{PatternNumber}
 use Rattle.rng_deriv.specs.views.Numbers.{IsInside, AreRenewed, tree_of}
 use Rattle.rng_deriv.specs.views.Levels.{IsRestWithin, link_of}
 use Rattle.rng_deriv.specs.views.States.{IsLevelInside, IsStateInside, with_level}

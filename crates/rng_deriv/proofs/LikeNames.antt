@@ -13,16 +13,16 @@ use Rattle.rng_names.specs.plain.Holding.{holds}
 use Rattle.rng_names.proofs.Holding.{holds-Decides}
 use Rattle.rng_names.specs.plain.Keys.{Keys, KeysServe, key_of, name_at}
 use Rattle.rng_names.specs.plain.Keys as keyed
-use Rattle.rng_matching.specs.plain.Derivatives as tree
-use Rattle.rng_matching.specs.plain.LevelStates as level
-use Rattle.rng_matching.specs.plain.LevelStates.{IsBodyNamed}
+use Rattle.rng_deriv_laws.specs.plain.Derivatives as tree
+use Rattle.rng_deriv_laws.specs.plain.LevelStates as level
+use Rattle.rng_deriv_laws.specs.plain.LevelStates.{IsBodyNamed}
 use Rattle.rng_model.specs.matching.Reading.{Reading}
-use Rattle.rng_matching.specs.plain.Reading.{body_of, has_name}
-use Rattle.rng_matching.specs.plain.Taking.{Takes, WeaklyMatches}
-use Rattle.rng_matching.specs.plain.Taking as t
-use Rattle.rng_matching.specs.plain.Ways.{EachWay}
+use Rattle.rng_deriv_laws.specs.plain.Reading.{body_of, has_name}
+use Rattle.rng_deriv_laws.specs.plain.Taking.{Takes, WeaklyMatches}
+use Rattle.rng_deriv_laws.specs.plain.Taking as t
+use Rattle.rng_deriv_laws.specs.plain.Ways.{EachWay}
 use Rattle.rng_model.specs.matching.GrammarReading.{reading_of}
-use Rattle.rng_ways.proofs.Rows.{class_there, no_class_there}
+use Rattle.rng_pattern_derivatives.proofs.Rows.{class_there, no_class_there}
 
 module _ (g : Reading) where
   -- each element that may have the first name may have the second

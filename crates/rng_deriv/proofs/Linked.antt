@@ -4,8 +4,8 @@ use Rattle.std.proofs.Common.{slice_get, slice_index_or, append_assoc}
 use Rattle.std.specs.List.{AllZip}
 use Rattle.std.proofs.lemmas.List.{take_more}
 use Rattle.std.proofs.lemmas.List.Elements.{All-weaker, All-append, All-cons, All-nil, All-head, All-tail, Contains-push, Contains-append_left}
-use Rattle.rng_patterns.specs.declared.pattern.PatternNumber.{PatternNumber}
-use Rattle.rng_matching.proofs.LevelSteps.{in_front}
+use Rattle.rng_pattern_table.specs.declared.pattern.PatternNumber.{PatternNumber}
+use Rattle.rng_deriv_laws.proofs.LevelSteps.{in_front}
 use Rattle.rng_deriv.specs.views.Levels.{IsBodyOf, IsLinkOf, AddsLinks}
 use Rattle.rng_deriv.specs.declared.derivatives.Way.{Way}
 use Rattle.rng_deriv.specs.declared.links.Link.{Link}

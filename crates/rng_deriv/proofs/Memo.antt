@@ -11,15 +11,15 @@ use Rattle.rng_model.specs.names.Names.{Name}
 use Rattle.rng_model.specs.simple.Table.{Table}
 use Rattle.rng_model.specs.simple.Tree.{Simple}
 use Rattle.rng_names.specs.plain.Keys.{Keys, KeysServe, key_of, name_at}
-use Rattle.rng_matching.specs.plain.LevelStates as level
+use Rattle.rng_deriv_laws.specs.plain.LevelStates as level
 use Rattle.rng_model.specs.matching.Reading.{Reading}
-use Rattle.rng_patterns.specs.views.Node.{Node}
-use Rattle.rng_patterns.specs.views.PatternTable as nodes
-use Rattle.rng_patterns.specs.views.Trees.{trees}
-use Rattle.rng_patterns.specs.declared.pattern.PatternNumber.{PatternNumber}
+use Rattle.rng_pattern_table.specs.views.Node.{Node}
+use Rattle.rng_pattern_table.specs.views.PatternTable as nodes
+use Rattle.rng_pattern_table.specs.views.Trees.{trees}
+use Rattle.rng_pattern_table.specs.declared.pattern.PatternNumber.{PatternNumber}
 use Rattle.rng_model.specs.matching.GrammarReading.{reading_of}
-use Rattle.rng_ways.specs.views.KnownWays.{AreAllKnown}
-use Rattle.rng_ways.specs.declared.known.Known.{Known}
+use Rattle.rng_pattern_derivatives.specs.views.KnownWays.{AreAllKnown}
+use Rattle.rng_pattern_derivatives.specs.declared.known.Known.{Known}
 use Rattle.rng_deriv.specs.views.Numbers.{AddsStarts, IsInside, Longer, tree_of, way_of}
 use Rattle.rng_deriv.specs.declared.derivatives.Way.{Way}
 use Rattle.rng_deriv.proofs.Numbers.{inside_stays, longer_same, tree_stays}

@@ -8,10 +8,10 @@ use Rattle.std.proofs.lemmas.List.Elements.{All-weaker, All-append, All-head, Al
 use Rattle.rng_model.specs.names.Names.{Name}
 use Rattle.rng_model.specs.simple.Tree.{Simple}
 use Rattle.rng_model.specs.matching.Reading.{Reading}
-use Rattle.rng_matching.specs.plain.Ways.{EachWay}
-use Rattle.rng_matching.specs.plain.LevelStates.{IsBodyNamed, AreStarts, AreOpened}
-use Rattle.rng_matching.proofs.LevelSteps.{IsLinked, opened_more}
-use Rattle.rng_patterns.specs.declared.pattern.PatternNumber.{PatternNumber}
+use Rattle.rng_deriv_laws.specs.plain.Ways.{EachWay}
+use Rattle.rng_deriv_laws.specs.plain.LevelStates.{IsBodyNamed, AreStarts, AreOpened}
+use Rattle.rng_deriv_laws.proofs.LevelSteps.{IsLinked, opened_more}
+use Rattle.rng_pattern_table.specs.declared.pattern.PatternNumber.{PatternNumber}
 use Rattle.rng_deriv.specs.views.Numbers.{Longer, IsInside, tree_of, way_of, AddsStarts}
 use Rattle.rng_deriv.specs.views.Levels.{link_of, IsBodyOf, IsLinkOf, IsLinkWithin, AddsLinks, AddsOpened}
 use Rattle.rng_deriv.specs.declared.derivatives.Way.{Way}

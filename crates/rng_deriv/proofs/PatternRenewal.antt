@@ -5,15 +5,15 @@ use Rattle.std.specs.List.{AllZip}
 use Rattle.std.proofs.lemmas.List.Elements.{All-cons, All-head, All-nil, All-tail}
 use Rattle.rng_model.specs.simple.Table.{Table, tree_at}
 use Rattle.rng_model.specs.declared.simple.PatternId.{PatternId}
-use Rattle.rng_matching.specs.plain.Restricted.{IsRestricted, IsRestrictedBody}
-use Rattle.rng_matching.specs.plain.Taking.{Same}
-use Rattle.rng_patterns.specs.views.Node.{Node}
-use Rattle.rng_patterns.specs.views.Taking.{tree_by}
-use Rattle.rng_patterns.specs.views.Trees.{trees, tree_of}
-use Rattle.rng_patterns.specs.declared.pattern.PatternNumber.{PatternNumber}
-use Rattle.rng_patterns.proofs.Trees.{length-trees}
-use Rattle.rng_ways.specs.plain.Kinds.{Obeys}
-use Rattle.rng_ways.proofs.Starts.{body_inside}
+use Rattle.rng_deriv_laws.specs.plain.Restricted.{IsRestricted, IsRestrictedBody}
+use Rattle.rng_deriv_laws.specs.plain.Taking.{Same}
+use Rattle.rng_pattern_table.specs.views.Node.{Node}
+use Rattle.rng_pattern_table.specs.views.Taking.{tree_by}
+use Rattle.rng_pattern_table.specs.views.Trees.{trees, tree_of}
+use Rattle.rng_pattern_table.specs.declared.pattern.PatternNumber.{PatternNumber}
+use Rattle.rng_pattern_table.proofs.Trees.{length-trees}
+use Rattle.rng_pattern_derivatives.specs.plain.Kinds.{Obeys}
+use Rattle.rng_pattern_derivatives.proofs.Starts.{body_inside}
 use Rattle.rng_deriv.specs.views.Numbers as numbers
 use Rattle.rng_deriv.specs.views.Numbers.{AreRenewed, IsInside}
 use Rattle.rng_deriv.proofs.LevelRenewal.{zip_split}

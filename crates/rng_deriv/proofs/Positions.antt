@@ -8,9 +8,9 @@ use Rattle.rng_model.specs.datatypes.Texts.{is_blank}
 use Rattle.rng_model.specs.matching.Document.{Attribute}
 use Rattle.rng_model.specs.documents.PyxTrees.{a_start, a_string, an_end}
 use Rattle.rng_model.specs.matching.Reading.{Reading}
-use Rattle.rng_matching.specs.plain.LevelStates.{IsAfterText, StartsLevel, LevelState, EndsLevel, EndsNow, EndsWith}
-use Rattle.rng_matching.specs.plain.LevelEvents.{LevelMatcher, SettlesLevels, StepsTo, as_blank, as_text, at_start, at_string, at_end, at_end_of_text, at_stray_end}
-use Rattle.rng_patterns.specs.declared.pattern.PatternNumber.{PatternNumber}
+use Rattle.rng_deriv_laws.specs.plain.LevelStates.{IsAfterText, StartsLevel, LevelState, EndsLevel, EndsNow, EndsWith}
+use Rattle.rng_deriv_laws.specs.plain.LevelEvents.{LevelMatcher, SettlesLevels, StepsTo, as_blank, as_text, at_start, at_string, at_end, at_end_of_text, at_stray_end}
+use Rattle.rng_pattern_table.specs.declared.pattern.PatternNumber.{PatternNumber}
 use Rattle.rng_deriv.specs.views.Numbers.{Longer, IsInside, tree_of, AddsEach}
 use Rattle.rng_deriv.specs.views.Levels.{AreEndsWith}
 use Rattle.rng_deriv.specs.views.States.{state_of, IsStateInside, AddsState, EndsBy, EndsIf, levels_of, IsLevelInside}

@@ -13,29 +13,29 @@ use Rattle.rng_model.specs.simple.Table.{IsTable, Table, grammar_of, tree_at}
 use Rattle.rng_model.specs.simple.Tree.{Simple}
 use Rattle.rng_model.specs.declared.simple.PatternId.{PatternId}
 use Rattle.rng_model.specs.restrictions.BreaksNone.{BreaksNone}
-use Rattle.rng_matching.specs.plain.LevelStates.{IsAfterTag, IsAfterText}
-use Rattle.rng_matching.specs.plain.Restricted.{IsRestricted, IsRestrictedBody}
-use Rattle.rng_matching.specs.plain.Taking.{Same, Takes}
-use Rattle.rng_matching.proofs.Restricted.{bodies_restricted, start_restricted}
-use Rattle.rng_patterns.specs.views.Choices.{SomeTakes}
-use Rattle.rng_patterns.specs.plain.Kept.{AreRestrictedAlike}
-use Rattle.rng_patterns.specs.views.Node.{Node}
-use Rattle.rng_patterns.specs.views.PatternTable.{Longer}
-use Rattle.rng_patterns.specs.views.Taking.{AreTaken}
-use Rattle.rng_patterns.specs.views.Trees.{trees, tree_of, tree_over, tree_in, with_tree}
-use Rattle.rng_patterns.specs.declared.pattern.PatternNumber.{PatternNumber}
-use Rattle.rng_patterns.proofs.Trees.{length-trees, Longer-trans}
-use Rattle.rng_ways.specs.plain.After.{IsLeftOfTag}
-use Rattle.rng_ways.specs.plain.Kinds.{Obeys}
+use Rattle.rng_deriv_laws.specs.plain.LevelStates.{IsAfterTag, IsAfterText}
+use Rattle.rng_deriv_laws.specs.plain.Restricted.{IsRestricted, IsRestrictedBody}
+use Rattle.rng_deriv_laws.specs.plain.Taking.{Same, Takes}
+use Rattle.rng_deriv_laws.proofs.Restricted.{bodies_restricted, start_restricted}
+use Rattle.rng_pattern_table.specs.views.Choices.{SomeTakes}
+use Rattle.rng_pattern_table.specs.plain.Kept.{AreRestrictedAlike}
+use Rattle.rng_pattern_table.specs.views.Node.{Node}
+use Rattle.rng_pattern_table.specs.views.PatternTable.{Longer}
+use Rattle.rng_pattern_table.specs.views.Taking.{AreTaken}
+use Rattle.rng_pattern_table.specs.views.Trees.{trees, tree_of, tree_over, tree_in, with_tree}
+use Rattle.rng_pattern_table.specs.declared.pattern.PatternNumber.{PatternNumber}
+use Rattle.rng_pattern_table.proofs.Trees.{length-trees, Longer-trans}
+use Rattle.rng_pattern_derivatives.specs.plain.After.{IsLeftOfTag}
+use Rattle.rng_pattern_derivatives.specs.plain.Kinds.{Obeys}
 use Rattle.rng_model.specs.matching.GrammarReading.{reading_of}
-use Rattle.rng_ways.specs.plain.Starting as starting
-use Rattle.rng_ways.specs.plain.Ways.{ways_by}
-use Rattle.rng_ways.specs.declared.known.Known.{Known}
-use Rattle.rng_ways.specs.declared.way.Place.{Place}
-use Rattle.rng_ways.specs.declared.way.Place.TheVariants as places
-use Rattle.rng_ways.specs.declared.way.Way as numbered
-use Rattle.rng_ways.proofs.Rows.{body_there}
-use Rattle.rng_ways.proofs.Starts.{bodies_longer, body_inside, ready_longer}
+use Rattle.rng_pattern_derivatives.specs.plain.Starting as starting
+use Rattle.rng_pattern_derivatives.specs.plain.Ways.{ways_by}
+use Rattle.rng_pattern_derivatives.specs.declared.known.Known.{Known}
+use Rattle.rng_pattern_derivatives.specs.declared.way.Place.{Place}
+use Rattle.rng_pattern_derivatives.specs.declared.way.Place.TheVariants as places
+use Rattle.rng_pattern_derivatives.specs.declared.way.Way as numbered
+use Rattle.rng_pattern_derivatives.proofs.Rows.{body_there}
+use Rattle.rng_pattern_derivatives.proofs.Starts.{bodies_longer, body_inside, ready_longer}
 use Rattle.rng_deriv.specs.views.Numbers as numbers
 use Rattle.rng_deriv.specs.views.Numbers.{Adds, AddsStarts, IsChoiceOf, IsInside}
 use Rattle.rng_deriv.specs.declared.derivatives.Way.{Way}

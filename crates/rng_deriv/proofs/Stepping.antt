@@ -6,9 +6,9 @@ use Rattle.rng_model.specs.names.Names.{Name}
 use Rattle.rng_model.specs.simple.Tree.{Simple}
 use Rattle.rng_model.specs.matching.Document.{Attribute}
 use Rattle.rng_model.specs.matching.Reading.{Reading}
-use Rattle.rng_matching.specs.plain.LevelStates as level
-use Rattle.rng_matching.specs.plain.LevelStates.{IsAfterTag, AreOpened, StartsLevel, LevelState, EndsLevel, IsAfterText, TakesString}
-use Rattle.rng_patterns.specs.declared.pattern.PatternNumber.{PatternNumber}
+use Rattle.rng_deriv_laws.specs.plain.LevelStates as level
+use Rattle.rng_deriv_laws.specs.plain.LevelStates.{IsAfterTag, AreOpened, StartsLevel, LevelState, EndsLevel, IsAfterText, TakesString}
+use Rattle.rng_pattern_table.specs.declared.pattern.PatternNumber.{PatternNumber}
 use Rattle.rng_deriv.specs.views.Numbers.{Longer, IsInside, tree_of, AddsEach}
 use Rattle.rng_deriv.specs.views.Levels.{link_of, IsLinkWithin, IsRestWithin, AddsOpened, AddsEnded}
 use Rattle.rng_deriv.specs.views.States.{with_level, levels_of, state_of, IsLevelInside, IsStateInside, AddsState, EndsBy, EndsLevelBy}

@@ -1,6 +1,6 @@
 // The end of an element, with what stood in it.
 ghost use Rattle.std.specs.Prelude.{◌≡◌, ℕ, List, OnOk, length};
-ghost use Rattle.rng_matching.specs.plain.LevelStates.{EndsNow, EndsWith};
+ghost use Rattle.rng_deriv_laws.specs.plain.LevelStates.{EndsNow, EndsWith};
 ghost use Rattle.rng_deriv.specs.views.States.{AddsState, EndsIf, IsStateInside, state_of};
 ghost use Rattle.rng_deriv.specs.views.Strings.{IsHeld, IsHeldInside};
 

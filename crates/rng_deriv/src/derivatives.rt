@@ -3,14 +3,14 @@ ghost use Rattle.std.specs.Prelude.{◌≡◌, ℕ, List, All, IfOk, OnOk, map};
 ghost use Rattle.rng_model.specs.simple.Tree.{Simple};
 ghost use Rattle.rng_model.specs.documents.DocumentViews.{attribute_of};
 ghost use Rattle.rng_model.specs.names.NameViews.{name_of};
-ghost use Rattle.rng_matching.specs.plain.Derivatives as tree;
-ghost use Rattle.rng_matching.specs.plain.LevelStates.{IsAfterTag, IsAfterText};
+ghost use Rattle.rng_deriv_laws.specs.plain.Derivatives as tree;
+ghost use Rattle.rng_deriv_laws.specs.plain.LevelStates.{IsAfterTag, IsAfterText};
 ghost use Rattle.rng_model.specs.matching.Reading.{Reading};
 ghost use Rattle.rng_deriv.specs.views.Numbers.{Adds, AddsStarts, AreRenewed, IsChoiceOf, IsInside, tree_of};
 
 use crate::lists::Ways;
 use rng_model::{Attr, Name, OutOfMemory};
-use rng_patterns::PatternNumber;
+use rng_pattern_table::PatternNumber;
 use std::alloc::Global;
 
 /// The body of an element, and the pattern of what may follow the element.

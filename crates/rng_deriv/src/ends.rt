@@ -1,8 +1,8 @@
 // The end of an element.
 ghost use Rattle.std.specs.Prelude.{◌≡◌, ◌↔◌, ◌<◌, ◌||◌, ◌&&◌, [], ◌∷◌, All, IfOk, IfSome, OnOk, Some, length, map, slice_get, true};
 ghost use Rattle.std.specs.List.{AllZip, list_any};
-ghost use Rattle.rng_matching.specs.plain.LevelStates.{EndsNow};
-ghost use Rattle.rng_matching.specs.plain.Derivatives.{is_nullable};
+ghost use Rattle.rng_deriv_laws.specs.plain.LevelStates.{EndsNow};
+ghost use Rattle.rng_deriv_laws.specs.plain.Derivatives.{is_nullable};
 ghost use Rattle.rng_deriv.specs.views.Levels.{AddsEnded, AreEndsWith, IsOnlyRest, IsRestWithin, LeavesBy};
 ghost use Rattle.rng_deriv.specs.views.Numbers.{Adds, IsChoiceOf, IsInside, tree_of};
 
@@ -10,7 +10,7 @@ use crate::derivatives::Derivatives;
 use crate::links::Link;
 use crate::lists::{Numbers, Tests};
 use rng_model::OutOfMemory;
-use rng_patterns::PatternNumber;
+use rng_pattern_table::PatternNumber;
 use smallvec::SmallVec;
 use std::alloc::Global;
 

@@ -2,9 +2,9 @@
 ghost use Rattle.std.specs.Prelude.{◌≡◌, IfOk};
 ghost use Rattle.rng_model.specs.simple.Table.{grammar_of, tree_at};
 ghost use Rattle.rng_model.specs.restrictions.BreaksNone.{BreaksNone};
-ghost use Rattle.rng_matching.specs.plain.Taking.{Same};
+ghost use Rattle.rng_deriv_laws.specs.plain.Taking.{Same};
 ghost use Rattle.rng_deriv.specs.views.Numbers.{IsInside, tree_of};
-ghost use Rattle.rng_patterns.specs.views.Trees.{trees};
+ghost use Rattle.rng_pattern_table.specs.views.Trees.{trees};
 ghost use Rattle.rng_model.specs.matching.GrammarReading.{reading_of};
 
 use crate::derivatives::Derivatives;
@@ -14,8 +14,8 @@ use crate::start_memo::{StartKey, StartMemo, copied, keep, kept};
 use crate::starts::joined_ways;
 use rng_model::{Attr, Name, OutOfMemory, SimpleGrammar};
 use rng_names::NameKeys;
-use rng_patterns::{PatternNumber, PatternTable};
-use rng_ways::{Known, after_tag, after_text, start};
+use rng_pattern_derivatives::{Known, after_tag, after_text, start};
+use rng_pattern_table::{PatternNumber, PatternTable};
 use std::alloc::Global;
 use std::collections::HashMap;
 use std::marker::Model;
@@ -47,7 +47,7 @@ pub struct GrammarDerivatives<'a> {
 impl<'a> Model for GrammarDerivatives<'a> {
     ghost use Rattle.std.specs.Prelude.{List};
     ghost use Rattle.rng_model.specs.simple.Table.{Table};
-    ghost use Rattle.rng_patterns.specs.views.Node.{Node};
+    ghost use Rattle.rng_pattern_table.specs.views.Node.{Node};
     ghost use Rattle.rng_deriv.specs.views.Serving.{IsServedBy, nodes_unless};
 
     ghost Value = { Table × List Node };

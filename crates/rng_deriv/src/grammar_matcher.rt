@@ -3,7 +3,7 @@ ghost use Rattle.std.specs.Prelude.{◌≡◌, [], IfOk};
 ghost use Rattle.rng_model.specs.simple.Table.{grammar_of};
 ghost use Rattle.rng_model.specs.restrictions.BreaksNone.{BreaksNone};
 ghost use Rattle.rng_deriv.specs.views.Positions.{IsKnown};
-ghost use Rattle.rng_patterns.specs.views.Trees.{trees};
+ghost use Rattle.rng_pattern_table.specs.views.Trees.{trees};
 ghost use Rattle.rng_model.specs.matching.GrammarReading.{reading_of};
 
 use crate::event_matcher::Matcher;

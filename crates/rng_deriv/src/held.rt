@@ -8,7 +8,7 @@ use crate::derivatives::Derivatives;
 use crate::levels::after_string;
 use crate::lists::Numbers;
 use rng_model::OutOfMemory;
-use rng_patterns::PatternNumber;
+use rng_pattern_table::PatternNumber;
 use std::alloc::Global;
 
 /// A string: whether it is blank, and what is left of each alternative after it.

@@ -11,7 +11,7 @@ use crate::links::Link;
 use crate::position::Position;
 use crate::state::{Level, State};
 use rng_model::OutOfMemory;
-use rng_patterns::PatternNumber;
+use rng_pattern_table::PatternNumber;
 use smallvec::SmallVec;
 use std::alloc::Global;
 

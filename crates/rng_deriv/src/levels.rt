@@ -1,13 +1,13 @@
 // Levels of open elements, at each event.
 ghost use Rattle.std.specs.Prelude.{◌≡◌, All, IfOk, OnOk, map};
 ghost use Rattle.rng_model.specs.documents.DocumentViews.{attribute_of};
-ghost use Rattle.rng_matching.specs.plain.LevelStates.{IsAfterTag, IsAfterText};
+ghost use Rattle.rng_deriv_laws.specs.plain.LevelStates.{IsAfterTag, IsAfterText};
 ghost use Rattle.rng_deriv.specs.views.Numbers.{AddsEach, IsInside};
 
 use crate::derivatives::Derivatives;
 use crate::lists::Numbers;
 use rng_model::{Attr, OutOfMemory};
-use rng_patterns::PatternNumber;
+use rng_pattern_table::PatternNumber;
 use smallvec::SmallVec;
 use std::alloc::Global;
 

@@ -2,8 +2,8 @@
 //!
 //! `matcher` makes it for a grammar that breaks none of the restrictions. Open elements are levels: of the innermost the
 //! matcher keeps alternatives for what remains of it, and of each the ways out into the alternatives around it
-//! (`rng_matching`'s `LevelStates`). What is left of a pattern is asked of `Derivatives`, which `GrammarDerivatives` meets: the
-//! patterns of the grammar stand in a table, equal ones once, and what is left of one is another (`rng_ways`), which takes
+//! (`rng_deriv_laws`'s `LevelStates`). What is left of a pattern is asked of `Derivatives`, which `GrammarDerivatives` meets: the
+//! patterns of the grammar stand in a table, equal ones once, and what is left of one is another (`rng_pattern_derivatives`), which takes
 //! exactly what may follow (RELAX NG Specification, sections 6.2 and 7). Where there are too many patterns, those that no level
 //! holds are let go.
 #![tactic(auto)]

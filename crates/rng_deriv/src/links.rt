@@ -7,7 +7,7 @@ ghost use Rattle.rng_deriv.specs.views.Numbers.{IsInside};
 use crate::derivatives::{Derivatives, Way};
 use crate::lists::{Links, Numbers};
 use rng_model::{Name, OutOfMemory};
-use rng_patterns::PatternNumber;
+use rng_pattern_table::PatternNumber;
 use smallvec::SmallVec;
 use std::alloc::Global;
 

@@ -1,7 +1,7 @@
 // Short lists, which take no memory of their own where they are as short as nearly all are.
 use crate::derivatives::Way;
 use crate::links::Link;
-use rng_patterns::PatternNumber;
+use rng_pattern_table::PatternNumber;
 use smallvec::SmallVec;
 
 /// Alternatives: two at most for nearly all elements.

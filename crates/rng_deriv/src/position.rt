@@ -4,7 +4,7 @@ ghost use Rattle.rng_model.specs.documents.PyxTrees as trees;
 ghost use Rattle.rng_model.specs.simple.Tree.{Simple};
 ghost use Rattle.rng_model.specs.documents.DocumentViews.{attribute_of};
 ghost use Rattle.rng_model.specs.names.NameViews.{name_of};
-ghost use Rattle.rng_matching.specs.plain.LevelEvents.{LevelMatcher, SettlesLevels};
+ghost use Rattle.rng_deriv_laws.specs.plain.LevelEvents.{LevelMatcher, SettlesLevels};
 ghost use Rattle.rng_model.specs.matching.Reading.{Reading};
 ghost use Rattle.rng_deriv.specs.views.Positions.{AddsStep, IsPositionInside, IsPositionOf};
 ghost use Rattle.rng_deriv.specs.views.States.{IsStateInside, state_of};

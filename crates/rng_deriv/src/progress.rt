@@ -3,7 +3,7 @@ ghost use Rattle.std.specs.Prelude.{◌≡◌, ℕ, All, IfOk, IsErr, OnOk};
 ghost use Rattle.std.specs.List.{list_all};
 ghost use Rattle.rng_model.specs.documents.EventView.{event_of, kind_of};
 ghost use Rattle.rng_model.specs.documents.PyxTrees as trees;
-ghost use Rattle.rng_matching.specs.plain.Derivatives.{is_not_allowed};
+ghost use Rattle.rng_deriv_laws.specs.plain.Derivatives.{is_not_allowed};
 ghost use Rattle.rng_deriv.specs.views.Numbers.{IsInside, tree_of};
 ghost use Rattle.rng_deriv.specs.views.Positions.{AddsProgress, AddsStep, HasCome, IsKnown, IsLost, IsPositionInside, IsProgressInside, progress_at};
 
@@ -11,7 +11,7 @@ use crate::derivatives::Derivatives;
 use crate::level_renewal::renew;
 use crate::position::{Position, after_end, after_start, after_text};
 use rng_model::{Event, EventKind, OutOfMemory};
-use rng_patterns::PatternNumber;
+use rng_pattern_table::PatternNumber;
 use std::alloc::Global;
 
 /// What is known of a document.

@@ -8,7 +8,7 @@ use crate::derivatives::Way;
 use crate::lists::Ways;
 use rng_model::OutOfMemory;
 use rng_names::NameKey;
-use rng_patterns::PatternNumber;
+use rng_pattern_table::PatternNumber;
 use smallvec::SmallVec;
 use std::alloc::Global;
 use std::collections::HashMap;

@@ -2,16 +2,16 @@
 ghost use Rattle.std.specs.Prelude.{◌≡◌, ◌||◌, ◌<◌, All, IfOk, IfNone, IfSome, OnOk, Some, length, slice_get};
 ghost use Rattle.rng_model.specs.simple.Table.{Table};
 ghost use Rattle.rng_deriv.specs.declared.derivatives.Way.{Way};
-ghost use Rattle.rng_matching.specs.plain.Derivatives.{is_not_allowed};
-ghost use Rattle.rng_patterns.specs.views.PatternTable.{Longer};
-ghost use Rattle.rng_patterns.specs.views.Trees.{tree_of};
-ghost use Rattle.rng_ways.specs.plain.Ways.{AreInside, IsInside, IsTakenOut, ways_by};
+ghost use Rattle.rng_deriv_laws.specs.plain.Derivatives.{is_not_allowed};
+ghost use Rattle.rng_pattern_table.specs.views.PatternTable.{Longer};
+ghost use Rattle.rng_pattern_table.specs.views.Trees.{tree_of};
+ghost use Rattle.rng_pattern_derivatives.specs.plain.Ways.{AreInside, IsInside, IsTakenOut, ways_by};
 ghost use Rattle.rng_deriv.specs.views.Starts.{IsWayInside, OpensLike, with_way};
 
 use crate::derivatives::Way;
 use crate::lists::Ways;
 use rng_model::OutOfMemory;
-use rng_patterns::{PatternNumber, PatternTable};
+use rng_pattern_table::{PatternNumber, PatternTable};
 use smallvec::SmallVec;
 use std::alloc::Global;
 
@@ -51,7 +51,7 @@ fn add_way(
     alloc: Global,
     table: &mut PatternTable,
     all: &mut Ways,
-    way: rng_ways::Way,
+    way: rng_pattern_derivatives::Way,
 ) -> Result<(), OutOfMemory>
     requires inside { All (IsWayInside table.old) all.old.items }
     requires way { IsInside table.old way }
@@ -79,7 +79,7 @@ fn add_way(
 pub fn joined_ways(
     alloc: Global,
     table: &mut PatternTable,
-    ways: &[rng_ways::Way],
+    ways: &[rng_pattern_derivatives::Way],
 ) -> Result<Ways, OutOfMemory>
     requires { AreInside table.old ways.now }
     ensures longer { OnOk result (Longer table.old table.new) }

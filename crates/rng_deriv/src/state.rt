@@ -2,7 +2,7 @@
 ghost use Rattle.std.specs.Prelude.{◌≡◌, All, OnOk, length, map};
 ghost use Rattle.rng_model.specs.documents.DocumentViews.{attribute_of};
 ghost use Rattle.rng_model.specs.names.NameViews.{name_of};
-ghost use Rattle.rng_matching.specs.plain.LevelStates.{StartsLevel};
+ghost use Rattle.rng_deriv_laws.specs.plain.LevelStates.{StartsLevel};
 ghost use Rattle.rng_deriv.specs.views.Numbers.{IsInside};
 ghost use Rattle.rng_deriv.specs.views.States.{AddsState, EndsBy, IsStateInside, state_of};
 

@@ -27,7 +27,7 @@ use Rattle.rng_model.specs.schema.Unfolding as unfolding_of
 use Rattle.rng_model.specs.schema.Unfolding.{Leaf, to_element, outside, aim, Unfolds, UnfoldAll, IsTreeOf, IsBodyOf}
 use Rattle.rng_model.specs.schema.Reached.{IsReachedBySimpleForms, from_simple_start, from_simple_body}
 use Rattle.rng_model.proofs.Unfolding.{some_is}
-use Rattle.rng_components.proofs.KeptDatatypes.{data_known, data_except_known, value_allowed}
+use Rattle.rng_schema_checks.proofs.KeptDatatypes.{data_known, data_except_known, value_allowed}
 use Rattle.rng_graph.proofs.ResolvedBodies.{none_is_not_some}
 use Rattle.rng_model.specs.datatypes.KnownDatatypes.{AreGrammarDatatypesKnown}
 

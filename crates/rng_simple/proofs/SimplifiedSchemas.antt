@@ -7,7 +7,7 @@ use Rattle.rng_model.specs.schema.SchemaClauses.{BreaksSchemaClause, BreaksExpan
 use Rattle.rng_model.specs.schema.SchemaClauses as clauses
 use Rattle.rng_model.specs.declared.fault.SchemaFault.{SchemaFault}
 use Rattle.rng_model.specs.declared.fault.SchemaFault.TheVariants as faults
-use Rattle.rng_components.specs.plain.Judged.{IsComponentFault, last_clause}
+use Rattle.rng_schema_checks.specs.plain.Judged.{IsComponentFault, last_clause}
 use Rattle.rng_graph.specs.views.ExpansionOrder.{IsExpansionFault}
 use Rattle.rng_graph.specs.plain.ReadySchema.{IsReady}
 use Rattle.rng_graph.proofs.ReadySchemas.{ready}

@@ -10,10 +10,10 @@ ghost use Rattle.rng_model.specs.datatypes.KnownDatatypes.{AreGrammarDatatypesKn
 ghost use Rattle.rng_model.specs.simple.SimplifiedSchema.{AreAllUsed, IsSchemaFault};
 
 use crate::schema_form::simple_grammar;
-use rng_components::check_components;
 use rng_graph::{expansion_order, schema_graph};
 use rng_load::Schema;
 use rng_model::{SchemaFault, SimpleGrammar};
+use rng_schema_checks::check_components;
 use std::alloc::Global;
 
 /// The simple form of a schema, by the rules of sections 4.12 to 4.15 and 4.17 to 4.21 of the RELAX NG Specification; or the first clause that it

@@ -5,9 +5,9 @@ use Rattle.rng_model.specs.names.Names.{Name}
 use Rattle.rng_model.specs.simple.Tree.{Simple}
 use Rattle.rng_model.specs.datatypes.Texts.{is_blank}
 use Rattle.rng_model.specs.matching.Reading.{Reading}
-use Rattle.rng_matching.specs.plain.LevelStates as level
-use Rattle.rng_matching.specs.plain.LevelStates.{AreOpened, AreEnded, IsAfterText, EndsWith}
-use Rattle.rng_patterns.specs.declared.pattern.PatternNumber.{PatternNumber}
+use Rattle.rng_deriv_laws.specs.plain.LevelStates as level
+use Rattle.rng_deriv_laws.specs.plain.LevelStates.{AreOpened, AreEnded, IsAfterText, EndsWith}
+use Rattle.rng_pattern_table.specs.declared.pattern.PatternNumber.{PatternNumber}
 use Rattle.rng_deriv.specs.views.Numbers.{Longer, IsInside, tree_of}
 use Rattle.rng_deriv.specs.declared.derivatives.Way.{Way}
 use Rattle.rng_deriv.specs.declared.links.Link.{Link}

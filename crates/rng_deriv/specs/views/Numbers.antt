@@ -5,12 +5,12 @@ use Rattle.rng_model.specs.names.Names.{Name}
 use Rattle.rng_model.specs.simple.Tree.{Simple}
 use Rattle.rng_model.specs.matching.Document.{Item}
 use Rattle.rng_model.specs.matching.Reading.{Reading}
-use Rattle.rng_matching.specs.plain.Taking.{Takes}
-use Rattle.rng_matching.specs.plain.Restricted.{IsRestricted}
-use Rattle.rng_matching.specs.plain.Derivatives as tree
-use Rattle.rng_matching.specs.plain.LevelStates.{AreStarts}
-use Rattle.rng_patterns.specs.views.Trees.{tree_in}
-use Rattle.rng_patterns.specs.declared.pattern.PatternNumber.{PatternNumber}
+use Rattle.rng_deriv_laws.specs.plain.Taking.{Takes}
+use Rattle.rng_deriv_laws.specs.plain.Restricted.{IsRestricted}
+use Rattle.rng_deriv_laws.specs.plain.Derivatives as tree
+use Rattle.rng_deriv_laws.specs.plain.LevelStates.{AreStarts}
+use Rattle.rng_pattern_table.specs.views.Trees.{tree_in}
+use Rattle.rng_pattern_table.specs.declared.pattern.PatternNumber.{PatternNumber}
 use Rattle.rng_deriv.specs.declared.derivatives.Way.{Way}
 
 -- some patterns were added

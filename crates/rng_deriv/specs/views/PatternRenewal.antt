@@ -2,9 +2,9 @@
 use Rattle.std.specs.Prelude.{◌≡◌, ◌<◌, List, length}
 use Rattle.std.specs.List.{AllZip}
 use Rattle.rng_model.specs.simple.Table.{Table}
-use Rattle.rng_patterns.specs.views.Node.{Node}
-use Rattle.rng_patterns.specs.views.Trees.{tree_of}
-use Rattle.rng_patterns.specs.declared.pattern.PatternNumber.{PatternNumber}
+use Rattle.rng_pattern_table.specs.views.Node.{Node}
+use Rattle.rng_pattern_table.specs.views.Trees.{tree_of}
+use Rattle.rng_pattern_table.specs.declared.pattern.PatternNumber.{PatternNumber}
 
 -- the number in the new table stands for the tree of that in the old one
 abbrev pub IsSameTree : Table → List Node → List Node → PatternNumber → PatternNumber → Type 0

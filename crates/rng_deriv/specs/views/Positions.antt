@@ -3,8 +3,8 @@ use Rattle.std.specs.Prelude.{◌≡◌, ◌⊎◌, ⊤, ℕ, List, [], ◌∷�
 use Rattle.rng_model.specs.simple.Tree.{Simple}
 use Rattle.rng_model.specs.documents.PyxTrees.{Event, EventKind}
 use Rattle.rng_model.specs.matching.Reading.{Reading}
-use Rattle.rng_matching.specs.plain.Events.{kinds}
-use Rattle.rng_matching.specs.plain.LevelEvents.{LevelMatcher, StepsTo, StandsFor}
+use Rattle.rng_deriv_laws.specs.plain.Events.{kinds}
+use Rattle.rng_deriv_laws.specs.plain.LevelEvents.{LevelMatcher, StepsTo, StandsFor}
 use Rattle.rng_deriv.specs.views.Numbers.{Longer}
 use Rattle.rng_deriv.specs.views.States.{state_of, IsStateInside}
 use Rattle.rng_deriv.specs.views.Strings.{IsHeld, IsHeldInside}

@@ -5,11 +5,11 @@ use Rattle.std.specs.HashMap.{HashMap}
 use Rattle.rng_names.specs.plain.Keys.{Keys, KeysServe}
 use Rattle.rng_deriv.specs.declared.derivatives.Way.{Way}
 use Rattle.rng_model.specs.simple.Table.{Table}
-use Rattle.rng_patterns.specs.views.Node.{Node}
-use Rattle.rng_patterns.specs.declared.pattern.PatternNumber.{PatternNumber}
-use Rattle.rng_ways.specs.views.KnownWays.{AreAllKnown}
-use Rattle.rng_ways.specs.plain.Starting.{IsReady, HasRestrictedBodies}
-use Rattle.rng_ways.specs.declared.known.Known.{Known}
+use Rattle.rng_pattern_table.specs.views.Node.{Node}
+use Rattle.rng_pattern_table.specs.declared.pattern.PatternNumber.{PatternNumber}
+use Rattle.rng_pattern_derivatives.specs.views.KnownWays.{AreAllKnown}
+use Rattle.rng_pattern_derivatives.specs.plain.Starting.{IsReady, HasRestrictedBodies}
+use Rattle.rng_pattern_derivatives.specs.declared.known.Known.{Known}
 use Rattle.rng_deriv.specs.views.StartMemo.{AreAnswers}
 use Rattle.rng_deriv.specs.declared.start_memo.StartKey.{StartKey}
 

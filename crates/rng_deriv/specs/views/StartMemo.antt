@@ -7,8 +7,8 @@ use Rattle.rng_model.specs.simple.Table.{Table}
 use Rattle.rng_names.specs.plain.Keys.{Keys, key_of}
 use Rattle.rng_deriv.specs.views.Numbers.{AddsStarts, IsInside, tree_of}
 use Rattle.rng_deriv.specs.declared.derivatives.Way.{Way}
-use Rattle.rng_patterns.specs.views.Node.{Node}
-use Rattle.rng_patterns.specs.views.Trees.{trees}
+use Rattle.rng_pattern_table.specs.views.Node.{Node}
+use Rattle.rng_pattern_table.specs.views.Trees.{trees}
 use Rattle.rng_model.specs.matching.GrammarReading.{reading_of}
 use Rattle.rng_deriv.specs.declared.start_memo.StartKey.{StartKey}
 use Rattle.rng_deriv.specs.contracts.start_memo.StartKeyPartialEq.TheImpl as same

@@ -3,17 +3,17 @@ use Rattle.std.specs.Prelude.{◌↔◌, ◌<◌, List, [], ◌∷◌, ◌++◌,
 use Rattle.rng_model.specs.names.Names.{Name}
 use Rattle.rng_model.specs.matching.Document.{Attribute, Item}
 use Rattle.rng_model.specs.simple.Table.{Table}
-use Rattle.rng_matching.specs.plain.Derivatives as tree
-use Rattle.rng_matching.specs.plain.Restricted.{IsRestricted}
-use Rattle.rng_matching.specs.plain.Ways.{EachWay, Opens}
+use Rattle.rng_deriv_laws.specs.plain.Derivatives as tree
+use Rattle.rng_deriv_laws.specs.plain.Restricted.{IsRestricted}
+use Rattle.rng_deriv_laws.specs.plain.Ways.{EachWay, Opens}
 use Rattle.rng_deriv.specs.views.Numbers.{way_of}
 use Rattle.rng_deriv.specs.declared.derivatives.Way.{Way}
-use Rattle.rng_patterns.specs.views.Node.{Node}
-use Rattle.rng_patterns.specs.views.Trees.{trees, tree_of}
+use Rattle.rng_pattern_table.specs.views.Node.{Node}
+use Rattle.rng_pattern_table.specs.views.Trees.{trees, tree_of}
 use Rattle.rng_model.specs.matching.GrammarReading.{reading_of}
-use Rattle.rng_ways.specs.plain.Starting.{IsRestrictedBodyNamed}
-use Rattle.rng_ways.specs.plain.Ways.{way_by}
-use Rattle.rng_ways.specs.declared.way.Way as numbered
+use Rattle.rng_pattern_derivatives.specs.plain.Starting.{IsRestrictedBodyNamed}
+use Rattle.rng_pattern_derivatives.specs.plain.Ways.{way_by}
+use Rattle.rng_pattern_derivatives.specs.declared.way.Way as numbered
 
 -- the numbers of the way are numbers of the table
 abbrev pub IsWayInside : List Node → Way → Type 0

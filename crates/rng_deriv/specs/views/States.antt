@@ -2,8 +2,8 @@
 use Rattle.std.specs.Prelude.{◌≡◌, ◌⊎◌, ℕ, List, [], ◌∷◌, All, fold, map, Bool}
 use Rattle.rng_model.specs.simple.Tree.{Simple}
 use Rattle.rng_model.specs.matching.Reading.{Reading}
-use Rattle.rng_matching.specs.plain.LevelStates as level
-use Rattle.rng_matching.specs.plain.LevelStates.{LevelState, AreEnded, EndsLevel}
+use Rattle.rng_deriv_laws.specs.plain.LevelStates as level
+use Rattle.rng_deriv_laws.specs.plain.LevelStates.{LevelState, AreEnded, EndsLevel}
 use Rattle.rng_deriv.specs.views.Numbers.{Longer, IsInside, tree_of}
 use Rattle.rng_deriv.specs.views.Levels.{link_of, IsRestWithin}
 use Rattle.rng_deriv.specs.declared.state.Level.{Level}

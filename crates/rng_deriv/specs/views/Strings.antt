@@ -4,8 +4,8 @@ use Rattle.std.specs.List.{AllZip}
 use Rattle.rng_model.specs.simple.Tree.{Simple}
 use Rattle.rng_model.specs.datatypes.Texts.{is_blank}
 use Rattle.rng_model.specs.matching.Reading.{Reading}
-use Rattle.rng_matching.specs.plain.LevelStates.{IsAfterText}
-use Rattle.rng_patterns.specs.declared.pattern.PatternNumber.{PatternNumber}
+use Rattle.rng_deriv_laws.specs.plain.LevelStates.{IsAfterText}
+use Rattle.rng_pattern_table.specs.declared.pattern.PatternNumber.{PatternNumber}
 use Rattle.rng_deriv.specs.views.Numbers.{Longer, IsInside, tree_of}
 use Rattle.rng_deriv.specs.declared.held.Held.{Held}
 

@@ -1,5 +1,5 @@
 use Rattle.std.proofs.Common.{subst, List, ℕ, OnOk}
-use Rattle.rng_matching.specs.plain.LevelStates.{EndsWith}
+use Rattle.rng_deriv_laws.specs.plain.LevelStates.{EndsWith}
 use Rattle.rng_deriv.specs.views.Levels.{AreEndsWith}
 use Rattle.rng_deriv.specs.views.States.{AddsState, EndsBy, EndsIf, state_of}
 use Rattle.rng_deriv.specs.views.Strings.{AddsHeld, IsHeld}

@@ -1,6 +1,6 @@
 use Rattle.std.proofs.Common.{◌≡◌, take, false}
 use Rattle.std.specs.List.{list_any}
-use Rattle.rng_matching.specs.plain.Derivatives.{is_nullable}
+use Rattle.rng_deriv_laws.specs.plain.Derivatives.{is_nullable}
 use Rattle.rng_deriv.specs.views.Numbers.{tree_of}
 use Rattle.rng_deriv.proofs.ends.some_end.Given as goal
 

@@ -1,6 +1,6 @@
 use Rattle.std.proofs.Common.{◌≡◌, ◌↔◌, map, take, true}
 use Rattle.std.specs.List.{AllZip}
-use Rattle.rng_matching.specs.plain.LevelStates.{EndsNow}
+use Rattle.rng_deriv_laws.specs.plain.LevelStates.{EndsNow}
 use Rattle.rng_deriv.specs.views.Numbers.{tree_of}
 use Rattle.rng_deriv.proofs.ends.which_end.Given as goal
 

@@ -1,8 +1,8 @@
 use Rattle.std.proofs.Common.{[], sym, subst}
 use Rattle.rng_model.specs.simple.Table.{Table, tree_at}
-use Rattle.rng_matching.specs.plain.Taking.{Same}
+use Rattle.rng_deriv_laws.specs.plain.Taking.{Same}
 use Rattle.rng_deriv.specs.views.Numbers.{tree_of}
-use Rattle.rng_patterns.specs.views.Trees.{trees}
+use Rattle.rng_pattern_table.specs.views.Trees.{trees}
 use Rattle.rng_model.specs.matching.GrammarReading.{reading_of}
 use Rattle.rng_deriv.proofs.grammar_matcher.matcher.Goals as goal
 

@@ -1,6 +1,6 @@
 use Rattle.std.proofs.Common.{rules, ◌≡◌, ◌∙◌, refl, sym, ap, length, slice_index_or}
 use Rattle.std.proofs.lemmas.List.{length-set}
-use Rattle.rng_patterns.specs.declared.pattern.PatternNumber.{PatternNumber}
+use Rattle.rng_pattern_table.specs.declared.pattern.PatternNumber.{PatternNumber}
 use Rattle.rng_deriv.specs.declared.links.Link.{Link}
 use Rattle.rng_deriv.proofs.Numbers.{set_lent}
 use Rattle.rng_deriv.proofs.LevelRenewal.{with_at, with_none}

@@ -1,5 +1,5 @@
 use Rattle.std.proofs.Common.{◌∙◌}
-use Rattle.rng_matching.specs.plain.LevelStates.{IsAfterText}
+use Rattle.rng_deriv_laws.specs.plain.LevelStates.{IsAfterText}
 use Rattle.rng_deriv.proofs.Numbers.{each_at}
 use Rattle.rng_deriv.proofs.levels.after_string.Goals as goal
 

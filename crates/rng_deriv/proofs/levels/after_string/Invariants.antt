@@ -1,5 +1,5 @@
 use Rattle.std.proofs.Common.{◌≡◌, take}
-use Rattle.rng_matching.specs.plain.LevelStates.{IsAfterText}
+use Rattle.rng_deriv_laws.specs.plain.LevelStates.{IsAfterText}
 use Rattle.rng_deriv.specs.views.Numbers.{AddsEach}
 use Rattle.rng_deriv.proofs.levels.after_string.Given as goal
 

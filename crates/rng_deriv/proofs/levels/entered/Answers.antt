@@ -1,6 +1,6 @@
 use Rattle.std.proofs.Common.{◌∙◌, map}
 use Rattle.rng_model.specs.documents.DocumentViews.{attribute_of}
-use Rattle.rng_matching.specs.plain.LevelStates.{IsAfterTag}
+use Rattle.rng_deriv_laws.specs.plain.LevelStates.{IsAfterTag}
 use Rattle.rng_deriv.proofs.Numbers.{each_at}
 use Rattle.rng_deriv.proofs.levels.entered.Goals as goal
 

@@ -1,6 +1,6 @@
 use Rattle.std.proofs.Common.{◌≡◌, map, take}
 use Rattle.rng_model.specs.documents.DocumentViews.{attribute_of}
-use Rattle.rng_matching.specs.plain.LevelStates.{IsAfterTag}
+use Rattle.rng_deriv_laws.specs.plain.LevelStates.{IsAfterTag}
 use Rattle.rng_deriv.specs.views.Numbers.{AddsEach}
 use Rattle.rng_deriv.proofs.levels.entered.Given as goal
 

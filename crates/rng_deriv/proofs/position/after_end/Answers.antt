@@ -1,6 +1,6 @@
 use Rattle.std.proofs.Common.{refl, true, subst, List, ℕ, ◌∙◌}
 use Rattle.rng_model.specs.documents.PyxTrees.{an_end}
-use Rattle.rng_matching.specs.plain.LevelStates.{EndsNow, EndsWith}
+use Rattle.rng_deriv_laws.specs.plain.LevelStates.{EndsNow, EndsWith}
 use Rattle.rng_deriv.specs.views.Positions.{AddsStep}
 use Rattle.rng_deriv.specs.declared.position.Position.{Position}
 use Rattle.rng_deriv.specs.views.States.{AddsState, EndsIf, state_of}

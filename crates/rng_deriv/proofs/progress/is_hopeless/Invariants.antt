@@ -1,6 +1,6 @@
 use Rattle.std.proofs.Common.{◌≡◌, take, true}
 use Rattle.std.specs.List.{list_all}
-use Rattle.rng_matching.specs.plain.Derivatives.{is_not_allowed}
+use Rattle.rng_deriv_laws.specs.plain.Derivatives.{is_not_allowed}
 use Rattle.rng_deriv.specs.views.Numbers.{tree_of}
 use Rattle.rng_deriv.proofs.progress.is_hopeless.Given as goal
 

@@ -1,9 +1,9 @@
 use Rattle.std.proofs.Common.{◌≡◌, ◌∙◌, ◌++◌, ◌∷◌, [], List, All, ap, length, sym, subst}
-use Rattle.rng_matching.specs.plain.Restricted.{IsRestricted, IsTyped}
-use Rattle.rng_patterns.proofs.Taking.{choice_of_two}
-use Rattle.rng_patterns.specs.views.Trees.{tree_of}
+use Rattle.rng_deriv_laws.specs.plain.Restricted.{IsRestricted, IsTyped}
+use Rattle.rng_pattern_table.proofs.Taking.{choice_of_two}
+use Rattle.rng_pattern_table.specs.views.Trees.{tree_of}
 use Rattle.rng_model.specs.matching.GrammarReading.{reading_of}
-use Rattle.rng_ways.proofs.Adding.{two_below}
+use Rattle.rng_pattern_derivatives.proofs.Adding.{two_below}
 use Rattle.rng_deriv.specs.declared.derivatives.Way.{Way}
 use Rattle.rng_deriv.specs.views.Starts.{IsWayInside, OpensLike, with_way}
 use Rattle.rng_deriv.proofs.Joining.{all_of_two, at_middle, joined_more, nothing_more}

@@ -1,7 +1,7 @@
 use Rattle.std.proofs.lemmas.Option.{get_or_from_slice_get}
 use Rattle.std.proofs.Common.{◌≡◌, List, Some, slice_get, sym, ap, ◌∙◌, subst}
 use Rattle.rng_deriv.specs.declared.derivatives.Way.{Way}
-use Rattle.rng_ways.proofs.Adding.{taken_out}
+use Rattle.rng_pattern_derivatives.proofs.Adding.{taken_out}
 use Rattle.rng_deriv.proofs.starts.take_rest.Goals as goal
 
 pub returns-clause-found : goal.returns-clause-found

@@ -1,7 +1,7 @@
 use Rattle.std.proofs.Common.{rules, map, subst}
 use Rattle.rng_model.specs.documents.DocumentViews.{attribute_of}
 use Rattle.rng_model.specs.names.NameViews.{name_of}
-use Rattle.rng_matching.specs.plain.LevelStates.{IsAfterTag}
+use Rattle.rng_deriv_laws.specs.plain.LevelStates.{IsAfterTag}
 use Rattle.rng_deriv.specs.views.Levels.{AddsOpened}
 use Rattle.rng_deriv.specs.views.Numbers.{AddsEach}
 use Rattle.rng_deriv.proofs.Stepping.{enters}

@@ -1,7 +1,7 @@
 use Rattle.std.proofs.Common.{◌≡◌, ◌∙◌, sym, subst, true, false}
 use Rattle.std.specs.List.{list_any}
 use Rattle.rng_model.specs.documents.PyxTrees.{events_of}
-use Rattle.rng_matching.specs.plain.Derivatives.{is_nullable}
+use Rattle.rng_deriv_laws.specs.plain.Derivatives.{is_nullable}
 use Rattle.rng_deriv.specs.views.Numbers.{tree_of}
 use Rattle.rng_model.specs.matching.Outcomes.{IsValid, FailsAt}
 use Rattle.rng_deriv.specs.views.Positions.{IsKnown}

@@ -1,6 +1,6 @@
 use Rattle.std.proofs.Common.{◌∙◌, ap, slice_index_or}
 use Rattle.rng_model.specs.declared.simple.PatternId.{PatternId}
-use Rattle.rng_patterns.specs.declared.pattern.PatternNumber.{PatternNumber}
+use Rattle.rng_pattern_table.specs.declared.pattern.PatternNumber.{PatternNumber}
 use Rattle.rng_deriv.proofs.Memo.{none_kept}
 use Rattle.rng_deriv.proofs.Served.{served_first, start_inside, start_same}
 use Rattle.rng_deriv.proofs.grammar_derivatives.GrammarDerivatives.new.Goals as goal

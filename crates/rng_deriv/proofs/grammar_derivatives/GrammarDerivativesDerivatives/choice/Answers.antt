@@ -1,5 +1,5 @@
 use Rattle.rng_model.specs.matching.GrammarReading.{reading_of}
-use Rattle.rng_ways.proofs.KnownWays.{all_longer}
+use Rattle.rng_pattern_derivatives.proofs.KnownWays.{all_longer}
 use Rattle.rng_deriv.proofs.Memo.{serves_longer}
 use Rattle.rng_deriv.proofs.Served.{all_below_there, choice_added, seen_there, there_served}
 use Rattle.rng_deriv.proofs.grammar_derivatives.GrammarDerivativesDerivatives.choice.Goals as goal

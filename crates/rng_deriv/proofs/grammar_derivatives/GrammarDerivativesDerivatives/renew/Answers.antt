@@ -1,5 +1,5 @@
 use Rattle.std.proofs.Common.{List, subst}
-use Rattle.rng_patterns.specs.declared.pattern.PatternNumber.{PatternNumber}
+use Rattle.rng_pattern_table.specs.declared.pattern.PatternNumber.{PatternNumber}
 use Rattle.rng_deriv.specs.views.PatternRenewal.{AreSameTrees}
 use Rattle.rng_deriv.proofs.Memo.{none_kept}
 use Rattle.rng_deriv.proofs.PatternRenewal.{held_renewed, served_renewed}

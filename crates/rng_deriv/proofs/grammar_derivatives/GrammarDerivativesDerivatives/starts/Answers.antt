@@ -2,19 +2,19 @@ use Rattle.std.proofs.Common.{List, refl, subst, sym}
 use Rattle.rng_model.specs.simple.Table.{Table}
 use Rattle.rng_names.specs.plain.Keys.{name_at}
 use Rattle.rng_model.specs.names.NameViews.{name_of}
-use Rattle.rng_patterns.specs.views.Node.{Node}
-use Rattle.rng_patterns.specs.views.Trees.{tree_of, trees}
-use Rattle.rng_patterns.specs.declared.pattern.PatternNumber.{PatternNumber}
-use Rattle.rng_patterns.proofs.Trees.{Longer-trans}
+use Rattle.rng_pattern_table.specs.views.Node.{Node}
+use Rattle.rng_pattern_table.specs.views.Trees.{tree_of, trees}
+use Rattle.rng_pattern_table.specs.declared.pattern.PatternNumber.{PatternNumber}
+use Rattle.rng_pattern_table.proofs.Trees.{Longer-trans}
 use Rattle.rng_model.specs.matching.GrammarReading.{reading_of}
-use Rattle.rng_ways.specs.plain.Ways.{ways_by}
-use Rattle.rng_ways.specs.plain.Starting.{AreStarts}
-use Rattle.rng_ways.specs.declared.way.Way as numbered
+use Rattle.rng_pattern_derivatives.specs.plain.Ways.{ways_by}
+use Rattle.rng_pattern_derivatives.specs.plain.Starting.{AreStarts}
+use Rattle.rng_pattern_derivatives.specs.declared.way.Way as numbered
 use Rattle.rng_deriv.specs.views.Numbers.{AddsStarts, IsInside}
 use Rattle.rng_deriv.specs.views.Numbers as table
 use Rattle.rng_deriv.specs.views.Starts.{OpensLike}
 use Rattle.rng_deriv.specs.declared.start_memo.StartKey.{StartKey}
-use Rattle.rng_ways.proofs.KnownWays.{all_longer}
+use Rattle.rng_pattern_derivatives.proofs.KnownWays.{all_longer}
 use Rattle.rng_deriv.proofs.Memo.{for_each_name, found_added, is_answer, serves_more}
 use Rattle.rng_deriv.proofs.Served.{below_there, seen_there, starts_added, there_served}
 use Rattle.rng_deriv.proofs.grammar_derivatives.GrammarDerivativesDerivatives.starts.Goals as goal

@@ -1,0 +1,150 @@
+// From files and a document to an answer.
+ghost use Rattle.std.specs.Prelude.{◌≡◌, ◌-◌, ◌^◌, ◌<◌, Some, length, true, IfOk, IfErr, OnOk, IsErrOf};
+ghost use Rattle.rng_model.specs.devices.Device.{device_inner, device_failures, device_flushed};
+ghost use Rattle.rncv_run.specs.views.AnswerView.{answer_of, refusal_of};
+ghost use Rattle.rnc_model.specs.loading.Files.{named_files};
+ghost use Rattle.rnc_model.specs.loading.Loading.{FilesVerdict, IsTheFilesVerdict};
+ghost use Rattle.rng_load.specs.views.PlacedGrammars.{schema_of};
+ghost use Rattle.rng_model.specs.schema.Schema.{IsWellPlaced};
+ghost use Rattle.rncv_model.specs.answers.Run.{IsAnswer, IsAnswerBy, JudgesDocuments, JudgesNone, WritesAnswer, WrittenAfter, main_name};
+
+use crate::answer::Answer;
+use crate::compiling::{Compiled, compile};
+use crate::judging::{JudgeFault, document_verdict};
+use rncv_model::{Command, RunFault, Status};
+use rng_load::{Schema, load};
+use rng_model::{Device, OutOfMemory, SchemaFault, write_whole};
+use std::alloc::Global;
+use std::io::{Read, Write};
+
+/// Does what the command asks for with the schema of these files, of which the first is the main one, writes what it
+/// answers, one line or a simple form, and flushes the output.
+///
+/// The line is `refused Sk file NAME` where a file breaks a clause by itself, with the first such file in load order
+/// and the clause that it breaks first, 1 to 8; else `refused S9` or `refused S10` where the files break that together,
+/// S9 before S10; else `refused Sk` with the least clause that their schema breaks, 11 to 27; else `schema ok` for
+/// `Check`; for `Simple` the simple form of the schema, printed as `printed_text` of `rng_print` says; and for `Valid` what the
+/// document is that `input` has left: `malformed Pk line N` with its first fault where it
+/// is no document; else `valid` exactly if it matches the schema by the rules of section 6 of the RELAX NG Specification, read
+/// over the files as they are written; else `invalid line N`, where nothing that begins with its lines up to line N is valid,
+/// and the start of no element with a name that no element of the schema's simple form may have is told before. A line feed ends it. A
+/// refused schema leaves the input unread; the bytes of files that are not reached from the main one are not looked at.
+/// `RunFault::Read` and `RunFault::Write` come only where that device counted a failed call, `RunFault::Memory` only where
+/// neither did; after `Read` and `Memory` nothing was written, after `Write` a beginning of the answer was, or all of it where
+/// the flush failed. A document is read
+/// to its end, or in pieces of 32,768 bytes to the one with the first fault, and judged as it goes by: no more of it is kept
+/// than a tag, a text, the open elements, and what the matcher keeps. The files are kept whole; time is what `load` takes,
+/// and then what `simplify_schema` and `restrict` take, and `Matcher` for each event.
+pub fn run<R: Read, W: Write>(
+    alloc: Global,
+    command: Command,
+    files: &[(String, Vec<u8>)],
+    input: &mut Device<R>,
+    output: &mut Device<W>,
+) -> Result<Status, RunFault>
+    requires files { 0 < length files.now }
+    requires input { device_failures input.old < 2 ^ 64 - 1 }
+    requires output { device_failures output.old < 2 ^ 64 - 1 }
+
+    // Where it answers, no call failed, and the answer is all that was written.
+    ensures calm_input { OnOk result (device_failures input.new ≡ device_failures input.old) }
+    ensures calm_output { OnOk result (device_failures output.new ≡ device_failures output.old) }
+    ensures answer { IfOk result (λ status. WritesAnswer
+        (IsAnswer command (named_files files.now) (main_name files.now) (R.remaining (device_inner input.old)) (R.remaining (device_inner input.new)))
+        status (W.contents (device_inner output.old)) (W.contents (device_inner output.new))) }
+
+    ensures flushed { OnOk result (device_flushed output.new ≡ true) }
+
+    // Where no document is judged by the files, none is read.
+    ensures unread { (verdict : FilesVerdict) → IsTheFilesVerdict (named_files files.now) (main_name files.now) verdict → JudgesNone command (main_name files.now) verdict → input.new ≡ input.old }
+
+    // A fault of a device is answered only where that device counted one.
+    ensures read { IsErrOf result RunFault.Read → device_failures input.old < device_failures input.new }
+    ensures write { IsErrOf result RunFault.Write → device_failures output.old < device_failures output.new }
+    ensures memory { IsErrOf result RunFault.Memory →
+        (device_failures input.new ≡ device_failures input.old) × (device_failures output.new ≡ device_failures output.old) }
+    ensures written { IfErr result (λ fault. WrittenAfter
+        (IsAnswer command (named_files files.now) (main_name files.now) (R.remaining (device_inner input.old)) (R.remaining (device_inner input.new)))
+        fault (W.contents (device_inner output.old)) (W.contents (device_inner output.new))) }
+{
+    let answer = answer_for(alloc, command, files, first_name(files), input)?;
+    let status = answer.status();
+    let Ok(text) = answer.into_output(alloc) else {
+        return Err(RunFault::Memory);
+    };
+    if write_whole(output, text.as_slice()).is_err() {
+        return Err(RunFault::Write);
+    }
+    if output.flush().is_err() {
+        return Err(RunFault::Write);
+    }
+    Ok(status)
+}
+
+/// The name of the first file.
+fn first_name(files: &[(String, Vec<u8>)]) -> &str
+    requires { 0 < length files.now }
+    ensures { result.now ≡ main_name files.now }
+{
+    match files {
+        [(name, _), ..] => name.as_str(),
+        [] => unreachable!(),
+    }
+}
+
+/// What is to be said of the document by the schema of these files, of which the main one has this name.
+fn answer_for<R: Read>(
+    alloc: Global,
+    command: Command,
+    files: &[(String, Vec<u8>)],
+    main: &str,
+    input: &mut Device<R>,
+) -> Result<Answer, JudgeFault>
+    requires { device_failures input.old < 2 ^ 64 - 1 }
+    ensures calm { OnOk result (device_failures input.new ≡ device_failures input.old) }
+    ensures unread { (verdict : FilesVerdict) → IsTheFilesVerdict (named_files files.now) main.now verdict → JudgesNone command main.now verdict → input.new ≡ input.old }
+    ensures read { IsErrOf result JudgeFault.Read → device_failures input.old < device_failures input.new }
+    ensures memory { IsErrOf result JudgeFault.Memory → device_failures input.new ≡ device_failures input.old }
+    ensures answer { IfOk result (λ answer. IsAnswer command (named_files files.now) main.now (R.remaining (device_inner input.old)) (R.remaining (device_inner input.new)) (answer_of answer)) }
+{
+    match load(alloc, files, main) {
+        Ok(schema) => answer_by(alloc, command, schema, input),
+        Err(fault) => Ok(refusal(fault)?),
+    }
+}
+
+/// What is to be said of the document by a schema.
+fn answer_by<R: Read>(
+    alloc: Global,
+    command: Command,
+    schema: Schema,
+    input: &mut Device<R>,
+) -> Result<Answer, JudgeFault>
+    requires placed { IsWellPlaced (schema_of schema) }
+    requires input { device_failures input.old < 2 ^ 64 - 1 }
+    ensures calm { OnOk result (device_failures input.new ≡ device_failures input.old) }
+    ensures unread { ¬ (JudgesDocuments command (schema_of schema)) → input.new ≡ input.old }
+    ensures read { IsErrOf result JudgeFault.Read → device_failures input.old < device_failures input.new }
+    ensures memory { IsErrOf result JudgeFault.Memory → device_failures input.new ≡ device_failures input.old }
+    ensures answer { IfOk result (λ answer. IsAnswerBy command (schema_of schema) (R.remaining (device_inner input.old)) (R.remaining (device_inner input.new)) (answer_of answer)) }
+{
+    match compile(alloc, command, schema) {
+        Ok(Compiled::Grammar(grammar)) => {
+            Ok(Answer::Judged(document_verdict(alloc, &grammar, input)?))
+        }
+        Ok(Compiled::Good) => Ok(Answer::SchemaOk),
+        Ok(Compiled::Printed(text)) => Ok(Answer::Printed(text)),
+        Err(fault) => Ok(refusal(fault)?),
+    }
+}
+
+/// The answer that tells a fault of a schema.
+fn refusal(fault: SchemaFault) -> Result<Answer, OutOfMemory>
+    ensures { IfOk result (λ answer. refusal_of fault ≡ Some (answer_of answer)) }
+{
+    match fault {
+        SchemaFault::File { clause, name } => Ok(Answer::RefusedFile { clause, name }),
+        SchemaFault::Clause(clause) => Ok(Answer::Refused(clause)),
+        SchemaFault::Memory => Err(OutOfMemory),
+    }
+}

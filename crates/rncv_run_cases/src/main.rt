@@ -1,0 +1,175 @@
+//! Prints what `run` answers and writes for each row of `data/cases.txt`, `data/sizes.txt` and `data/files.txt`, by a reader
+//! that gives all that it has at once, and after it each other answer by readers that give 1, 2, 3 and 4,096 bytes at
+//! most, which there is not to be; then for each document of `data/documents.txt` a line with a letter for each schema of `data/schemas.txt`, V for valid
+//! and I for invalid.
+//!
+//! The documents, the schemas and their letters come from a second program, `tools/all_splits`.
+#![tactic(auto)]
+
+use case_rows::{Row, rows};
+use rncv_run::{Command, Status, run};
+use rng_model::Device;
+use std::alloc::Global;
+use std::io;
+use std::io::Read;
+
+/// A reader that gives a few bytes a call.
+#[derive(Drop)]
+struct Pieces<'a> {
+    bytes: &'a [u8],
+    most: usize,
+}
+
+impl Read for Pieces<'_> {
+    fn read(&mut self, buf: &mut [u8]) -> io::Result<usize> {
+        let most = self.most.min(buf.len());
+        self.bytes.read(&mut buf[..most])
+    }
+}
+
+fn main(rt: HostRuntime) -> io::Result<()> {
+    for row in rows(&rt, "cases.txt")? {
+        let document = joined(rt.alloc(), &row)?;
+        let line = line_of(rt.alloc(), &row, row.bytes(2)?, document.as_slice())?;
+        print!(rt; "{line}")?;
+    }
+    for row in rows(&rt, "sizes.txt")? {
+        let schema = joined(rt.alloc(), &row)?;
+        let line = line_of(rt.alloc(), &row, schema.as_slice(), row.bytes(2)?)?;
+        print!(rt; "{line}")?;
+    }
+    for row in rows(&rt, "files.txt")? {
+        let files = files_of(rt.alloc(), &row)?;
+        let line = line_over(rt.alloc(), &row, files.as_slice(), row.bytes(1)?)?;
+        print!(rt; "{line}")?;
+    }
+    let schemas = rows(&rt, "schemas.txt")?;
+    for document in rows(&rt, "documents.txt")? {
+        let letters = letters_of(rt.alloc(), schemas.as_slice(), document.bytes(0)?)?;
+        println!(rt; "{letters}")?;
+    }
+    Ok(())
+}
+
+/// The status of a run, and what it writes.
+fn outcome(
+    alloc: Global,
+    command: Command,
+    files: &[(String, Vec<u8>)],
+    document: &[u8],
+    most: usize,
+) -> io::Result<(Status, Vec<u8>)> {
+    if files.is_empty() {
+        return Err(io::Error::from(io::ErrorKind::InvalidData));
+    }
+    let mut written = Vec::new(alloc);
+    let mut input = Device::new(Pieces {
+        bytes: document,
+        most,
+    });
+    let mut output = Device::new(&mut written);
+    match run(alloc, command, files, &mut input, &mut output) {
+        Ok(status) => Ok((status, written)),
+        Err(_) => Err(io::Error::from(io::ErrorKind::Other)),
+    }
+}
+
+/// A file of this name.
+fn file_of(alloc: Global, name: &str, schema: &[u8]) -> io::Result<(String, Vec<u8>)> {
+    Ok((
+        String::from_str(alloc, name)?,
+        Vec::from_slice(alloc, schema)?,
+    ))
+}
+
+/// The files from the third field on.
+fn files_of(alloc: Global, row: &Row) -> io::Result<Vec<(String, Vec<u8>)>> {
+    let mut files = Vec::new(alloc);
+    for field in (2..row.field_count()).step_by(3) {
+        let mut bytes = Vec::new(alloc);
+        for _ in 0..times_of(row, field.wrapping_add(2)) {
+            bytes.extend_from_slice(row.bytes(field.wrapping_add(1))?)?;
+        }
+        files.push((String::from_str(alloc, row.text(field)?)?, bytes))?;
+    }
+    Ok(files)
+}
+
+/// What a run over one file answers and writes, by the command and the file's name that a row begins with.
+fn line_of(alloc: Global, row: &Row, schema: &[u8], document: &[u8]) -> io::Result<String> {
+    let file = file_of(alloc, row.text(1)?, schema)?;
+    line_over(alloc, row, &[file], document)
+}
+
+/// What a run answers and writes, by the command that a row begins with.
+fn line_over(
+    alloc: Global,
+    row: &Row,
+    files: &[(String, Vec<u8>)],
+    document: &[u8],
+) -> io::Result<String> {
+    let command = match row.text(0)? {
+        "check" => Command::Check,
+        "simple" => Command::Simple,
+        _ => Command::Valid,
+    };
+    let mut lines = line_by(alloc, command, files, document, usize::MAX)?;
+    for most in [1, 2, 3, 4096] {
+        let other = line_by(alloc, command, files, document, most)?;
+        if !lines.ends_with(other.as_str()) {
+            lines.push_str(other.as_str())?;
+        }
+    }
+    Ok(lines)
+}
+
+/// What a run answers and writes, by a reader that gives so many bytes a call at most.
+fn line_by(
+    alloc: Global,
+    command: Command,
+    files: &[(String, Vec<u8>)],
+    document: &[u8],
+    most: usize,
+) -> io::Result<String> {
+    let (status, written) = outcome(alloc, command, files, document, most)?;
+    match str::from_utf8(written.as_slice()) {
+        Ok(line) => Ok(format!(in alloc; "{status:?} {line}")?),
+        Err(_) => Err(io::Error::from(io::ErrorKind::InvalidData)),
+    }
+}
+
+/// The pieces from the fourth field on, each followed by how often it stands there.
+fn joined(alloc: Global, row: &Row) -> io::Result<Vec<u8>> {
+    let mut all = Vec::new(alloc);
+    for field in (3..row.field_count()).step_by(2) {
+        let piece = row.bytes(field)?;
+        for _ in 0..times_of(row, field.wrapping_add(1)) {
+            all.extend_from_slice(piece)?;
+        }
+    }
+    Ok(all)
+}
+
+/// How often a piece stands there: once where that is not said.
+fn times_of(row: &Row, field: usize) -> u32 {
+    match row.text(field) {
+        Ok(number) => number.parse().unwrap_or(1),
+        Err(_) => 1,
+    }
+}
+
+/// A letter for each schema.
+fn letters_of(alloc: Global, schemas: &[Row], document: &[u8]) -> io::Result<String> {
+    let mut letters = String::new(alloc);
+    for schema in schemas {
+        let file = file_of(alloc, "s.rnc", schema.bytes(0)?)?;
+        let (status, _) = outcome(alloc, Command::Valid, &[file], document, usize::MAX)?;
+        letters.push(match status {
+            Status::Good => 'V',
+            Status::Invalid => 'I',
+            Status::Malformed => 'M',
+            Status::Refused => 'R',
+        })?;
+    }
+    Ok(letters)
+}

@@ -1,6 +1,0 @@
-use Rattle.std.proofs.Common.{◌∙◌}
-use Rattle.rng_components.proofs.KeptNames.{is_kept}
-use Rattle.rng_components.proofs.combinations.has.Goals as goal
-
-pub returns : goal.returns
-returns c = c.contains.ensures ∙ is_kept c.args.name c.args.names.now.keys

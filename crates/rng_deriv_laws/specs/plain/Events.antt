@@ -1,0 +1,55 @@
+-- A matcher that takes the events of a document one by one. A string is held until the event behind it shows whether it is
+-- an only child: only then a blank one is data (RELAX NG Specification, section 6.2.7).
+use Rattle.std.specs.Prelude.{ℕ, zero, suc, List, [], ◌∷◌, ◌++◌, Bool, true, false, cond, map, Option, Some, None}
+use Rattle.rng_model.specs.simple.Tree.{Simple}
+use Rattle.rng_model.specs.matching.Document.{a_text, an_element, Items, no_items, item_and}
+use Rattle.rng_model.specs.datatypes.Texts.{is_blank}
+use Rattle.rng_model.specs.documents.PyxTrees.{Event, EventKind, a_start, a_string, an_end}
+use Rattle.rng_model.specs.matching.Reading.{Reading}
+use Rattle.rng_deriv_laws.specs.plain.States.{State, finished, after_of, start_tag, string, end_tag, end_text, accepts}
+
+-- what events say, without their lines
+abbrev pub kinds : List Event → List EventKind
+kinds es = map (λ e. e.kind) es
+
+-- the events of a list of children, without lines
+abbrev pub events_of_items : Items → List EventKind
+events_of_items no_items = []
+events_of_items (item_and (a_text s) ns) = a_string s ∷ events_of_items ns
+events_of_items (item_and (an_element q xs kids) ns) = a_start q xs ∷ (events_of_items kids ++ an_end ∷ events_of_items ns)
+
+-- How many elements are open after these events, where so many were open before; none where an element ends that is not open.
+abbrev pub open_after : ℕ → List EventKind → Option ℕ
+open_after n [] = Some n
+open_after n (a_start q xs ∷ es) = open_after (suc n) es
+open_after n (a_string s ∷ es) = open_after n es
+open_after zero (an_end ∷ es) = None
+open_after (suc n) (an_end ∷ es) = open_after n es
+
+pub record Matcher : Type 0 where
+  pub state : State
+  -- an element stood before at this level
+  pub has_begun : Bool
+  -- the string since the last tag; the empty one if there is none
+  pub held : List ℕ
+
+abbrev pub new : Simple ℕ → Matcher
+new start = record { state = after_of start finished; has_begun = false; held = [] }
+
+module _ (g : Reading) where
+  -- once the held string has turned out to stand beside an element
+  abbrev pub settled : Matcher → State
+  settled m = cond (is_blank m.held) m.state (string g m.state m.held)
+
+  abbrev pub step : Matcher → EventKind → Matcher
+  step m (a_start q xs) = record { state = start_tag g (settled m) q xs; has_begun = false; held = [] }
+  step m (a_string s) = record { state = m.state; has_begun = m.has_begun; held = s }
+  step m an_end = record { state = cond m.has_begun (end_tag (settled m)) (end_text g m.state m.held); has_begun = true; held = [] }
+
+  abbrev pub run : Matcher → List EventKind → Matcher
+  run m [] = m
+  run m (e ∷ es) = run (step m e) es
+
+  -- the matcher accepts after these events
+  abbrev pub is_valid : List EventKind → Bool
+  is_valid es = accepts (run (new g.grammar.start) es).state

@@ -1,0 +1,60 @@
+use Rattle.std.proofs.Common.{◌+◌, ◌↔◌, ◌<◌, [], drop, length, take}
+use Rattle.rng_deriv_laws.specs.plain.Taking.{Takes}
+use Rattle.rng_pattern_table.specs.views.PatternTable.{Longer}
+use Rattle.rng_pattern_table.specs.views.Taking.{tree_by}
+use Rattle.rng_pattern_table.specs.views.Trees.{tree_of}
+use Rattle.rng_pattern_derivatives.specs.plain.After.{AreRests}
+use Rattle.rng_pattern_derivatives.specs.views.KnownWays.{AreAllKnown}
+use Rattle.rng_pattern_derivatives.specs.plain.Kinds.{Obeys}
+use Rattle.rng_model.specs.matching.GrammarReading.{reading_of}
+use Rattle.rng_pattern_derivatives.specs.declared.way.First.TheVariants as firsts
+use Rattle.rng_pattern_derivatives.specs.declared.way.Place.TheVariants as places
+use Rattle.rng_pattern_derivatives.proofs.Behind.{rank}
+use Rattle.rng_pattern_derivatives.proofs.Pieces.{texts_in}
+use Rattle.rng_pattern_derivatives.proofs.after.+after.Given as goal
+
+abbrev pub decreases-after : goal.decreases-after
+decreases-after l = rank l.first + 5
+
+abbrev pub decreases-after_leaf : goal.decreases-after_leaf
+decreases-after_leaf l = rank (firsts.Text l.place l.text) + 3
+
+abbrev pub decreases-after_ways : goal.decreases-after_ways
+decreases-after_ways l = rank l.first + 4
+
+abbrev pub decreases-rests : goal.decreases-rests
+decreases-rests l = rank l.first + 3
+
+abbrev pub decreases-takes : goal.decreases-takes
+decreases-takes l = rank l.first + 2
+
+abbrev pub decreases-data_takes : goal.decreases-data_takes
+decreases-data_takes l = rank (firsts.Text l.place l.text) + 1
+
+abbrev pub decreases-list_takes : goal.decreases-list_takes
+decreases-list_takes l = 6
+
+abbrev pub decreases-attribute_takes : goal.decreases-attribute_takes
+decreases-attribute_takes l = 13
+
+abbrev pub decreases-value_takes : goal.decreases-value_takes
+decreases-value_takes l = 12
+
+abbrev pub invariant-rests-ways : goal.invariant-rests-ways
+invariant-rests-ways l = record {
+  longer : Longer l.fn.table l.table;
+  known : AreAllKnown l.grammar l.keys l.table l.known;
+  rests : AreRests l.grammar l.fn.table l.table l.first (take l.way-index l.ways) l.rests.items;
+}
+
+abbrev pub invariant-list_takes-pieces : goal.invariant-list_takes-pieces
+invariant-list_takes-pieces l =
+    let g = reading_of l.grammar in
+    let whole = tree_by l.grammar l.fn.table l.numbers l.fn.body in record {
+      longer : Longer l.fn.table l.table;
+      known : AreAllKnown l.grammar l.keys l.table l.known;
+      inside : l.rest.0 < length l.table;
+      kept : Obeys places.List whole → Obeys places.List (tree_of l.grammar l.table l.rest.0);
+      takes : Obeys places.List whole → Takes g (tree_of l.grammar l.table l.rest.0) [] (texts_in (drop l.piece-index l.piece-items))
+          ↔ Takes g whole [] (texts_in l.piece-items);
+    }

@@ -1,0 +1,105 @@
+// Elements of a grammar that take the same.
+ghost use Rattle.std.specs.Prelude.{◌≡◌, IfOk, IfSome, Some, slice_get, true};
+ghost use Rattle.rng_model.specs.names.NameViews.{name_of};
+ghost use Rattle.rng_model.specs.declared.name.NameClass.TheVariants as classes;
+ghost use Rattle.rng_pattern_derivatives.specs.plain.Alike.{AreAlike, IsAlike};
+
+use rng_model::{ElementId, Name, NameClass, OutOfMemory, PatternId, SimpleGrammar};
+use rng_names::{NameKey, NameKeys};
+use std::alloc::Global;
+use std::collections::HashMap;
+
+/// What elements have in common that take the same: one name, by its key, and one body.
+#[derive(Clone, Copy, PartialEq, Eq, Hash)]
+struct Content {
+    name: NameKey,
+    body: PatternId,
+}
+
+/// The elements that were met, the first one of each content.
+type Met = HashMap<Content, ElementId>;
+
+/// For each element of a grammar the first one that has the same name and the same body, or itself where its class is not one name.
+///
+/// Where an element may stand, the other one may stand in its place (RELAX NG Specification, section 6.2.7). The error is want of
+/// memory. Costs a look-up for each element.
+pub fn alike_elements(
+    alloc: Global,
+    grammar: &SimpleGrammar,
+    keys: &NameKeys,
+) -> Result<Vec<ElementId>, OutOfMemory>
+    ensures { IfOk result (λ all. AreAlike grammar.now all.items) }
+{
+    let mut met = HashMap::new(alloc);
+    let mut all = Vec::new(alloc);
+    'elements: for number in 0..usize::MAX {
+        let element = ElementId(number);
+        if grammar.element(element).is_none() {
+            break;
+        }
+        all.push(first_alike(&mut met, grammar, keys, element)?)?;
+    }
+    Ok(all)
+}
+
+/// The first element that was met and takes the same; this one, if there is none.
+fn first_alike(
+    met: &mut Met,
+    grammar: &SimpleGrammar,
+    keys: &NameKeys,
+    element: ElementId,
+) -> Result<ElementId, OutOfMemory>
+    ensures { IfOk result (λ first. IsAlike grammar.now element.0 first.0) }
+{
+    let Some((name, body)) = named_element(grammar, element) else {
+        return Ok(element);
+    };
+    let content = Content {
+        name: keys.key(name),
+        body,
+    };
+    if let Some(first) = met.get(&content) {
+        let first = *first;
+        return Ok(if are_alike(grammar, element, first) {
+            first
+        } else {
+            element
+        });
+    }
+    met.insert(content, element)?;
+    Ok(element)
+}
+
+/// The name and the body of an element whose class is one name.
+fn named_element(grammar: &SimpleGrammar, element: ElementId) -> Option<(&Name, PatternId)>
+    ensures { IfSome result (λ r. slice_get grammar.now.elements element.0 ≡ Some (classes.Name r.0.now, r.1)) }
+{
+    let (class, body) = grammar.element(element)?;
+    match class {
+        NameClass::Name(name) => Some((name, *body)),
+        _ => None,
+    }
+}
+
+/// Whether two elements have one name and one body.
+fn are_alike(grammar: &SimpleGrammar, one: ElementId, other: ElementId) -> bool
+    ensures { result ≡ true → IsAlike grammar.now one.0 other.0 }
+{
+    let Some((first, body)) = named_element(grammar, one) else {
+        return false;
+    };
+    let Some((second, same)) = named_element(grammar, other) else {
+        return false;
+    };
+    if body != same {
+        return false;
+    }
+    is_same_name(first, second)
+}
+
+/// Whether two names are one.
+fn is_same_name(one: &Name, other: &Name) -> bool
+    ensures { result ≡ true → name_of one.now ≡ name_of other.now }
+{
+    one.ns == other.ns && one.local == other.local
+}

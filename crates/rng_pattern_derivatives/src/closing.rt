@@ -1,0 +1,106 @@
+// Patterns once all attributes of a tag are taken.
+ghost use Rattle.std.specs.Prelude.{◌≡◌, ◌<◌, IfOk, OnOk, length, true};
+ghost use Rattle.rng_model.specs.simple.Table.{Table};
+ghost use Rattle.rng_pattern_table.specs.views.PatternTable.{Longer};
+ghost use Rattle.rng_pattern_table.specs.plain.Reduced.{has_attribute};
+ghost use Rattle.rng_pattern_table.specs.views.Trees.{tree_of};
+ghost use Rattle.rng_pattern_derivatives.specs.plain.Closing.{IsChoice, IsClosed};
+ghost use Rattle.rng_pattern_derivatives.specs.views.KnownRests.{AreRestsOf};
+
+use crate::rests::{KnownRests, keep_rest, known_rest};
+use crate::ways::copied;
+use rng_model::OutOfMemory;
+use rng_pattern_table::{Pattern, PatternNumber, PatternTable};
+use std::alloc::Global;
+
+/// What is left of a pattern once all attributes of a tag are taken: no attribute may be wanted any more.
+///
+/// RELAX NG Specification, section 6.2. The error is want of memory. It is worked out once for each part in which an attribute
+/// stands, however often that part stands in others, and then kept.
+#[cycle(closing)]
+pub fn close(
+    alloc: Global,
+    table: &mut PatternTable,
+    known: &mut KnownRests,
+    number: PatternNumber,
+) -> Result<PatternNumber, OutOfMemory>
+    requires inside { number.0 < length table.old }
+    requires known { AreRestsOf table.old known.old }
+    ensures longer { OnOk result (Longer table.old table.new) }
+    ensures known { OnOk result (AreRestsOf table.new known.new) }
+    ensures closed { IfOk result (IsClosed table.old table.new number) }
+{
+    if !table.facts(number).attributes {
+        return Ok(number);
+    }
+    if let Some(rest) = known_rest(known, number) {
+        return Ok(rest);
+    }
+    let rest = close_parts(alloc, table, known, number)?;
+    keep_rest(known, number, rest)?;
+    Ok(rest)
+}
+
+/// The same of a pattern in which an attribute stands, of what is left of its parts.
+#[cycle(closing)]
+fn close_parts(
+    alloc: Global,
+    table: &mut PatternTable,
+    known: &mut KnownRests,
+    number: PatternNumber,
+) -> Result<PatternNumber, OutOfMemory>
+    requires inside { number.0 < length table.old }
+    requires known { AreRestsOf table.old known.old }
+    requires attribute { (t : Table) → has_attribute (tree_of t table.old number.0) ≡ true }
+    ensures longer { OnOk result (Longer table.old table.new) }
+    ensures known { OnOk result (AreRestsOf table.new known.new) }
+    ensures closed { IfOk result (IsClosed table.old table.new number) }
+{
+    match table.pattern(number) {
+        Pattern::Choice(_) => close_choice(alloc, table, known, number),
+        Pattern::Group(first, second) => {
+            let (first, second) = (*first, *second);
+            let first = close(alloc, table, known, first)?;
+            let second = close(alloc, table, known, second)?;
+            table.group(first, second)
+        }
+        Pattern::Interleave(first, second) => {
+            let (first, second) = (*first, *second);
+            let first = close(alloc, table, known, first)?;
+            let second = close(alloc, table, known, second)?;
+            table.interleave(first, second)
+        }
+        Pattern::OneOrMore(body) => {
+            let body = *body;
+            let body = close(alloc, table, known, body)?;
+            table.one_or_more(body)
+        }
+        _ => table.not_allowed(),
+    }
+}
+
+/// What is left of a choice: a choice of what is left of its members.
+#[cycle(closing)]
+fn close_choice(
+    alloc: Global,
+    table: &mut PatternTable,
+    known: &mut KnownRests,
+    number: PatternNumber,
+) -> Result<PatternNumber, OutOfMemory>
+    requires inside { number.0 < length table.old }
+    requires known { AreRestsOf table.old known.old }
+    requires choice { IsChoice table.old number.0 }
+    ensures longer { OnOk result (Longer table.old table.new) }
+    ensures known { OnOk result (AreRestsOf table.new known.new) }
+    ensures closed { IfOk result (IsClosed table.old table.new number) }
+{
+    let Pattern::Choice(members) = table.pattern(number) else {
+        unreachable!()
+    };
+    let members = copied(alloc, members.as_slice())?;
+    let mut closed = Vec::new(alloc);
+    'members: for member in &members {
+        closed.push(close(alloc, table, known, *member)?)?;
+    }
+    table.choice(alloc, closed.as_slice())
+}

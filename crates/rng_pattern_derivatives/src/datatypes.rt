@@ -1,0 +1,96 @@
+// The datatypes that a grammar names.
+ghost use Rattle.std.specs.Prelude.{◌≡◌, ℕ, IfOk, OnOk, None, option_map};
+ghost use Rattle.rng_model.specs.datatypes.DatatypeTests.{known_allows, known_equates, type_of};
+ghost use Rattle.rng_types.specs.views.View.{built_in_type_of, datatype_at};
+ghost use Rattle.rng_pattern_derivatives.specs.views.Datatypes.{AreDatatypesOf, type_at, type_named_by};
+
+use rng_model::{OutOfMemory, PatternId, Simple, SimpleGrammar};
+use rng_types::{Builtin, Datatype as _};
+use std::alloc::Global;
+use std::collections::HashMap;
+
+/// For each position of a grammar whose pattern names a datatype that is known, this datatype, so that it is looked up by its
+/// library and name once.
+#[derive(Drop)]
+pub struct Datatypes {
+    by_position: HashMap<PatternId, Builtin>,
+}
+
+impl Datatypes {
+    /// Those of a grammar. The error is want of memory. Costs a search for each data and each value.
+    pub fn new(alloc: Global, grammar: &SimpleGrammar) -> Result<Self, OutOfMemory>
+        ensures { IfOk result (AreDatatypesOf grammar.now) }
+    {
+        let mut datatypes = Datatypes {
+            by_position: HashMap::new(alloc),
+        };
+        'patterns: for position in 0..usize::MAX {
+            let Some(pattern) = grammar.pattern(PatternId(position)) else {
+                return Ok(datatypes);
+            };
+            datatypes.add(PatternId(position), pattern)?;
+        }
+        Err(OutOfMemory)
+    }
+
+    /// Adds the datatype that the pattern at a position names, if it names one that is known. The error is want of memory.
+    fn add(&mut self, position: PatternId, pattern: &Simple) -> Result<(), OutOfMemory>
+        requires { type_at self.old position.0 ≡ None }
+        ensures own { OnOk result (type_at self.new position.0 ≡ type_named_by pattern.now) }
+        ensures others { OnOk result ((k : ℕ) → (k ≡ position.0 → ⊥) → type_at self.new k ≡ type_at self.old k) }
+    {
+        if let Some(builtin) = named(pattern) {
+            self.by_position.insert(position, builtin)?;
+        }
+        Ok(())
+    }
+
+    /// Whether the datatype that the pattern at a position names allows a text. Takes no memory.
+    ///
+    /// RELAX NG Specification, section 6.2.8. A datatype that is not known allows nothing.
+    pub fn allow(&self, position: PatternId, text: &str) -> bool
+        ensures { result ≡ known_allows (type_at self.now position.0) text.now }
+    {
+        match self.by_position.get(&position) {
+            Some(builtin) => builtin.allows(text),
+            None => false,
+        }
+    }
+
+    /// Whether a text is equal to a value, by the datatype that the pattern at a position names. Takes no memory.
+    ///
+    /// RELAX NG Specification, sections 6.2.8 and 6.2.9. A datatype that is not known takes no texts for equal.
+    pub fn equate(&self, position: PatternId, value: &str, text: &str) -> bool
+        ensures { result ≡ known_equates (type_at self.now position.0) value.now text.now }
+    {
+        match self.by_position.get(&position) {
+            Some(builtin) => builtin.equal(value, text),
+            None => false,
+        }
+    }
+}
+
+/// The datatype that a pattern names, if it names one that is known.
+fn named(pattern: &Simple) -> Option<Builtin>
+    ensures { option_map built_in_type_of result ≡ type_named_by pattern.now }
+{
+    match pattern {
+        Simple::Data(datatype) | Simple::DataExcept(datatype, _) => found(
+            datatype.library.as_str(),
+            datatype.name.as_str(),
+            &datatype.parameters,
+        ),
+        Simple::Value(value) => found(value.library.as_str(), value.name.as_str(), &[]),
+        _ => None,
+    }
+}
+
+/// The datatype of this library and name with these parameters, if it is known.
+fn found(library: &str, name: &str, parameters: &[(String, String)]) -> Option<Builtin>
+    ensures { option_map built_in_type_of result ≡ type_of (datatype_at library.now name.now parameters.now) }
+{
+    match Builtin::find(library, name, parameters) {
+        Ok(builtin) => Some(builtin),
+        Err(_) => None,
+    }
+}

@@ -1,0 +1,105 @@
+// Ways that others stand in for.
+ghost use Rattle.std.specs.Prelude.{◌≡◌, ◌<◌, All, IfOk, length, true};
+ghost use Rattle.rng_pattern_derivatives.specs.plain.FewerWays.{AreRepeated, AreUncovered, HasOptionalRest};
+ghost use Rattle.rng_pattern_derivatives.specs.plain.Ways.{AreInside, IsInside};
+
+use crate::way::{Way, Ways};
+use rng_model::OutOfMemory;
+use rng_pattern_table::{Pattern, PatternNumber, PatternTable};
+use smallvec::SmallVec;
+use std::alloc::Global;
+
+/// The ways of a repetition to take an attribute, of those of one copy, where `more` is what more copies are.
+///
+/// No attribute stands in a group or an interleave of the copy (RELAX NG Specification, section 7.1.2), so the attribute may be
+/// all that a copy takes, and more copies take all else. Nothing is left of the copy itself: patterns do not grow with each
+/// attribute. The error is want of memory.
+pub fn repeated_ways(
+    alloc: Global,
+    table: &PatternTable,
+    copies: &[Way],
+    more: PatternNumber,
+) -> Result<Ways, OutOfMemory>
+    requires { AreInside table.now copies.now }
+    ensures { IfOk result (λ all. AreRepeated table.now copies.now more all.items) }
+{
+    let mut all = SmallVec::new(alloc);
+    'copies: for copy in copies {
+        if table.facts(copy.rest).nullable {
+            all.push(Way {
+                leaf: copy.leaf,
+                rest: more,
+            })?;
+        }
+    }
+    Ok(all)
+}
+
+/// The ways of the second side of a group that say more than those of the first side.
+///
+/// Where the second side takes all subsequences of what it takes, what is left of it behind a leaf is no more than it is itself,
+/// and so than what is left where the first side has the same leaf and may end behind it. The error is want of memory. Costs a
+/// comparison of each way with those of the first side.
+pub fn uncovered(
+    alloc: Global,
+    table: &PatternTable,
+    second: PatternNumber,
+    firsts: &[Way],
+    seconds: Ways,
+) -> Result<Ways, OutOfMemory>
+    requires second { second.0 < length table.now }
+    requires firsts { AreInside table.now firsts.now }
+    requires seconds { AreInside table.now seconds.items }
+    ensures { IfOk result (λ left. AreUncovered table.now second firsts.now seconds.items left.items) }
+{
+    let facts = table.facts(second);
+    if !facts.nullable || !facts.subsequences {
+        return Ok(seconds);
+    }
+    let mut left = SmallVec::new(alloc);
+    'seconds: for way in seconds.as_slice() {
+        if !is_covered(table, second, firsts, *way) {
+            left.push(*way)?;
+        }
+    }
+    Ok(left)
+}
+
+/// Whether a way of the second side is left out: one with its leaf may end behind that. A way that leads back to the second side, as
+/// those of a repetition do, is kept, since its states come again. Takes no memory.
+fn is_covered(table: &PatternTable, second: PatternNumber, firsts: &[Way], way: Way) -> bool
+    requires firsts { AreInside table.now firsts.now }
+    requires way { IsInside table.now way }
+    ensures { result ≡ true → HasOptionalRest table.now firsts.now way.leaf }
+{
+    if leads_back(table, way.rest, second) {
+        return false;
+    }
+    has_optional_rest(table, firsts, way.leaf)
+}
+
+/// Whether a pattern is another one, or a group that ends with it. Takes no memory.
+fn leads_back(table: &PatternTable, rest: PatternNumber, second: PatternNumber) -> bool
+    requires { rest.0 < length table.now }
+{
+    if rest == second {
+        return true;
+    }
+    match table.pattern(rest) {
+        Pattern::Group(_, behind) => *behind == second,
+        _ => false,
+    }
+}
+
+/// Whether some way with this leaf may end behind it. Takes no memory.
+fn has_optional_rest(table: &PatternTable, ways: &[Way], leaf: PatternNumber) -> bool
+    requires { AreInside table.now ways.now }
+    ensures { result ≡ true → HasOptionalRest table.now ways.now leaf }
+{
+    'ways: for way in ways {
+        if way.leaf == leaf && table.facts(way.rest).nullable {
+            return true;
+        }
+    }
+    false
+}

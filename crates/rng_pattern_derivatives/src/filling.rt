@@ -1,0 +1,168 @@
+// Ways of a whole, of those of its sides.
+ghost use Rattle.std.specs.Prelude.{◌≡◌, ◌<◌, ◌++◌, ◌∷◌, [], All, Some, IfOk, OnOk, IfSome, IfNone, length, slice_get};
+ghost use Rattle.rng_model.specs.simple.Table.{Table};
+ghost use Rattle.rng_deriv_laws.specs.plain.Derivatives.{behind, joined_of};
+ghost use Rattle.rng_pattern_table.specs.views.PatternTable.{Adds, Longer};
+ghost use Rattle.rng_pattern_table.specs.views.Trees.{tree_of};
+ghost use Rattle.rng_pattern_derivatives.specs.declared.way.Way.{Way};
+ghost use Rattle.rng_pattern_derivatives.specs.plain.Kinds.{connector_of};
+ghost use Rattle.rng_pattern_derivatives.specs.plain.Ways.{AreInside, AreRestsBehind, IsInside, IsHoleInside, IsTakenOut, StandFor, filled, ways_by};
+
+use crate::way::{Hole, Joint, Rests, Way, Ways};
+use rng_model::OutOfMemory;
+use rng_pattern_table::{PatternNumber, PatternTable};
+use smallvec::SmallVec;
+use std::alloc::Global;
+
+/// Two patterns joined.
+fn join(
+    table: &mut PatternTable,
+    joint: Joint,
+    first: PatternNumber,
+    second: PatternNumber,
+) -> Result<PatternNumber, OutOfMemory>
+    requires first { first.0 < length table.old }
+    requires second { second.0 < length table.old }
+    ensures longer { Longer table.old table.new }
+    ensures tree { IfOk result (λ n. Adds table.old table.new n.0
+        (λ t. joined_of (connector_of joint) (tree_of t table.old first.0) (tree_of t table.old second.0))) }
+{
+    match joint {
+        Joint::Group => table.group(first, second),
+        Joint::Interleave => table.interleave(first, second),
+    }
+}
+
+/// The rest of the whole, of that of a side.
+pub fn fill(
+    table: &mut PatternTable,
+    hole: Hole,
+    rest: PatternNumber,
+) -> Result<PatternNumber, OutOfMemory>
+    requires hole { IsHoleInside table.old hole }
+    requires rest { rest.0 < length table.old }
+    ensures longer { Longer table.old table.new }
+    ensures tree { IfOk result (λ n. Adds table.old table.new n.0 (λ t. filled (tree_of t table.old) hole (tree_of t table.old rest.0))) }
+{
+    match hole {
+        Hole::Whole => Ok(rest),
+        Hole::First(joint, second) => join(table, joint, rest, second),
+        Hole::Second(joint, first) => join(table, joint, first, rest),
+    }
+}
+
+/// Where the way with this leaf stands among others.
+fn place_of(ways: &[Way], leaf: PatternNumber) -> Option<usize>
+    ensures found { IfSome result (λ i. (w : Way) × (slice_get ways.now i ≡ Some w) × (w.leaf ≡ leaf)) }
+    ensures none { IfNone result (All (λ w. ¬ (w.leaf ≡ leaf)) ways.now) }
+{
+    'others: for (place, way) in ways.iter().enumerate() {
+        if way.leaf == leaf {
+            return Some(place);
+        }
+    }
+    None
+}
+
+/// Takes the way with this leaf out of others, if there is one.
+fn take_leaf(ways: &mut Ways, leaf: PatternNumber) -> Option<Way>
+    ensures found { IfSome result (λ w. (w.leaf ≡ leaf) × IsTakenOut ways.old.items ways.new.items w) }
+    ensures none { IfNone result (ways.new.items ≡ ways.old.items) }
+{
+    let place = place_of(ways.as_slice(), leaf)?;
+    Some(ways.remove(place))
+}
+
+/// Adds a way to others: one with the same leaf becomes one with it, and a rest that is notAllowed adds none.
+pub fn add_way(
+    alloc: Global,
+    table: &mut PatternTable,
+    all: &mut Ways,
+    way: Way,
+) -> Result<(), OutOfMemory>
+    requires inside { AreInside table.old all.old.items }
+    requires way { IsInside table.old way }
+    ensures longer { Longer table.old table.new }
+    ensures ways { OnOk result (StandFor table.new all.new.items (λ t. ways_by (tree_of t table.old) (all.old.items ++ way ∷ []))) }
+{
+    if table.is_not_allowed(way.rest) {
+        return Ok(());
+    }
+    let Some(other) = take_leaf(all, way.leaf) else {
+        return Ok(all.push(way)?);
+    };
+    let rest = table.choice(alloc, &[other.rest, way.rest])?;
+    all.push(Way {
+        leaf: way.leaf,
+        rest,
+    })?;
+    Ok(())
+}
+
+/// Adds the ways of a side to those of the whole.
+pub fn add_filled(
+    alloc: Global,
+    table: &mut PatternTable,
+    hole: Hole,
+    ways: &[Way],
+    all: &mut Ways,
+) -> Result<(), OutOfMemory>
+    requires hole { IsHoleInside table.old hole }
+    requires ways { AreInside table.old ways.now }
+    requires all { AreInside table.old all.old.items }
+    ensures longer { OnOk result (Longer table.old table.new) }
+    ensures ways { OnOk result (StandFor table.new all.new.items
+        (λ t. ways_by (tree_of t table.old) all.old.items ++ behind (filled (tree_of t table.old) hole) (ways_by (tree_of t table.old) ways.now))) }
+{
+    'ways: for way in ways {
+        let rest = fill(table, hole, way.rest)?;
+        add_way(
+            alloc,
+            table,
+            all,
+            Way {
+                leaf: way.leaf,
+                rest,
+            },
+        )?;
+    }
+    Ok(())
+}
+
+/// The rests of the ways with this leaf.
+fn rests_behind(alloc: Global, ways: &[Way], leaf: PatternNumber) -> Result<Rests, OutOfMemory>
+    ensures { IfOk result (λ rests. AreRestsBehind ways.now leaf rests.items) }
+{
+    let mut rests = SmallVec::new(alloc);
+    'ways: for way in ways {
+        if way.leaf == leaf {
+            rests.push(way.rest)?;
+        }
+    }
+    Ok(rests)
+}
+
+/// The same ways, each leaf once: what is left behind it is a choice of what was.
+pub fn joined_ways(
+    alloc: Global,
+    table: &mut PatternTable,
+    ways: &[Way],
+) -> Result<Ways, OutOfMemory>
+    requires { AreInside table.old ways.now }
+    ensures longer { OnOk result (Longer table.old table.new) }
+    ensures ways { IfOk result (λ all. StandFor table.new all.items (λ t. ways_by (tree_of t table.old) ways.now)) }
+{
+    let mut all = SmallVec::new(alloc);
+    'ways: for way in ways {
+        if place_of(all.as_slice(), way.leaf).is_some() {
+            continue;
+        }
+        let rests = rests_behind(alloc, ways, way.leaf)?;
+        let rest = table.choice(alloc, rests.as_slice())?;
+        all.push(Way {
+            leaf: way.leaf,
+            rest,
+        })?;
+    }
+    Ok(all)
+}

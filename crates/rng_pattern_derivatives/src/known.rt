@@ -1,0 +1,113 @@
+// Ways that are known of patterns.
+ghost use Rattle.std.specs.Prelude.{◌≡◌, ◌⊎◌, IfOk, IfSome, List, OnOk};
+ghost use Rattle.rng_names.specs.plain.Keys.{Keys, KeysServe};
+ghost use Rattle.rng_model.specs.simple.Table.{Table};
+ghost use Rattle.rng_pattern_table.specs.views.Node.{Node};
+ghost use Rattle.rng_pattern_table.specs.declared.pattern.PatternNumber.{PatternNumber};
+ghost use Rattle.rng_pattern_derivatives.specs.views.KnownWays.{AreAllKnown, HasKnown};
+ghost use Rattle.rng_pattern_derivatives.specs.declared.way.Way.{Way};
+
+use crate::alike::alike_elements;
+use crate::datatypes::Datatypes;
+use crate::rests::KnownRests;
+use crate::takers::Takers;
+use crate::way::{Way, Ways};
+use rng_model::{ElementId, OutOfMemory, SimpleGrammar};
+use rng_names::{NameKey, NameKeys};
+use rng_pattern_table::{PatternNumber, Span};
+use smallvec::SmallVec;
+use std::alloc::Global;
+use std::collections::HashMap;
+
+/// The ways of patterns, as far as they are known, to take one kind of what comes first.
+pub type KnownWays = HashMap<PatternNumber, Ways>;
+
+/// Those that are known for the keys of names that were met.
+pub type KnownByKey = HashMap<NameKey, KnownWays>;
+
+/// The ways of patterns that are known, for each kind of what comes first.
+#[derive(Drop)]
+pub struct Known {
+    pub(crate) texts: KnownWays,
+    /// Those of elements of the name that stands for a key, by keys.
+    pub(crate) elements: KnownByKey,
+    /// Those of attributes of the name that stands for a key, by keys.
+    pub(crate) attributes: KnownByKey,
+    /// What is left of patterns once the attributes of a tag are taken.
+    pub(crate) rests: KnownRests,
+    /// The elements that may have a name, by its key.
+    pub(crate) takers: Takers,
+    /// For each element the first one that takes the same.
+    pub(crate) alike: Vec<ElementId>,
+    /// The attributes that may have a name, by its key.
+    pub(crate) attribute_takers: Takers,
+    /// Between which positions the attributes of patterns are, of the first patterns.
+    pub(crate) spans: Vec<Span>,
+    /// The datatypes that the grammar names, by positions.
+    pub(crate) datatypes: Datatypes,
+}
+
+impl Known {
+    /// No ways are known, for a grammar that these keys of names serve. The error is want of memory. Costs a few look-ups for each element
+    /// and each attribute whose name class is one name, and a search for each data and each value.
+    pub fn new(alloc: Global, grammar: &SimpleGrammar, keys: &NameKeys) -> Result<Self, OutOfMemory>
+        requires { KeysServe grammar.now keys.now }
+        ensures { IfOk result (λ known. (ns : List Node) → AreAllKnown grammar.now keys.now ns known) }
+    {
+        let takers = Takers::of_elements(alloc, grammar, keys)?;
+        let attribute_takers = Takers::of_attributes(alloc, grammar, keys)?;
+        let alike = alike_elements(alloc, grammar, keys)?;
+        let datatypes = Datatypes::new(alloc, grammar)?;
+        Ok(Known {
+            texts: HashMap::new(alloc),
+            elements: HashMap::new(alloc),
+            attributes: HashMap::new(alloc),
+            rests: HashMap::new(alloc),
+            takers,
+            alike,
+            attribute_takers,
+            spans: Vec::new(alloc),
+            datatypes,
+        })
+    }
+
+    /// Lets go of what is known of patterns, so that it serves for any table, and keeps what is known of the grammar. Takes no
+    /// memory.
+    pub fn forget(&mut self, alloc: Global)
+        ensures { (t : Table) (keys : Keys) (old new : List Node) → AreAllKnown t keys old self.old → AreAllKnown t keys new self.new }
+    {
+        self.texts = HashMap::new(alloc);
+        self.elements = HashMap::new(alloc);
+        self.attributes = HashMap::new(alloc);
+        self.rests = HashMap::new(alloc);
+        self.spans = Vec::new(alloc);
+    }
+}
+
+/// A copy of ways. The error is want of memory.
+pub fn copied_ways(alloc: Global, ways: &[Way]) -> Result<Ways, OutOfMemory>
+    ensures { IfOk result (λ copy. copy.items ≡ ways.now) }
+{
+    Ok(SmallVec::from_slice(alloc, ways)?)
+}
+
+/// The ways that are known of a pattern.
+pub fn known_ways(known: &KnownWays, number: PatternNumber) -> Option<&[Way]>
+    ensures { IfSome result (λ ways. HasKnown known.now number ways.now) }
+{
+    Some(known.get(&number)?.as_slice())
+}
+
+/// Keeps the ways of a pattern. The error is want of memory.
+pub fn keep(
+    alloc: Global,
+    known: &mut KnownWays,
+    number: PatternNumber,
+    ways: &[Way],
+) -> Result<(), OutOfMemory>
+    ensures { OnOk result ((n : PatternNumber) (ws : List Way) → HasKnown known.new n ws → HasKnown known.old n ws ⊎ ((n ≡ number) × (ws ≡ ways.now))) }
+{
+    let copy = copied_ways(alloc, ways)?;
+    known.insert(number, copy)?;
+    Ok(())
+}

@@ -1,0 +1,159 @@
+// The ways of leaves.
+ghost use Rattle.std.specs.Prelude.{◌≡◌, ◌<◌, IfOk, IfSome, OnOk, length, slice_get, if◌then◌else◌};
+ghost use Rattle.rng_model.specs.simple.Table.{Table};
+ghost use Rattle.rng_model.specs.simple.Tree.{group, s_joined, s_leaf, s_text};
+ghost use Rattle.rng_model.specs.matching.Reading.{Reading};
+ghost use Rattle.rng_pattern_table.specs.views.PatternTable.{Adds, Longer};
+ghost use Rattle.rng_pattern_table.specs.views.Trees.{attribute_found, tree_of};
+ghost use Rattle.rng_pattern_derivatives.specs.plain.Kinds.{IsAlone, rest_of_leaf, takes_kind};
+ghost use Rattle.rng_model.specs.matching.GrammarReading.{reading_of};
+ghost use Rattle.rng_pattern_derivatives.specs.plain.Alike.{IsLikeLeaf};
+ghost use Rattle.rng_pattern_derivatives.specs.plain.Takers.{AreCandidates};
+ghost use Rattle.rng_pattern_derivatives.specs.plain.Ways.{AreWaysOf};
+ghost use Rattle.rng_pattern_derivatives.specs.declared.way.Kind as kinds;
+
+use crate::way::{Candidates, Kind, Way, Ways};
+use rng_model::{ElementId, OutOfMemory, PatternId, Simple, SimpleGrammar};
+use rng_names::contains;
+use rng_pattern_table::{Pattern, PatternNumber, PatternTable};
+use smallvec::SmallVec;
+use std::alloc::Global;
+
+/// Whether a text comes first.
+fn is_text(kind: Kind) -> bool
+    ensures { (g : Reading) → result ≡ takes_kind g kind.entry s_text }
+{
+    matches!(kind, Kind::Text)
+}
+
+/// Whether an element of the grammar may be what comes first.
+pub fn element_takes(grammar: &SimpleGrammar, element: ElementId, kind: Kind) -> bool
+    ensures { result ≡ takes_kind (reading_of grammar.now) kind.entry (s_leaf element.0) }
+{
+    let Kind::Element(name) = kind else {
+        return false;
+    };
+    match grammar.element(element) {
+        Some((class, _)) => contains(class, name),
+        None => false,
+    }
+}
+
+/// Whether an attribute pattern of the grammar may take what comes first.
+fn attribute_takes(grammar: &SimpleGrammar, position: PatternId, kind: Kind) -> bool
+    ensures { result ≡ takes_kind (reading_of grammar.now) kind.entry (attribute_found grammar.now (slice_get grammar.now.patterns position.0)) }
+{
+    let Kind::Attribute(name) = kind else {
+        return false;
+    };
+    match grammar.pattern(position) {
+        Some(Simple::Attribute(class, _)) => contains(class, name),
+        _ => false,
+    }
+}
+
+/// Whether a pattern is a leaf that may take what comes first.
+pub fn takes_kind(
+    grammar: &SimpleGrammar,
+    table: &PatternTable,
+    kind: Kind,
+    number: PatternNumber,
+) -> bool
+    requires { number.0 < length table.now }
+    ensures { result ≡ takes_kind (reading_of grammar.now) kind.entry (tree_of grammar.now table.now number.0) }
+{
+    match table.pattern(number) {
+        Pattern::Text => is_text(kind),
+        Pattern::Data(_) => is_text(kind),
+        Pattern::Element(element) => element_takes(grammar, *element, kind),
+        Pattern::Attribute(position) => attribute_takes(grammar, *position, kind),
+        _ => false,
+    }
+}
+
+/// What is left behind a leaf.
+pub fn rest_of_leaf(
+    table: &mut PatternTable,
+    number: PatternNumber,
+) -> Result<PatternNumber, OutOfMemory>
+    requires { number.0 < length table.old }
+    ensures longer { Longer table.old table.new }
+    ensures tree { IfOk result (λ n. Adds table.old table.new n.0 (λ t. rest_of_leaf (tree_of t table.old number.0))) }
+{
+    if let Pattern::Text = table.pattern(number) {
+        return Ok(number);
+    }
+    table.empty()
+}
+
+/// The ways of a pattern that is not joined of others and does not repeat one. Elements that take the same have one leaf.
+pub fn ways_of_leaf(
+    alloc: Global,
+    grammar: &SimpleGrammar,
+    table: &mut PatternTable,
+    candidates: Candidates,
+    kind: Kind,
+    number: PatternNumber,
+) -> Result<Ways, OutOfMemory>
+    requires inside { number.0 < length table.old }
+    requires leaf { IsAlone (tree_of grammar.now table.old number.0) }
+    requires candidates { AreCandidates grammar.now table.old kind candidates }
+    ensures longer { OnOk result (Longer table.old table.new) }
+    ensures ways { IfOk result (λ ws. AreWaysOf grammar.now table.new kind.entry (tree_of grammar.now table.old number.0) ws.items) }
+{
+    let mut ways = SmallVec::new(alloc);
+    if !takes_kind(grammar, table, kind, number) {
+        return Ok(ways);
+    }
+    let rest = rest_of_leaf(table, number)?;
+    let leaf = like_leaf(table, candidates, number)?;
+    ways.push(Way { leaf, rest })?;
+    Ok(ways)
+}
+
+/// The leaf that stands for all that take the same.
+fn like_leaf(
+    table: &mut PatternTable,
+    candidates: Candidates,
+    number: PatternNumber,
+) -> Result<PatternNumber, OutOfMemory>
+    requires { number.0 < length table.old }
+    ensures longer { Longer table.old table.new }
+    ensures leaf { IfOk result (λ leaf. (t : Table) (kind : kinds.Kind) → AreCandidates t table.old kind candidates.entry
+        → IsLikeLeaf t table.old table.new number leaf) }
+{
+    let Candidates::Elements(_, alike) = candidates else {
+        return Ok(number);
+    };
+    let Pattern::Element(element) = table.pattern(number) else {
+        return Ok(number);
+    };
+    match alike.get(element.0) {
+        Some(first) => table.element(*first),
+        None => Ok(number),
+    }
+}
+
+/// The sides of a group, where it is the first of another and that is opened to the right: not where a side that is
+/// shared would be unfolded, as in a nullable group of groups.
+pub fn opened(table: &PatternTable, first: PatternNumber) -> Option<(PatternNumber, PatternNumber)>
+    requires { first.0 < length table.now }
+    ensures inside { IfSome result (λ sides. (sides.0.0 < length table.now) × (sides.1.0 < length table.now)) }
+    ensures sides { IfSome result (λ sides. (t : Table)
+        → tree_of t table.now first.0 ≡ s_joined group (tree_of t table.now sides.0.0) (tree_of t table.now sides.1.0)) }
+{
+    let Pattern::Group(outer, inner) = table.pattern(first) else {
+        return None;
+    };
+    if table.facts(*outer).nullable && is_group(table, *inner) {
+        return None;
+    }
+    Some((*outer, *inner))
+}
+
+/// Whether a pattern is a group.
+fn is_group(table: &PatternTable, number: PatternNumber) -> bool
+    requires { number.0 < length table.now }
+{
+    matches!(table.pattern(number), Pattern::Group(_, _))
+}

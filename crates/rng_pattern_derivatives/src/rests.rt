@@ -1,0 +1,30 @@
+// What is left of patterns once a tag is closed, kept.
+ghost use Rattle.std.specs.Prelude.{◌≡◌, ◌⊎◌, IfSome, OnOk};
+ghost use Rattle.rng_pattern_table.specs.declared.pattern.PatternNumber.{PatternNumber};
+ghost use Rattle.rng_pattern_derivatives.specs.views.KnownRests.{HasRest};
+
+use rng_model::OutOfMemory;
+use rng_pattern_table::PatternNumber;
+use std::collections::HashMap;
+
+/// What is left of patterns once the attributes of a tag are taken, as far as it is known.
+pub type KnownRests = HashMap<PatternNumber, PatternNumber>;
+
+/// What is known to be left of a pattern.
+pub fn known_rest(known: &KnownRests, number: PatternNumber) -> Option<PatternNumber>
+    ensures { IfSome result (λ rest. HasRest known.now number rest) }
+{
+    Some(*known.get(&number)?)
+}
+
+/// Keeps what is left of a pattern. The error is want of memory.
+pub fn keep_rest(
+    known: &mut KnownRests,
+    number: PatternNumber,
+    rest: PatternNumber,
+) -> Result<(), OutOfMemory>
+    ensures { OnOk result ((n r : PatternNumber) → HasRest known.new n r → HasRest known.old n r ⊎ ((n ≡ number) × (r ≡ rest))) }
+{
+    known.insert(number, rest)?;
+    Ok(())
+}

@@ -1,0 +1,375 @@
+// The ways of a pattern: the leaves by which it may begin, each with what is left then.
+ghost use Rattle.std.specs.Prelude.{◌≡◌, ◌<◌, ◌≤◌, [], All, IfOk, OnOk, length, map, true};
+ghost use Rattle.rng_model.specs.simple.Table.{Table};
+ghost use Rattle.rng_model.specs.simple.Tree.{group, s_joined, s_one_or_more};
+ghost use Rattle.rng_pattern_table.specs.views.PatternTable.{Longer};
+ghost use Rattle.rng_pattern_table.specs.views.Trees.{choice_over, tree_of};
+ghost use Rattle.rng_pattern_derivatives.specs.plain.Kinds.{HasNoOrder, IsOfItems, connector_of};
+ghost use Rattle.rng_pattern_derivatives.specs.views.KnownWays.{AreKnown};
+ghost use Rattle.rng_pattern_derivatives.specs.plain.Takers.{AreCandidates};
+ghost use Rattle.rng_pattern_derivatives.specs.plain.Ways.{AreWaysOf, IsHoleInside, filled};
+ghost use Rattle.rng_pattern_derivatives.specs.declared.way.Kind as kinds;
+
+use crate::fewer_ways::{repeated_ways, uncovered};
+use crate::filling::{add_filled, joined_ways};
+use crate::known::{KnownWays, copied_ways, keep, known_ways};
+use crate::leaves::{opened, ways_of_leaf};
+use crate::way::{Candidates, Hole, Joint, Kind, Ways};
+use rng_model::{OutOfMemory, SimpleGrammar};
+use rng_pattern_table::{Pattern, PatternNumber, PatternTable};
+use smallvec::SmallVec;
+use std::alloc::Global;
+
+/// The ways of a pattern to take something of this kind first, each leaf once.
+///
+/// A list nested to the left is opened to the right, so that its ways are those of its first member.
+///
+/// There are none where none of the candidates stands in the pattern.
+///
+/// Those of choices, groups and repetitions are kept, so that they are worked out once for each pattern; an interleave of
+/// many members leads to too many others for that.
+#[cycle(ways)]
+pub fn ways(
+    alloc: Global,
+    grammar: &SimpleGrammar,
+    table: &mut PatternTable,
+    known: &mut KnownWays,
+    candidates: Candidates,
+    kind: Kind,
+    number: PatternNumber,
+) -> Result<Ways, OutOfMemory>
+    requires inside { number.0 < length table.old }
+    requires known { AreKnown grammar.now table.old kind known.old }
+    requires candidates { AreCandidates grammar.now table.old kind candidates }
+    ensures longer { OnOk result (Longer table.old table.new) }
+    ensures known { OnOk result (AreKnown grammar.now table.new kind.entry known.new) }
+    ensures ways { IfOk result (λ ws. AreWaysOf grammar.now table.new kind.entry (tree_of grammar.now table.old number.0) ws.items) }
+{
+    if is_idle(table, candidates, number) {
+        return Ok(SmallVec::new(alloc));
+    }
+    if !is_kept(table, number) {
+        return new_ways(alloc, grammar, table, known, candidates, kind, number);
+    }
+    if let Some(ways) = known_ways(known, number) {
+        return copied_ways(alloc, ways);
+    }
+    let ways = new_ways(alloc, grammar, table, known, candidates, kind, number)?;
+    keep(alloc, known, number, ways.as_slice())?;
+    Ok(ways)
+}
+
+/// Whether none of the candidates stands in a pattern. Then it has no ways.
+fn is_idle(table: &PatternTable, candidates: Candidates, number: PatternNumber) -> bool
+    requires { number.0 < length table.now }
+    ensures { result ≡ true → (t : Table) (kind : kinds.Kind) → AreCandidates t table.now kind candidates.entry
+        → AreWaysOf t table.now kind (tree_of t table.now number.0) [] }
+{
+    match candidates {
+        Candidates::Any => false,
+        Candidates::Elements(own, _) => !own.may_meet(table.facts(number).elements),
+        Candidates::Attributes(own, spans) => match spans.get(number.0) {
+            Some(span) => !own.may_meet(*span),
+            None => false,
+        },
+    }
+}
+
+/// The most members of an interleave whose ways are kept: what many lead to are too many others.
+const MOST_KEPT_MEMBERS: u16 = 4;
+
+/// Whether the ways of a pattern are kept.
+fn is_kept(table: &PatternTable, number: PatternNumber) -> bool
+    requires { number.0 < length table.now }
+{
+    match table.pattern(number) {
+        Pattern::Choice(_) | Pattern::Group(_, _) | Pattern::OneOrMore(_) => true,
+        Pattern::Interleave(_, _) => table.facts(number).members <= MOST_KEPT_MEMBERS,
+        _ => false,
+    }
+}
+
+/// The ways of a pattern, worked out.
+#[cycle(ways)]
+fn new_ways(
+    alloc: Global,
+    grammar: &SimpleGrammar,
+    table: &mut PatternTable,
+    known: &mut KnownWays,
+    candidates: Candidates,
+    kind: Kind,
+    number: PatternNumber,
+) -> Result<Ways, OutOfMemory>
+    requires inside { number.0 < length table.old }
+    requires known { AreKnown grammar.now table.old kind known.old }
+    requires candidates { AreCandidates grammar.now table.old kind candidates }
+    ensures longer { OnOk result (Longer table.old table.new) }
+    ensures known { OnOk result (AreKnown grammar.now table.new kind.entry known.new) }
+    ensures ways { IfOk result (λ ws. AreWaysOf grammar.now table.new kind.entry (tree_of grammar.now table.old number.0) ws.items) }
+{
+    match table.pattern(number) {
+        Pattern::Choice(members) => {
+            let members = copied(alloc, members.as_slice())?;
+            ways_of_choice(
+                alloc,
+                grammar,
+                table,
+                known,
+                candidates,
+                kind,
+                members.as_slice(),
+            )
+        }
+        Pattern::Group(first, second) => {
+            let (first, second) = (*first, *second);
+            ways_of_group(
+                alloc, grammar, table, known, candidates, kind, first, second,
+            )
+        }
+        Pattern::Interleave(first, second) => {
+            let (first, second) = (*first, *second);
+            ways_of_both(
+                alloc,
+                grammar,
+                table,
+                known,
+                candidates,
+                kind,
+                Joint::Interleave,
+                first,
+                second,
+            )
+        }
+        Pattern::OneOrMore(body) => {
+            let body = *body;
+            ways_of_copies(alloc, grammar, table, known, candidates, kind, number, body)
+        }
+        _ => ways_of_leaf(alloc, grammar, table, candidates, kind, number),
+    }
+}
+
+/// A copy of numbers.
+pub fn copied(alloc: Global, numbers: &[PatternNumber]) -> Result<Vec<PatternNumber>, OutOfMemory>
+    ensures { IfOk result (λ copy. copy.items ≡ numbers.now) }
+{
+    let mut copy = Vec::new(alloc);
+    copy.extend_from_slice(numbers)?;
+    Ok(copy)
+}
+
+/// The ways of a choice of these members.
+#[cycle(ways)]
+fn ways_of_choice(
+    alloc: Global,
+    grammar: &SimpleGrammar,
+    table: &mut PatternTable,
+    known: &mut KnownWays,
+    candidates: Candidates,
+    kind: Kind,
+    members: &[PatternNumber],
+) -> Result<Ways, OutOfMemory>
+    requires inside { All (λ m. m.0 < length table.old) members.now }
+    requires two { 2 ≤ length members.now }
+    requires known { AreKnown grammar.now table.old kind known.old }
+    requires candidates { AreCandidates grammar.now table.old kind candidates }
+    ensures longer { OnOk result (Longer table.old table.new) }
+    ensures known { OnOk result (AreKnown grammar.now table.new kind.entry known.new) }
+    ensures ways { IfOk result (λ ws. AreWaysOf grammar.now table.new kind.entry (choice_over (tree_of grammar.now table.old)
+        (map (λ m. m.0) members.now)) ws.items) }
+{
+    let mut all = Vec::new(alloc);
+    'members: for member in members {
+        if is_idle(table, candidates, *member) {
+            continue;
+        }
+        let ways = ways(alloc, grammar, table, known, candidates, kind, *member)?;
+        all.extend_from_slice(ways.as_slice())?;
+    }
+    joined_ways(alloc, table, all.as_slice())
+}
+
+/// The ways of a group.
+#[cycle(ways)]
+fn ways_of_group(
+    alloc: Global,
+    grammar: &SimpleGrammar,
+    table: &mut PatternTable,
+    known: &mut KnownWays,
+    candidates: Candidates,
+    kind: Kind,
+    first: PatternNumber,
+    second: PatternNumber,
+) -> Result<Ways, OutOfMemory>
+    requires first { first.0 < length table.old }
+    requires second { second.0 < length table.old }
+    requires known { AreKnown grammar.now table.old kind known.old }
+    requires candidates { AreCandidates grammar.now table.old kind candidates }
+    ensures longer { OnOk result (Longer table.old table.new) }
+    ensures known { OnOk result (AreKnown grammar.now table.new kind.entry known.new) }
+    ensures ways { IfOk result (λ ws. AreWaysOf grammar.now table.new kind.entry
+        (s_joined group (tree_of grammar.now table.old first.0) (tree_of grammar.now table.old second.0)) ws.items) }
+{
+    if let Kind::Attribute(_) = kind {
+        return ways_of_both(
+            alloc,
+            grammar,
+            table,
+            known,
+            candidates,
+            kind,
+            Joint::Group,
+            first,
+            second,
+        );
+    }
+    if begins_with_copies(table, first, second) {
+        let (copy, rest) = table.first_copy(first, second)?;
+        return item_ways_of_group(alloc, grammar, table, known, candidates, kind, copy, rest);
+    }
+    let Some((outer, inner)) = opened(table, first) else {
+        return item_ways_of_group(
+            alloc, grammar, table, known, candidates, kind, first, second,
+        );
+    };
+    let rest = table.group(inner, second)?;
+    ways_of_group(alloc, grammar, table, known, candidates, kind, outer, rest)
+}
+
+/// Whether a group of these two begins with two copies of a pattern that may be left out. Takes no memory.
+fn begins_with_copies(table: &PatternTable, first: PatternNumber, second: PatternNumber) -> bool
+    requires first { first.0 < length table.now }
+    requires second { second.0 < length table.now }
+{
+    let unit = table.unit(first);
+    if !table.facts(unit).nullable {
+        return false;
+    }
+    unit != first || table.behind_copies(unit, second) != Some(second)
+}
+
+/// The ways of a group to take an item first: those of its first side, and where that is nullable those by which the second side
+/// takes more. Copies of the first side at the front of the second one add no ways: what they take the first side takes, with all of
+/// them behind it.
+#[cycle(ways)]
+fn item_ways_of_group(
+    alloc: Global,
+    grammar: &SimpleGrammar,
+    table: &mut PatternTable,
+    known: &mut KnownWays,
+    candidates: Candidates,
+    kind: Kind,
+    first: PatternNumber,
+    second: PatternNumber,
+) -> Result<Ways, OutOfMemory>
+    requires kind { IsOfItems kind }
+    requires first { first.0 < length table.old }
+    requires second { second.0 < length table.old }
+    requires known { AreKnown grammar.now table.old kind known.old }
+    requires candidates { AreCandidates grammar.now table.old kind candidates }
+    ensures longer { OnOk result (Longer table.old table.new) }
+    ensures known { OnOk result (AreKnown grammar.now table.new kind.entry known.new) }
+    ensures ways { IfOk result (λ ws. AreWaysOf grammar.now table.new kind.entry
+        (s_joined group (tree_of grammar.now table.old first.0) (tree_of grammar.now table.old second.0)) ws.items) }
+{
+    let firsts = ways(alloc, grammar, table, known, candidates, kind, first)?;
+    let mut all = SmallVec::new(alloc);
+    add_filled(
+        alloc,
+        table,
+        Hole::First(Joint::Group, second),
+        firsts.as_slice(),
+        &mut all,
+    )?;
+    if !table.facts(first).nullable {
+        return Ok(all);
+    }
+    let Some(rest) = table.behind_copies(first, second) else {
+        return Ok(all);
+    };
+    let seconds = ways(alloc, grammar, table, known, candidates, kind, rest)?;
+    let seconds = uncovered(alloc, table, rest, firsts.as_slice(), seconds)?;
+    add_filled(alloc, table, Hole::Whole, seconds.as_slice(), &mut all)?;
+    Ok(all)
+}
+
+/// The ways of two patterns joined, where either may come first: of each beside the other.
+#[cycle(ways)]
+fn ways_of_both(
+    alloc: Global,
+    grammar: &SimpleGrammar,
+    table: &mut PatternTable,
+    known: &mut KnownWays,
+    candidates: Candidates,
+    kind: Kind,
+    joint: Joint,
+    first: PatternNumber,
+    second: PatternNumber,
+) -> Result<Ways, OutOfMemory>
+    requires order { HasNoOrder kind joint }
+    requires first { first.0 < length table.old }
+    requires second { second.0 < length table.old }
+    requires known { AreKnown grammar.now table.old kind known.old }
+    requires candidates { AreCandidates grammar.now table.old kind candidates }
+    ensures longer { OnOk result (Longer table.old table.new) }
+    ensures known { OnOk result (AreKnown grammar.now table.new kind.entry known.new) }
+    ensures ways { IfOk result (λ ws. AreWaysOf grammar.now table.new kind.entry
+        (s_joined (connector_of joint) (tree_of grammar.now table.old first.0) (tree_of grammar.now table.old second.0)) ws.items) }
+{
+    let firsts = ways(alloc, grammar, table, known, candidates, kind, first)?;
+    let seconds = ways(alloc, grammar, table, known, candidates, kind, second)?;
+    let mut all = SmallVec::new(alloc);
+    add_filled(
+        alloc,
+        table,
+        Hole::First(joint, second),
+        firsts.as_slice(),
+        &mut all,
+    )?;
+    add_filled(
+        alloc,
+        table,
+        Hole::Second(joint, first),
+        seconds.as_slice(),
+        &mut all,
+    )?;
+    Ok(all)
+}
+
+/// The ways of a oneOrMore, which has this number, with this body: those of a copy, with more copies behind it; behind an
+/// attribute more copies are all that is left.
+#[cycle(ways)]
+fn ways_of_copies(
+    alloc: Global,
+    grammar: &SimpleGrammar,
+    table: &mut PatternTable,
+    known: &mut KnownWays,
+    candidates: Candidates,
+    kind: Kind,
+    number: PatternNumber,
+    body: PatternNumber,
+) -> Result<Ways, OutOfMemory>
+    requires number { number.0 < length table.old }
+    requires body { body.0 < length table.old }
+    requires copies { tree_of grammar.now table.old number.0 ≡ s_one_or_more (tree_of grammar.now table.old body.0) }
+    requires known { AreKnown grammar.now table.old kind known.old }
+    requires candidates { AreCandidates grammar.now table.old kind candidates }
+    ensures longer { OnOk result (Longer table.old table.new) }
+    ensures known { OnOk result (AreKnown grammar.now table.new kind.entry known.new) }
+    ensures ways { IfOk result (λ ws. AreWaysOf grammar.now table.new kind.entry (tree_of grammar.now table.old number.0) ws.items) }
+{
+    let copies = ways(alloc, grammar, table, known, candidates, kind, body)?;
+    let empty = table.empty()?;
+    let more = table.choice(alloc, &[number, empty])?;
+    if let Kind::Attribute(_) = kind {
+        return repeated_ways(alloc, table, copies.as_slice(), more);
+    }
+    let mut all = SmallVec::new(alloc);
+    add_filled(
+        alloc,
+        table,
+        Hole::First(Joint::Group, more),
+        copies.as_slice(),
+        &mut all,
+    )?;
+    Ok(all)
+}

@@ -1,0 +1,63 @@
+// Patterns that are copies of one other, one after the other.
+ghost use Rattle.std.specs.Prelude.{◌<◌, IfOk, IfSome, IfNone, OnOk, length};
+ghost use Rattle.rng_model.specs.simple.Table.{Table};
+ghost use Rattle.rng_pattern_table.specs.plain.Copies.{IsBehindCopies, IsOfCopies, IsOpened};
+ghost use Rattle.rng_pattern_table.specs.views.PatternTable.{Longer};
+ghost use Rattle.rng_pattern_table.specs.views.Trees.{tree_of};
+
+use crate::pattern::{Pattern, PatternNumber};
+use crate::pattern_table::PatternTable;
+use rng_model::OutOfMemory;
+
+impl PatternTable {
+    /// The sides of a group of these two once its first side is opened to the right, down to a first copy of what it is copies of: that
+    /// copy, and all that stands behind it. The error is want of memory. Costs a look-up for each group that is opened.
+    pub fn first_copy(
+        &mut self,
+        first: PatternNumber,
+        second: PatternNumber,
+    ) -> Result<(PatternNumber, PatternNumber), OutOfMemory>
+        requires first { first.0 < length self.old }
+        requires second { second.0 < length self.old }
+        ensures longer { OnOk result (Longer self.old self.new) }
+        ensures inside { IfOk result (λ sides. (sides.0.0 < length self.new) × (sides.1.0 < length self.new)) }
+        ensures opened { IfOk result (λ sides. (t : Table) → IsOpened (tree_of t self.old first.0) (tree_of t self.old second.0)
+            (tree_of t self.new sides.0.0) (tree_of t self.new sides.1.0)) }
+    {
+        let unit = self.unit(first);
+        let mut front = first;
+        let mut rest = second;
+        'groups: while front != unit {
+            let Pattern::Group(outer, inner) = self.pattern(front) else {
+                break;
+            };
+            let (outer, inner) = (*outer, *inner);
+            rest = self.group(inner, rest)?;
+            front = outer;
+        }
+        Ok((front, rest))
+    }
+
+    /// What stands in a pattern behind the copies of `unit` with which it begins; `None` where it is such copies alone. Takes no
+    /// memory. Costs a comparison for each group of copies in front.
+    pub fn behind_copies(&self, unit: PatternNumber, number: PatternNumber) -> Option<PatternNumber>
+        requires unit { unit.0 < length self.now }
+        requires number { number.0 < length self.now }
+        ensures inside { IfSome result (λ rest. rest.0 < length self.now) }
+        ensures behind { IfSome result (λ rest. (t : Table)
+            → IsBehindCopies (tree_of t self.now unit.0) (tree_of t self.now number.0) (tree_of t self.now rest.0)) }
+        ensures alone { IfNone result ((t : Table) → IsOfCopies (tree_of t self.now unit.0) (tree_of t self.now number.0)) }
+    {
+        let mut rest = number;
+        'copies: while self.unit(rest) != unit {
+            let Pattern::Group(first, second) = self.pattern(rest) else {
+                return Some(rest);
+            };
+            if self.unit(*first) != unit {
+                return Some(rest);
+            }
+            rest = *second;
+        }
+        None
+    }
+}

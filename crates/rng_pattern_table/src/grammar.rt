@@ -1,0 +1,127 @@
+// The patterns of a grammar, taken over into a table.
+ghost use Rattle.std.specs.Prelude.{◌≡◌, ◌⊎◌, ◌<◌, All, IfOk, Some, length, slice_get};
+ghost use Rattle.rng_model.specs.simple.Table.{AreChildrenBelow, Table};
+ghost use Rattle.rng_model.specs.matching.Reading.{Reading};
+ghost use Rattle.rng_deriv_laws.specs.plain.Taking.{Same};
+ghost use Rattle.rng_pattern_table.specs.plain.Facts.{members_of};
+ghost use Rattle.rng_pattern_table.specs.plain.Kept.{AreRestrictedAlike, Interleaves, IsMadeOver};
+ghost use Rattle.rng_pattern_table.specs.views.PatternTable.{Longer};
+ghost use Rattle.rng_pattern_table.specs.views.Taking.{AreTaken, taken_over, tree_by};
+ghost use Rattle.rng_pattern_table.specs.views.Trees.{tree_of};
+
+use crate::pattern::{Pattern, PatternNumber};
+use crate::pattern_table::PatternTable;
+use rng_model::{OutOfMemory, PatternId, Simple, SimpleGrammar};
+use std::alloc::Global;
+
+impl PatternTable {
+    /// The patterns of a grammar in a table, and the number of each.
+    ///
+    /// Each number's pattern takes what the grammar's does, and obeys the restrictions that the grammar's obeys (RELAX NG
+    /// Specification, section 7). The error is want of memory.
+    pub fn of(
+        alloc: Global,
+        grammar: &SimpleGrammar,
+    ) -> Result<(PatternTable, Vec<PatternNumber>), OutOfMemory>
+        ensures long { IfOk result (λ r. length r.1.items ≡ length grammar.now.patterns) }
+        ensures taken { IfOk result (λ r. AreTaken grammar.now r.0 r.1.items) }
+        ensures restricted { IfOk result (λ r. AreRestrictedAlike grammar.now r.0 r.1.items) }
+    {
+        let mut table = PatternTable::new(alloc);
+        let mut numbers = Vec::new(alloc);
+        'rows: while let Some(row) = grammar.pattern(PatternId(numbers.len())) {
+            let position = PatternId(numbers.len());
+            numbers.push(table.take(alloc, row, position, numbers.as_slice())?)?;
+        }
+        Ok((table, numbers))
+    }
+
+    /// The number of the grammar's pattern at a position, whose members have these numbers.
+    fn take(
+        &mut self,
+        alloc: Global,
+        row: &Simple,
+        position: PatternId,
+        numbers: &[PatternNumber],
+    ) -> Result<PatternNumber, OutOfMemory>
+        requires below { AreChildrenBelow (length numbers.now) row.now }
+        requires inside { All (λ n. n.0 < length self.old) numbers.now }
+        ensures longer { Longer self.old self.new }
+        ensures inside { IfOk result (λ n. n.0 < length self.new) }
+        ensures same { IfOk result (λ n. (t : Table) → slice_get t.patterns position.0 ≡ Some row.now → (g : Reading)
+            → Same g (tree_of t self.new n.0) (taken_over t (tree_by t self.old numbers.now) row.now)) }
+        ensures made { IfOk result (λ n. (t : Table) → slice_get t.patterns position.0 ≡ Some row.now
+            → IsMadeOver t (tree_by t self.old numbers.now) row.now (tree_of t self.new n.0)) }
+    {
+        match row {
+            Simple::NotAllowed => self.not_allowed(),
+            Simple::Empty => self.empty(),
+            Simple::Text => self.number_of(Pattern::Text),
+            Simple::Element(element) => self.element(*element),
+            Simple::Attribute(_, _) => self.number_of(Pattern::Attribute(position)),
+            Simple::List(_) | Simple::Data(_) | Simple::DataExcept(_, _) | Simple::Value(_) => {
+                self.number_of(Pattern::Data(position))
+            }
+            Simple::OneOrMore(body) => self.one_or_more(numbers[body.0]),
+            Simple::Group(first, second) => self.group(numbers[first.0], numbers[second.0]),
+            Simple::Interleave(first, second) => {
+                self.balanced(numbers[first.0], numbers[second.0])
+            }
+            Simple::Choice(first, second) => {
+                self.choice(alloc, &[numbers[first.0], numbers[second.0]])
+            }
+        }
+    }
+
+    /// The two in any order. The members of interleaves among them are nested so that a side has about half of them where they
+    /// came one by one: then what is made of an interleave of n members when one of them has gone on is as deep as the
+    /// logarithm of n.
+    ///
+    /// RELAX NG Specification, section 6.2.6. The error is want of memory. Costs one look-up for each level of the new nesting.
+    fn balanced(
+        &mut self,
+        first: PatternNumber,
+        second: PatternNumber,
+    ) -> Result<PatternNumber, OutOfMemory>
+        requires first { first.0 < length self.old }
+        requires second { second.0 < length self.old }
+        ensures longer { Longer self.old self.new }
+        ensures both { IfOk result (λ n. Interleaves self.old self.new first.0 second.0 n.0) }
+    {
+        let (big, small) = self.by_members(first, second);
+        let Pattern::Interleave(a, b) = self.pattern(big) else {
+            return self.interleave(big, small);
+        };
+        let (more, less) = self.by_members(*a, *b);
+        if self.members(less).saturating_add(self.members(small)) > self.members(more) {
+            return self.interleave(big, small);
+        }
+        let joined = self.balanced(less, small)?;
+        self.interleave(more, joined)
+    }
+
+    /// The two, first the one with more members. Takes no memory.
+    fn by_members(
+        &self,
+        first: PatternNumber,
+        second: PatternNumber,
+    ) -> (PatternNumber, PatternNumber)
+        requires first { first.0 < length self.now }
+        requires second { second.0 < length self.now }
+        ensures { (result ≡ (first, second)) ⊎ (result ≡ (second, first)) }
+    {
+        if self.members(first) < self.members(second) {
+            (second, first)
+        } else {
+            (first, second)
+        }
+    }
+
+    /// How many patterns the pattern joins that are no interleaves. Takes no memory.
+    fn members(&self, number: PatternNumber) -> u16
+        requires { number.0 < length self.now }
+        ensures { (t : Table) → result ≡ members_of (tree_of t self.now number.0) }
+    {
+        self.facts(number).members
+    }
+}

@@ -1,4 +1,0 @@
-use Rattle.rng_patterns.proofs.pattern_table.PatternTable.+covers.Given as goal
-
-abbrev pub decreases-covers : goal.decreases-covers
-decreases-covers l = l.outer.0

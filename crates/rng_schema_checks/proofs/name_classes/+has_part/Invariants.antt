@@ -1,0 +1,12 @@
+use Rattle.std.proofs.Common.{◌≡◌, drop, map}
+use Rattle.rng_model.specs.names.Names.{classes_of}
+use Rattle.rng_model.specs.names.NameViews.{class_of}
+use Rattle.rng_schema_checks.specs.plain.ClassTests.{some_has_part}
+use Rattle.rng_schema_checks.specs.plain.RuleTests.{part_test}
+use Rattle.rng_schema_checks.proofs.name_classes.+has_part.Given as goal
+
+-- what is sought is among the members that are left where it is among all of them
+abbrev pub invariant-members : goal.invariant-members
+invariant-members l =
+    some_has_part (part_test l.part) (classes_of (map class_of l.member-items)) ≡
+    some_has_part (part_test l.part) (classes_of (map class_of (drop l.member-index l.member-items)))

@@ -1,0 +1,125 @@
+-- Which patterns break a rule, as tests of their kinds. (RELAX NG Specification, sections 4.16 and 4.18)
+use Rattle.std.specs.Prelude.{ℕ, List, Bool, false, ◌||◌, not, is_some}
+use Rattle.rng_model.specs.names.Names.{NameClass}
+use Rattle.rng_model.specs.simple.Tree.{Datatype}
+use Rattle.rng_model.specs.schema.Patterns.{Pattern, Patterns, not_allowed, empty, text, element, attribute, list, data_of, data_except, value, mixed}
+use Rattle.rng_model.specs.schema.Patterns.{optional, zero_or_more, one_or_more, joined, ref, parent_ref, grammar, external, no_patterns, pattern_and}
+use Rattle.rng_model.specs.schema.Patterns.{without_parameters}
+use Rattle.rng_model.specs.datatypes.DatatypeTests.{type_of, text_tests}
+use Rattle.rng_schema_checks.specs.plain.ClassTests.{has_part, breaks_except, declaration_test}
+
+-- what is sought among patterns: elements and attributes of some classes, datatypes, values, refs and parent refs
+pub record PatternTest : Type 0 where
+  pub element : NameClass → Bool
+  pub attribute : NameClass → Bool
+  pub datatype : Datatype → Bool
+  pub value : List ℕ → List ℕ → List ℕ → Bool
+  pub ref : List ℕ → Bool
+  pub parent_ref : List ℕ → Bool
+
+-- what the test says of a pattern alone, whatever stands in it
+abbrev pub passes : PatternTest → Pattern → Bool
+passes t not_allowed = false
+passes t empty = false
+passes t text = false
+passes t (element c p) = t.element c
+passes t (attribute c p) = t.attribute c
+passes t (list p) = false
+passes t (data_of d) = t.datatype d
+passes t (data_except d p) = t.datatype d
+passes t (value library name v) = t.value library name v
+passes t (mixed p) = false
+passes t (optional p) = false
+passes t (zero_or_more p) = false
+passes t (one_or_more p) = false
+passes t (joined k p q ps) = false
+passes t (ref y) = t.ref y
+passes t (parent_ref y) = t.parent_ref y
+passes t (grammar z) = false
+passes t (external p) = false
+
+-- the test passes for the pattern, or for one that stands in it
+abbrev mutual
+  pub has_written : PatternTest → Pattern → Bool
+  has_written t not_allowed = false
+  has_written t empty = false
+  has_written t text = false
+  has_written t (element c p) = t.element c || has_written t p
+  has_written t (attribute c p) = t.attribute c || has_written t p
+  has_written t (list p) = has_written t p
+  has_written t (data_of d) = t.datatype d
+  has_written t (data_except d p) = t.datatype d || has_written t p
+  has_written t (value library name v) = t.value library name v
+  has_written t (mixed p) = has_written t p
+  has_written t (optional p) = has_written t p
+  has_written t (zero_or_more p) = has_written t p
+  has_written t (one_or_more p) = has_written t p
+  has_written t (joined k p q ps) = has_written t p || (has_written t q || some_has_written t ps)
+  has_written t (ref y) = t.ref y
+  has_written t (parent_ref y) = t.parent_ref y
+  has_written t (grammar z) = false
+  has_written t (external p) = has_written t p
+
+  pub some_has_written : PatternTest → Patterns → Bool
+  some_has_written t no_patterns = false
+  some_has_written t (pattern_and p ps) = has_written t p || some_has_written t ps
+
+abbrev pub no_class : NameClass → Bool
+no_class c = false
+
+abbrev pub no_datatype : Datatype → Bool
+no_datatype d = false
+
+abbrev pub no_value : List ℕ → List ℕ → List ℕ → Bool
+no_value library name v = false
+
+abbrev pub no_ref : List ℕ → Bool
+no_ref y = false
+
+-- ---- name classes
+
+abbrev pub breaks_attribute : NameClass → Bool
+breaks_attribute c = breaks_except c || has_part declaration_test c
+
+abbrev pub class_test : PatternTest
+class_test = record {
+  element = breaks_except;
+  attribute = breaks_attribute;
+  datatype = no_datatype;
+  value = no_value;
+  ref = no_ref;
+  parent_ref = no_ref;
+}
+
+-- ---- datatypes
+
+abbrev pub is_unknown : Datatype → Bool
+is_unknown d = not (is_some (type_of d))
+
+abbrev pub is_refused : List ℕ → List ℕ → List ℕ → Bool
+is_refused library name v = not (text_tests.allows (without_parameters library name) v)
+
+abbrev pub datatype_test : PatternTest
+datatype_test = record {
+  element = no_class;
+  attribute = no_class;
+  datatype = is_unknown;
+  value = is_refused;
+  ref = no_ref;
+  parent_ref = no_ref;
+}
+
+-- ---- refs, where it is told which names their grammar defines, and which the one around it
+
+abbrev pub lacks : (List ℕ → Bool) → List ℕ → Bool
+lacks defined y = not (defined y)
+
+abbrev pub ref_test : (List ℕ → Bool) → (List ℕ → Bool) → PatternTest
+ref_test own around = record {
+  element = no_class;
+  attribute = no_class;
+  datatype = no_datatype;
+  value = no_value;
+  ref = lacks own;
+  parent_ref = lacks around;
+}

@@ -1,0 +1,149 @@
+// Which clause of components a schema breaks.
+ghost use Rattle.std.specs.Prelude.{◌≡◌, ◌↔◌, ℕ, IfOk, IsTrue, List, map};
+ghost use Rattle.rng_model.specs.schema.Patterns as patterns;
+ghost use Rattle.rng_model.specs.schema.SchemaClauses.{BreaksSchemaClause};
+ghost use Rattle.rng_model.specs.views.SchemaView.{place_of, schema_component_of};
+ghost use Rattle.rng_load.specs.views.PlacedGrammars.{schema_of};
+ghost use Rattle.rng_schema_checks.specs.plain.ClauseTests.{is_broken_at, number_of};
+ghost use Rattle.rng_schema_checks.specs.views.Defined.{defines_in, finds};
+ghost use Rattle.rng_schema_checks.specs.plain.GrammarTests.{defines, defines_if, some_has};
+ghost use Rattle.rng_schema_checks.specs.plain.Judged.{AreComponentsJudged};
+ghost use Rattle.rng_schema_checks.specs.plain.PatternTests.{ref_test};
+ghost use Rattle.rng_schema_checks.specs.plain.RuleTests.{rule_test};
+
+use crate::combinations::{breaks_combination, lacks_start};
+use crate::definitions::{DefinedNames, Definitions, components_at};
+use crate::patterns::{Rule, Scope};
+use rng_load::Schema;
+use rng_model::{Component, OutOfMemory, Place, SchemaFault};
+use std::alloc::Global;
+
+/// A clause of the components of a schema, of which each grammar is judged by itself.
+#[derive(Clone, Copy)]
+enum ComponentClause {
+    /// 11
+    NameClasses,
+    /// 12
+    Datatypes,
+    /// 13
+    Combinations,
+    /// 14
+    Starts,
+    /// 15
+    Refs,
+}
+
+/// What the grammars of a schema are judged by.
+#[derive(Clone, Copy)]
+struct Judge<'a, 'd> {
+    alloc: Global,
+    schema: &'a Schema,
+    definitions: &'d Definitions<'a>,
+}
+
+/// Whether the components of a schema keep the clauses 11 to 15, at all places, reached from the start or not.
+///
+/// `Clause` is the least of them that is broken: 11 where a name class is not allowed, 12 where a datatype is not known or a value not one of
+/// its datatype, 13 where two components of one name have `=` or one has `|=` and one `&=`, 14 where a grammar has no start, 15 where a ref
+/// finds no definition. `Memory` only where there was no memory. Linear in the schema, but for hashing; recurses as deep as patterns and
+/// name classes nest.
+///
+/// RELAX NG Specification, sections 4.16 to 4.18.
+pub fn check_components(alloc: Global, schema: &Schema) -> Result<(), SchemaFault>
+    ensures { AreComponentsJudged (schema_of schema.now) result }
+{
+    let definitions = Definitions::of_schema(alloc, schema)?;
+    let judge = Judge {
+        alloc,
+        schema,
+        definitions: &definitions,
+    };
+    judge.check()
+}
+
+impl<'a, 'd> Judge<'a, 'd> {
+    /// The least clause that is broken, if one is.
+    fn check(self) -> Result<(), SchemaFault>
+        requires defined { (x : patterns.Place) (y : List ℕ) → defines_in self.definitions.now x y ≡ defines (schema_of self.schema.now) x y }
+        ensures { AreComponentsJudged (schema_of self.entry.schema.now) result }
+    {
+        if self.breaks(ComponentClause::NameClasses)? {
+            return Err(SchemaFault::Clause(11));
+        }
+        if self.breaks(ComponentClause::Datatypes)? {
+            return Err(SchemaFault::Clause(12));
+        }
+        if self.breaks(ComponentClause::Combinations)? {
+            return Err(SchemaFault::Clause(13));
+        }
+        if self.breaks(ComponentClause::Starts)? {
+            return Err(SchemaFault::Clause(14));
+        }
+        if self.breaks(ComponentClause::Refs)? {
+            return Err(SchemaFault::Clause(15));
+        }
+        Ok(())
+    }
+
+    /// Whether some grammar of the schema breaks the clause.
+    fn breaks(self, clause: ComponentClause) -> Result<bool, OutOfMemory>
+        requires defined { (x : patterns.Place) (y : List ℕ) → defines_in self.definitions.now x y ≡ defines (schema_of self.schema.now) x y }
+        ensures { IfOk result (λ broken. IsTrue broken ↔ BreaksSchemaClause (schema_of self.entry.schema.now) (number_of clause)) }
+    {
+        for place in self.schema.places() {
+            if self.breaks_at(clause, place)? {
+                return Ok(true);
+            }
+        }
+        Ok(false)
+    }
+
+    /// Whether the grammar at this place breaks the clause.
+    fn breaks_at(self, clause: ComponentClause, place: &'a Place) -> Result<bool, OutOfMemory>
+        requires defined { (x : patterns.Place) (y : List ℕ) → defines_in self.definitions.now x y ≡ defines (schema_of self.schema.now) x y }
+        ensures { IfOk result (λ broken. broken ≡ is_broken_at clause (schema_of self.entry.schema.now) (place_of place.now)) }
+    {
+        let components = components_at(self.schema, place);
+        match clause {
+            ComponentClause::NameClasses => Ok(break_rule(&Rule::NameClasses, components)),
+            ComponentClause::Datatypes => Ok(break_rule(&Rule::Datatypes, components)),
+            ComponentClause::Combinations => breaks_combination(self.alloc, components),
+            ComponentClause::Starts => Ok(lacks_start(components)),
+            ComponentClause::Refs => Ok(break_rule(&self.refs_at(place), components)),
+        }
+    }
+
+    /// The rule of the refs of the grammar at this place.
+    fn refs_at(self, place: &'a Place) -> Rule<'a, 'd>
+        requires defined { (x : patterns.Place) (y : List ℕ) → defines_in self.definitions.now x y ≡ defines (schema_of self.schema.now) x y }
+        ensures { rule_test result ≡ ref_test (defines (schema_of self.entry.schema.now) (place_of place.now)) (defines_if (schema_of self.entry.schema.now) ((schema_of self.entry.schema.now).outer (place_of place.now))) }
+    {
+        Rule::Refs(Scope {
+            names: self.definitions.names_at(place),
+            outer: self.names_around(place),
+        })
+    }
+
+    /// The names that the grammar around the one at this place defines, where there is one.
+    fn names_around(self, place: &'a Place) -> Option<&'d DefinedNames<'a>>
+        requires defined { (x : patterns.Place) (y : List ℕ) → defines_in self.definitions.now x y ≡ defines (schema_of self.schema.now) x y }
+        ensures { (y : List ℕ) → finds result y ≡ defines_if (schema_of self.entry.schema.now) ((schema_of self.entry.schema.now).outer (place_of place.now)) y }
+    {
+        match self.schema.outer(place) {
+            Some(outer) => self.definitions.names_at(outer),
+            None => None,
+        }
+    }
+}
+
+/// Whether a pattern in the components breaks the rule.
+fn break_rule(rule: &Rule<'_, '_>, components: &[Component]) -> bool
+    ensures { result ≡ some_has (rule_test rule.now) (map schema_component_of components.now) }
+{
+    for component in components {
+        if rule.is_broken_in(&component.pattern) {
+            return true;
+        }
+    }
+    false
+}
