@@ -1,0 +1,41 @@
+-- What is printed for a schema, handed in as the main file.
+use Rattle.std.specs.Prelude.{◌≡◌, ℕ, ◌<◌, ◌≤◌, ◌^◌, List, [], ◌∷◌, length, Result, MatchResult}
+use Rattle.rng_model.specs.schema.Schema.{Schema}
+use Rattle.rng_model.specs.schema.SchemaClauses.{BreaksNoClause}
+use Rattle.rng_model.specs.simple.Table.{Grammar}
+use Rattle.rng_model.specs.declared.fault.SchemaFault.{SchemaFault}
+use Rattle.rng_model.specs.declared.fault.SchemaFault.TheVariants as faults
+use Rattle.rnc_model.specs.loading.Loading.{TakenFiles}
+use Rattle.rng_load.specs.views.PlacedGrammars.{schema_of}
+use Rattle.rnc_model.specs.loading.SchemaFile.{Name, NamedFile, HasTree, IsSchemaFile, size_limit}
+use Rattle.rng_load.specs.declared.schema.Schema as loaded
+use Rattle.rncv_model.specs.printed.PrintedText.{Item}
+use Rattle.rncv_model.specs.printed.SchemaText.{IsPrintedForm}
+use Rattle.rng_print_laws.specs.plain.LinesTree.{lines_tree}
+
+-- the main file alone, with the tree of the lines
+abbrev pub lines_alone : Name → Grammar → List Item → TakenFiles
+lines_alone main g items = (main, lines_tree g items) ∷ []
+
+-- The main file has the tree of the lines of the text that is printed for the schema, which breaks no clause. So many bytes are numbered.
+pub record IsHandedInAgain (s : Schema) (text : List ℕ) (files : List NamedFile) (main : Name) : Type 0 where
+  pub kept : BreaksNoClause s
+  pub printed : IsPrintedForm s text
+  pub few : length text < 2 ^ 64
+  pub tree : HasTree files main main (lines_tree printed.grammar printed.is_printed.items)
+
+-- The text that is printed for the schema, which breaks no clause, is no longer than a file may be, and breaks no clause of a file; its tree is that of
+-- its lines.
+pub record IsPrintedFile (s : Schema) (text : List ℕ) : Type 0 where
+  pub kept : BreaksNoClause s
+  pub printed : IsPrintedForm s text
+  pub small : length text ≤ size_limit
+  pub is : IsSchemaFile text (lines_tree printed.grammar printed.is_printed.items)
+
+-- the text alone, as the file of this name
+abbrev pub text_alone : Name → List ℕ → List NamedFile
+text_alone main text = record { name = main; bytes = text } ∷ []
+
+-- the schema that is answered breaks no clause, and this is printed for it; unless memory ran out
+abbrev pub IsAgain : List ℕ → Result loaded.Schema SchemaFault → Type 0
+IsAgain text result = MatchResult result (λ r. BreaksNoClause (schema_of r) × IsPrintedForm (schema_of r) text) (λ fault. fault ≡ faults.Memory)

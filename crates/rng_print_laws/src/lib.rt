@@ -1,0 +1,39 @@
+//! What is printed for a schema: the text is read back, breaks no clause and has the same simple form, so that `simple` answers
+//! it with itself (RELAX NG Specification, sections 4.12 to 4.21 and 7; RELAX NG Compact Syntax).
+//!
+//! The crate has no code that runs: each call does nothing, and its contract is laws. `reading_back_laws`: the text of a simple
+//! grammar whose names are NCNames and whose texts are made of Chars breaks no clause of the compact syntax but maybe that of
+//! its size, and its file tree is that of its lines. `printable_laws`: each simple grammar of a schema that breaks no clause is
+//! such a grammar. `reprinting_laws` and `printed_file_laws`: the schema of the lines of a printed grammar breaks no clause, and
+//! the same text is printed for it. `printed_again_laws` says this of answers.
+//!
+//! Order of reading, in `specs/`: `Printable` (which grammars), `LinesTree` (which tree), `ReadBack` (what it is to be read),
+//! `LinesSchema` (which schema the lines are), `HandedIn` (what it is to hand a text in again). The others are for the proofs:
+//! `PrintedMarks`, `MarkLexemes` and `LinesSyntax` (the marks of a text, their tokens, and the tree of these with its
+//! prefixes; `marks_laws` of `rnc_text` says that marks which are parted are cut into their pieces and stand for their
+//! characters), `WellSpelledFiles` and `WellSpelledSchemas` (printable, said of the tree of a file and of the components of a
+//! schema).
+//! In `proofs/`, of reading back: `Escaping` and `Encoding` (escapes and runs, in bytes and in Unicode numbers), `Colons` and
+//! `Digits` (names), `MarksText` (the printed text is that of its marks), `Spelled` and `ReadMarks` (these are marks that are
+//! read), `Sentences` (their tokens are a sentence), `Nesting`, `Resolving` and `Rules` (the declarations), `Conditions`,
+//! `FewItems`, `ReadsBack`; `Datatypes` (those of the table can be named), `Examples`.
+//! Of printable grammars: `Characters` (the characters of a file are Chars), `Rooms` (how much room for brackets tokens leave),
+//! `SyntaxTrees` (from tokens to syntax trees), `Tokens` (from characters to tokens), `FileTrees` (declarations applied),
+//! `Components` (from files to the components of a schema), `Classes` and `Trees` (what a step of simplification keeps), `Forms`
+//! (from components to the simple form).
+//! Of printing again: `Listed`, `ItemNames` and `LinesFound` (each name finds its line), `Flattened` and `ClassParts` (choices of
+//! name classes as they are written), `FineTrees`, `SimpleDepths` and `GoodGrammars` (what a schema without faults leaves on its
+//! grammar), `LineTrees` (what a line stands for), `RenamedSteps`, `LinesForm` and `LinesGrammar` (the simple form of the
+//! lines), `LinesWritten` and `LinesKept` (their clauses), `ReadClasses`, `ReadLines`, `LinesTaken` and `LinesLoaded` (the file of
+//! the lines), `PrintedAgain` and `PrintedTwice` (answers).
+#![tactic(auto)]
+
+mod printable;
+mod printed_again;
+mod reading_back;
+mod reprinting;
+
+pub use printable::printable_laws;
+pub use printed_again::printed_again_laws;
+pub use reading_back::reading_back_laws;
+pub use reprinting::{printed_file_laws, reprinting_laws};

@@ -1,9 +1,0 @@
-pub mod Classes
-pub mod Trees
-pub mod Forms
-pub mod Characters
-pub mod Rooms
-pub mod SyntaxTrees
-pub mod Tokens
-pub mod FileTrees
-pub mod Components

@@ -1,2 +1,0 @@
-pub mod PrintedAgain
-pub mod PrintedTwice

@@ -1,3 +1,0 @@
--- Plain functions that the code is proved against, and private relations.
-pub mod HandedIn
-pub mod LinesSchema
