@@ -22,17 +22,17 @@ use Rattle.pyx.specs.plain.DocumentReader.{nothing_read, at_end, at_last, all_en
 use Rattle.pyx.proofs.LineClauses.{good_line, broken_line, alone_most}
 use Rattle.pyx.proofs.WrittenNames.{written_back, written_bytes}
 use Rattle.pyx.proofs.TagExact.{tag_namespaces, tag_repeats}
-use Rattle.pyx.proofs.Turns.{followed_same, followed_twice}
+use Rattle.pyx.proofs.LineTurns.{followed_same, followed_twice}
 use Rattle.pyx.proofs.SaidLines.{is_attribute, line_said}
 use Rattle.pyx.proofs.StateSteps.{inside, in_tag, open_of, not_zero}
-use Rattle.pyx.proofs.Moves.{Move, instruction_passes, attribute_outside, text_joins, text_too_long, text_outside, start_begins, start_too_deep, start_again}
-use Rattle.pyx.proofs.Moves.{end_closes, end_of_other, end_of_none, moves, TagMove, attribute_added, attribute_too_many, tag_refused, tag_closes, tag_moves}
+use Rattle.pyx.proofs.LineCases.{Move, instruction_passes, attribute_outside, text_joins, text_too_long, text_outside, start_begins, start_too_deep, start_again}
+use Rattle.pyx.proofs.LineCases.{end_closes, end_of_other, end_of_none, moves, TagMove, attribute_added, attribute_too_many, tag_refused, tag_closes, tag_moves}
 use Rattle.pyx.proofs.OpenTags.{is_kind, kind_not, marks, Marks, open_marks, ends_marks, open_same, no_tag}
-use Rattle.pyx.proofs.Joined.{start_line, end_line, says_a_start, says_an_attribute, says_a_text, says_an_end, joined_with, texts_more}
-use Rattle.pyx.proofs.Joined.{good_line_more, text_within, has_root, root_in, root_not}
-use Rattle.pyx.proofs.Places.{AreMatched, none_matched, one_matched, scope_of, matched_scope, matched_declared, matched_once, matched_length, says_same}
-use Rattle.pyx.proofs.Places.{scope_same}
-use Rattle.pyx.proofs.Places.{Content, Within, Place, at_content, at_tag, place_first, closed}
+use Rattle.pyx.proofs.JoinedText.{start_line, end_line, says_a_start, says_an_attribute, says_a_text, says_an_end, joined_with, texts_more}
+use Rattle.pyx.proofs.JoinedText.{good_line_more, text_within, has_root, root_in, root_not}
+use Rattle.pyx.proofs.StateAfterLines.{AreMatched, none_matched, one_matched, scope_of, matched_scope, matched_declared, matched_once, matched_length, says_same}
+use Rattle.pyx.proofs.StateAfterLines.{scope_same}
+use Rattle.pyx.proofs.StateAfterLines.{Content, Within, Place, at_content, at_tag, place_first, closed}
 use Rattle.pyx.proofs.DocumentBroken.{at, failed, TagBreaks, LineTells, goes_on, breaks_here, tag_breaks, tag_lines, alone_few, bad_line, ended_silent}
 use Rattle.pyx.proofs.DocumentBroken.{ended_closes}
 use Rattle.pyx.proofs.DocumentBroken.{no_tag_ended, line_tells, next_place, EndTells, ends_well, ends_open, tag_ends_badly, fault_tag, fault_open, end_tells}

@@ -22,8 +22,8 @@ use Rattle.pyx.proofs.TagParts.{IsSplit, split_declared}
 use Rattle.pyx.proofs.TagExact.{is_tag}
 use Rattle.pyx.proofs.SaidLines.{said_line, good, line_said}
 use Rattle.pyx.proofs.StateSteps.{inside, in_tag, begun, open_of, not_zero}
-use Rattle.pyx.proofs.Moves.{Move, instruction_passes, attribute_outside, text_joins, text_too_long, text_outside, start_begins, start_too_deep, start_again}
-use Rattle.pyx.proofs.Moves.{end_closes, end_of_other, end_of_none, moves, TagMove, attribute_added, attribute_too_many, tag_refused, tag_closes, tag_moves}
+use Rattle.pyx.proofs.LineCases.{Move, instruction_passes, attribute_outside, text_joins, text_too_long, text_outside, start_begins, start_too_deep, start_again}
+use Rattle.pyx.proofs.LineCases.{end_closes, end_of_other, end_of_none, moves, TagMove, attribute_added, attribute_too_many, tag_refused, tag_closes, tag_moves}
 use Rattle.pyx.proofs.DocumentComplete.{attribute_longer, split_length}
 
 -- ---- results

@@ -22,10 +22,10 @@ use Rattle.rng_model.specs.documents.PyxHeld.{in_tag, in_no_tag}
 use Rattle.pyx.specs.plain.TagReader.{declared_by}
 use Rattle.pyx.specs.plain.DocumentReader.{State, Open, Turn, silent, go_on, line_read, all_read, nothing_read, tag_bytes}
 use Rattle.pyx.specs.plain.Pieces.{Progress, with_begun, ended_line, open_line, byte_read, read, nothing_fed}
-use Rattle.pyx.specs.views.Standing.{Kept}
+use Rattle.pyx.specs.views.ReaderAfterPiece.{Kept}
 use Rattle.pyx.specs.views.Held.{plus, declarations_held, opened_held, held}
 use Rattle.pyx.specs.views.HeldCalls.{held_limit, IsHeld}
-use Rattle.pyx.proofs.Standing.{at_fault}
+use Rattle.pyx.proofs.ReaderAfterPiece.{at_fault}
 use Rattle.pyx.proofs.TagDeclarations.{declaration_of, prefix_of, AreDeclared, declares_it}
 use Rattle.pyx.proofs.TagParts.{IsSplit, declares, declares_none, split_parted, split_declared}
 use Rattle.pyx.proofs.TagParts as split
@@ -35,8 +35,8 @@ use Rattle.pyx.proofs.LinesOfPieces.{fails_first}
 use Rattle.pyx.proofs.PieceCounts.{ok_first, no_ok, read_counts}
 use Rattle.pyx.proofs.WholeBytes.{NoFeed, lines_ended, lines_open, lines_nil, push_no_feed}
 use Rattle.pyx.proofs.OpenTags.{other_kind, no_tag}
-use Rattle.pyx.proofs.Joined.{good_kind, good_length, joined_with, texts, text_more}
-use Rattle.pyx.proofs.Places.{AreMatched, none_matched, one_matched, written_length, Place, at_content, at_tag, place_first}
+use Rattle.pyx.proofs.JoinedText.{good_kind, good_length, joined_with, texts, text_more}
+use Rattle.pyx.proofs.StateAfterLines.{AreMatched, none_matched, one_matched, written_length, Place, at_content, at_tag, place_first}
 use Rattle.pyx.proofs.DocumentBroken.{line_tells, next_place}
 use Rattle.pyx.proofs.DocumentLeast.{all_cons}
 

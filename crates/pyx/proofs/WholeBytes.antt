@@ -7,7 +7,7 @@ use Rattle.rng_model.specs.documents.Lines.{Line, line_limit, lines, with_first}
 use Rattle.pyx.specs.plain.Cuts.{at_byte, at_front, behind}
 use Rattle.pyx.specs.plain.DocumentReader.{State, Turn, silent, fault, followed, close_tag, tag_ended, line_read, all_read, all_ended, document_read}
 use Rattle.pyx.specs.plain.Pieces.{Progress, with_begun, ended_line, open_line, read, finished, nothing_fed}
-use Rattle.pyx.proofs.Turns.{followed_same, followed_twice}
+use Rattle.pyx.proofs.LineTurns.{followed_same, followed_twice}
 use Rattle.pyx.proofs.LinesOfPieces.{Fails, with_open, grown, said_of_long, long_fails, length-push, read_cons, read_nil, byte_full, byte_within, byte_feed}
 use Rattle.pyx.proofs.LinesOfPieces.{dichotomy, at_cons, at_nil}
 

@@ -3,5 +3,5 @@ pub mod Calls
 pub mod ElementView
 pub mod Held
 pub mod HeldCalls
-pub mod Standing
+pub mod ReaderAfterPiece
 pub mod View

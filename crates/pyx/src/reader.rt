@@ -3,7 +3,7 @@ ghost use Rattle.std.specs.Prelude.{◌≡◌, ◌+◌, ◌<◌, ◌≤◌, ◌^
 ghost use Rattle.pyx.specs.views.HeldCalls.{IsHeld};
 ghost use Rattle.pyx.specs.plain.Pieces.{weight};
 ghost use Rattle.pyx.specs.views.Calls.{Ends, Extends, IsFaultAfter, UnlessMemory};
-ghost use Rattle.pyx.specs.views.Standing.{Kept, Stands};
+ghost use Rattle.pyx.specs.views.ReaderAfterPiece.{Kept, Stands};
 ghost use Rattle.rng_model.specs.documents.Handing.{Hands};
 ghost use Rattle.pyx.specs.views.View.{progress_of};
 

@@ -16,7 +16,7 @@ use Rattle.rnc_model.specs.declarations.DeclarationRules.{at_first, later, IsPre
 use Rattle.rnc_model.specs.declarations.DeclarationRules.{default_namespace_twice, xml_as_another, xsd_as_another, xmlns_declared, namespace_prefix_undeclared}
 use Rattle.rnc_model.specs.declarations.DeclarationRules.{datatype_prefix_undeclared}
 use Rattle.rnc_model.specs.declarations.FileTree.{FileTree, Namespace, given}
-use Rattle.rnc_grammar.proofs.StandingPrefixes.{is_known, no_body, stands_unknown}
+use Rattle.rnc_grammar.proofs.UsedPrefixes.{is_known, no_body, stands_unknown}
 
 -- ---- one table for all that can be declared
 

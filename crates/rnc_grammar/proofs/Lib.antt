@@ -3,7 +3,7 @@ pub mod FileTreeViews
 pub mod ScopeTables
 pub mod ResolvedMembers
 pub mod ResolvedViews
-pub mod StandingPrefixes
+pub mod UsedPrefixes
 pub mod DeclarationRules
 pub mod KeywordNumbers
 pub mod MentionTokens

@@ -6,7 +6,7 @@ use Rattle.rnc_model.specs.grammar.Syntax.{Declaration, File}
 use Rattle.rnc_model.specs.grammar.Sentence.{IsStuckAt}
 use Rattle.rnc_syntax.specs.plain.Combinators.{Outcome, ◌>>=◌}
 use Rattle.rnc_syntax.specs.plain.Productions.{Inside, inside_at, body_with, if_ended, declarations_at, file_with}
-use Rattle.rnc_syntax.proofs.Items.{bind_bind}
+use Rattle.rnc_syntax.proofs.ReadItems.{bind_bind}
 use Rattle.rnc_syntax.proofs.Locality.{SameHead, LocalAt, reads, stuck as stuck_there, deep, IsLocal, bind_local}
 use Rattle.rnc_syntax.proofs.LocalityLiterals.{made_local}
 use Rattle.rnc_syntax.proofs.LocalityPrimaries.{Locals}

@@ -1,6 +1,6 @@
 pub mod Lexemes
 pub mod AnnotationSteps
-pub mod Items
+pub mod ReadItems
 pub mod InsideBrackets
 pub mod FirstTokens
 pub mod FileEnds
@@ -16,7 +16,7 @@ pub mod Completeness
 pub mod CompletenessClasses
 pub mod CompletenessPatterns
 pub mod CompletenessFiles
-pub mod Depth
+pub mod NestingDepth
 pub mod Locality
 pub mod LocalityFronts
 pub mod LocalityItems

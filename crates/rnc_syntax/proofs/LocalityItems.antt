@@ -3,7 +3,7 @@ use Rattle.std.proofs.Common.{◌≡◌, ℕ, zero, suc, ◌<◌, ◌≤◌, Lis
 use Rattle.rnc_syntax.specs.declared.fault.Stop.{Stop}
 use Rattle.rnc_model.specs.tokens.Lexeme.{Lexeme}
 use Rattle.rnc_syntax.specs.plain.Combinators.{Outcome, ◌>>=◌, many_with, many}
-use Rattle.rnc_syntax.proofs.Items.{opened, closed}
+use Rattle.rnc_syntax.proofs.ReadItems.{opened, closed}
 use Rattle.rnc_syntax.proofs.Locality.{LocalAt, reads, IsLocal, ok_local, cons_local, bind_local}
 use Rattle.rnc_syntax.proofs.LocalityFronts.{same_local, shortens, FrontAt, closes, opens, heads_closed}
 

@@ -12,7 +12,7 @@ use Rattle.rnc_model.specs.grammar.Grammar.{word_of}
 use Rattle.rnc_syntax.specs.plain.Combinators.{Outcome, ◌>>=◌, same_sign, same_keyword, follow, follow_keyword, sign_read, after, after_keyword, word_at}
 use Rattle.rnc_syntax.specs.plain.Combinators.{identifier_at, segment_at, either_way, many_with, many}
 use Rattle.rnc_syntax.specs.plain.Productions.{in_braces_at}
-pub use Rattle.rnc_text.proofs.Basics.{chosen}
+pub use Rattle.rnc_text.proofs.TestFacts.{chosen}
 
 -- the value of a step that did not fail
 pub bind_ok : {A B : Type 0} (r : Result A Stop) (f : A → Result B Stop) (y : B) → (r >>= f) ≡ Ok y → (x : A) × (r ≡ Ok x) × (f x ≡ Ok y)

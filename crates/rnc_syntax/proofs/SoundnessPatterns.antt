@@ -22,7 +22,7 @@ use Rattle.rnc_syntax.specs.plain.Productions.{repeated, primary_with, particle_
 use Rattle.rnc_syntax.specs.plain.Productions.{bare_pattern_with, pattern_with, method_at}
 use Rattle.rnc_syntax.specs.plain.Productions.{overrides_with, begins_component, component_front, assigned_at, assigned, bare_component_with, component_with}
 use Rattle.rnc_syntax.specs.plain.Productions.{components_with, inside_at}
-use Rattle.rnc_syntax.proofs.Items.{bind_bind}
+use Rattle.rnc_syntax.proofs.ReadItems.{bind_bind}
 use Rattle.rnc_syntax.proofs.Soundness.{bind_ok, chosen, front_some, ok_is, some_is, follow_is, identifier_is, TakesFront, Sound, Closed, Preceded}
 use Rattle.rnc_syntax.proofs.Soundness.{closes_sound, in_braces_sound, Each, no_items, and_item, many_sound, some_is_read, preceded_sound, nothing_left, Behind}
 use Rattle.rnc_syntax.proofs.Soundness.{behind, mapped_sound, both_sound, open_sound, Bracketed, bracketed}

@@ -15,7 +15,7 @@ use Rattle.rnc_syntax.specs.views.SentenceFaults.{IsFaultOf}
 use Rattle.rnc_syntax.specs.plain.Productions.{file_with, inside_at}
 use Rattle.rnc_syntax.proofs.SoundnessFiles.{file_sound}
 use Rattle.rnc_syntax.proofs.CompletenessFiles.{file_complete}
-use Rattle.rnc_syntax.proofs.Depth.{file_not_deep}
+use Rattle.rnc_syntax.proofs.NestingDepth.{file_not_deep}
 
 -- ---- tokens that nest within the limit
 

@@ -14,7 +14,7 @@ use Rattle.rnc_model.specs.characters.Characters.{number_of, numbers_of, bytes_o
 use Rattle.rnc_text.specs.views.Held.{unmarked, marked, next_marks}
 use Rattle.rnc_text.specs.plain.DecodingSteps.{first_and_rest}
 use Rattle.rnc_text.specs.plain.Cursors.{remaining, IsPast}
-use Rattle.rnc_text.proofs.Basics.{chosen}
+use Rattle.rnc_text.proofs.TestFacts.{chosen}
 
 pub bytes_append : (xs ys : List Character) → bytes_of (xs ++ ys) ≡ bytes_of xs ++ bytes_of ys
 bytes_append xs ys = ap encode_utf8_all (map-append number_of xs ys) ∙ encodes-append (numbers_of xs) (numbers_of ys)

@@ -1,17 +1,17 @@
-pub mod Basics
+pub mod TestFacts
 mod Characters
 mod HexadecimalSteps
 mod Held
 mod Escapes
-mod Fronts
-mod Decoded
-mod Classes
-mod Quotes
+mod FrontCharacter
+mod OneDecoding
+mod CharacterClasses
+mod QuoteRuns
 mod Cursors
-mod Scans
-mod Pieces
-mod Longest
-mod Cuts
+mod ScanResults
+mod FoundPieces
+mod LongestPiece
+mod OneCut
 mod MarksCut
 mod MarksDecoded
 mod MarkScalars

@@ -18,12 +18,12 @@ use Rattle.rnc_text.specs.plain.CutSteps.{is_in, front, after, first_of, behind,
 use Rattle.rnc_text.specs.plain.Marks.{Mark, space, line_end, word, cname, ns_name, segment, sign, sign_text, ordinary, characters_of_mark, characters_of_marks}
 use Rattle.rnc_text.specs.plain.Marks.{piece_of_mark, is_within, IsMark, is_open, begins_apart, MarksAreCut}
 use Rattle.std.proofs.lemmas.Bool.{false≢true}
-use Rattle.rnc_text.proofs.Classes.{AllIn, front_out, after_out, front_append, after_append, name_of, name_all, name_begins}
-use Rattle.rnc_text.proofs.Quotes.{behind_is}
-use Rattle.rnc_text.proofs.Basics.{eqb_same}
-use Rattle.rnc_text.proofs.Scans.{piece_line, piece_name, piece_blank, piece_quote, name_word, name_colon, local_found, segment_some, triple_no_second}
-use Rattle.rnc_text.proofs.Scans.{triple_no_third, or_right}
-use Rattle.rnc_text.proofs.Cuts.{found_next}
+use Rattle.rnc_text.proofs.CharacterClasses.{AllIn, front_out, after_out, front_append, after_append, name_of, name_all, name_begins}
+use Rattle.rnc_text.proofs.QuoteRuns.{behind_is}
+use Rattle.rnc_text.proofs.TestFacts.{eqb_same}
+use Rattle.rnc_text.proofs.ScanResults.{piece_line, piece_name, piece_blank, piece_quote, name_word, name_colon, local_found, segment_some, triple_no_second}
+use Rattle.rnc_text.proofs.ScanResults.{triple_no_third, or_right}
+use Rattle.rnc_text.proofs.OneCut.{found_next}
 
 -- ---- what may stand behind anything
 

@@ -12,7 +12,7 @@ use Rattle.rncv_model.specs.declared.command.Command.{Command}
 use Rattle.rncv_model.specs.declared.command.Command.TheVariants.{Valid, Check, Simple}
 use Rattle.rncv_cli.specs.plain.CommandLine.{IsCommandLine, Text, WithoutDashes, name_of}
 use Rattle.rncv_cli.specs.plain.CommandLineForm.{command_in, command_named, files_in, form}
-use Rattle.rncv_cli.proofs.FormWalk.{are_found, is_read}
+use Rattle.rncv_cli.proofs.ClapWalk.{are_found, is_read}
 
 pub all_utf8 : {Z : Type 0} (texts : List (String Z)) → AllByRecursion IsUtf8 (map string_bytes texts)
 all_utf8 [] = tt

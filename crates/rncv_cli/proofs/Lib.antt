@@ -1,6 +1,6 @@
-mod Beginning
+mod FileBeginning
 mod CommandLine
 mod CommandLineExamples
-mod FormWalk
-mod Matches
+mod ClapWalk
+mod ClapMatches
 mod WordKinds

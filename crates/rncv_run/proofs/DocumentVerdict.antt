@@ -27,7 +27,7 @@ use Rattle.rncv_model.specs.answers.Verdict.{IsJudgedBy, IsVerdict, IsInvalidFro
 use Rattle.rncv_run.specs.views.MalformedVerdict.{malformed_by}
 use Rattle.rncv_run.specs.declared.judging.JudgeFault.{JudgeFault}
 use Rattle.rncv_run.specs.declared.judging.JudgeFault.TheVariants as judging
-use Rattle.rncv_run.specs.declared.streams.DocumentFault.TheVariants as faults
+use Rattle.rncv_run.specs.declared.document_input.DocumentFault.TheVariants as faults
 use Rattle.rncv_model.specs.declared.verdict.Verdict.{Verdict}
 use Rattle.rncv_model.specs.declared.verdict.Verdict.TheVariants.{Valid, Malformed, Invalid}
 

@@ -5,13 +5,13 @@ use Rattle.std.proofs.KnownBytes.{Consumes-nil, Consumes-trans}
 use Rattle.std.proofs.lemmas.List.{append-nil}
 use Rattle.rng_model.specs.documents.PyxTrees.{Event}
 use Rattle.pyx.specs.views.Calls.{Ends, Extends, IsFaultAfter, UnlessMemory}
-use Rattle.pyx.specs.views.Standing.{Kept, Stands}
+use Rattle.pyx.specs.views.ReaderAfterPiece.{Kept, Stands}
 use Rattle.rng_model.specs.documents.Handing.{Hands}
 use Rattle.rng_model.specs.declared.pyx_fault.PyxFault.{PyxFault}
 use Rattle.rng_model.specs.declared.pyx_fault.PyxFault.TheVariants as pyx
 use Rattle.rncv_model.specs.answers.Input.{HasLeft, IsRead}
 use Rattle.rncv_run.specs.views.TakenDocuments.{IsFaultOfInput, IsTaken}
-use Rattle.rncv_run.specs.declared.streams.DocumentFault.TheVariants as faults
+use Rattle.rncv_run.specs.declared.document_input.DocumentFault.TheVariants as faults
 
 -- so far these bytes were read, and these events handed out
 pub record IsBegun (handed : List Event → Type 0) (reader : Kept) (input_old input_new : Option (List ℕ)) : Type 0 where

@@ -9,7 +9,7 @@ ghost use Rattle.rncv_run.specs.plain.Judging.{IsUnknownTo, fault_of_judging};
 ghost use Rattle.rncv_model.specs.answers.Verdict.{IsJudgedBy};
 ghost use Rattle.rncv_run.specs.views.MalformedVerdict.{malformed_by};
 
-use crate::streams::{DocumentFault, take_document};
+use crate::document_input::{DocumentFault, take_document};
 use pyx::PyxFault;
 use rncv_model::{RunFault, Verdict};
 use rng_deriv::{Outcome, matcher};

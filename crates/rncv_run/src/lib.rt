@@ -9,9 +9,9 @@
 
 mod answer;
 mod compiling;
+mod document_input;
 mod judging;
 mod running;
-mod streams;
 
 pub use rncv_model::{Command, RunFault, Status};
 pub use running::run;

@@ -19,7 +19,7 @@ use Rattle.rng_deriv.specs.declared.links.Link.{Link}
 use Rattle.rng_deriv.specs.declared.position.Position.{Position}
 use Rattle.rng_deriv.specs.declared.state.Level.{Level}
 use Rattle.rng_deriv.specs.declared.state.State.{State}
-use Rattle.rng_deriv.proofs.Linked.{zip_all, zip_push}
+use Rattle.rng_deriv.proofs.AddedLinks.{zip_all, zip_push}
 
 -- ---- what is held
 

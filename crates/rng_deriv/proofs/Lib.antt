@@ -1,13 +1,13 @@
 pub mod Numbers
-pub mod Linked
-pub mod Opening
-pub mod Ending
-pub mod Stepping
+pub mod AddedLinks
+pub mod StartedElements
+pub mod EndedElements
+pub mod StateSteps
 pub mod Positions
 pub mod LevelRenewal
-pub mod Knowing
-mod Joining
-mod Served
-mod LikeNames
-mod Memo
+pub mod KnownDocuments
+mod JoinedStarts
+mod ServedTables
+mod NamesOfOneKey
+mod KeptStarts
 mod PatternRenewal

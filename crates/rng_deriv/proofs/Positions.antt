@@ -20,7 +20,7 @@ use Rattle.rng_deriv.specs.declared.held.Held.{Held}
 use Rattle.rng_deriv.specs.declared.position.Position.{Position}
 use Rattle.rng_deriv.specs.declared.state.State.{State}
 use Rattle.rng_deriv.proofs.Numbers.{longer_through, trees_stay, all_inside_stay}
-use Rattle.rng_deriv.proofs.Stepping.{levels_stay, level_stays, ends_level}
+use Rattle.rng_deriv.proofs.StateSteps.{levels_stay, level_stays, ends_level}
 
 -- ---- states in a table that grows
 

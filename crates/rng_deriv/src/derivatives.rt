@@ -15,15 +15,15 @@ use std::alloc::Global;
 
 /// The body of an element, and the pattern of what may follow the element.
 #[derive(Clone, Copy)]
-pub struct Way {
+pub struct StartWay {
     pub body: PatternNumber,
     pub rest: PatternNumber,
 }
 
 /// The way from the first pattern of a table to itself, which stands for none.
-impl Default for Way {
+impl Default for StartWay {
     fn default() -> Self {
-        Way {
+        StartWay {
             body: PatternNumber(0),
             rest: PatternNumber(0),
         }

@@ -26,7 +26,7 @@ mod start_memo;
 mod starts;
 mod state;
 
-pub use derivatives::{Derivatives, Way};
+pub use derivatives::{Derivatives, StartWay};
 pub use event_matcher::Matcher;
 pub use grammar_derivatives::GrammarDerivatives;
 pub use grammar_matcher::matcher;

@@ -4,7 +4,7 @@ ghost use Rattle.rng_model.specs.names.NameViews.{name_of};
 ghost use Rattle.rng_deriv.specs.views.Levels.{AddsLinks, AddsOpened};
 ghost use Rattle.rng_deriv.specs.views.Numbers.{IsInside};
 
-use crate::derivatives::{Derivatives, Way};
+use crate::derivatives::{Derivatives, StartWay};
 use crate::lists::{Links, Numbers};
 use rng_model::{Name, OutOfMemory};
 use rng_pattern_table::PatternNumber;
@@ -58,7 +58,7 @@ fn add_links(
     bodies: &mut Numbers,
     links: &mut Links,
     outer: usize,
-    ways: &[Way],
+    ways: &[StartWay],
 ) -> Result<(), OutOfMemory>
     ensures { OnOk result (AddsLinks outer ways.now bodies.old.items bodies.new.items links.old.items links.new.items) }
 {

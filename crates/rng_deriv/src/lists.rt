@@ -1,5 +1,5 @@
 // Short lists, which take no memory of their own where they are as short as nearly all are.
-use crate::derivatives::Way;
+use crate::derivatives::StartWay;
 use crate::links::Link;
 use rng_pattern_table::PatternNumber;
 use smallvec::SmallVec;
@@ -8,7 +8,7 @@ use smallvec::SmallVec;
 pub type Numbers = SmallVec<PatternNumber, 2>;
 
 /// The ways to begin with an element: one at most for nearly all patterns.
-pub type Ways = SmallVec<Way, 1>;
+pub type Ways = SmallVec<StartWay, 1>;
 
 /// The ways out of an element: one for nearly all.
 pub type Links = SmallVec<Link, 1>;

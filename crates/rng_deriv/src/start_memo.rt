@@ -1,10 +1,10 @@
 // The ways of starts that are kept from one event to the next.
 ghost use Rattle.std.specs.Prelude.{◌≡◌, ◌⊎◌, IfOk, IfSome, List, OnOk};
-ghost use Rattle.rng_deriv.specs.declared.derivatives.Way.{Way};
+ghost use Rattle.rng_deriv.specs.declared.derivatives.StartWay.{StartWay};
 ghost use Rattle.rng_deriv.specs.views.StartMemo.{HasKept};
 ghost use Rattle.rng_deriv.specs.declared.start_memo.StartKey.{StartKey};
 
-use crate::derivatives::Way;
+use crate::derivatives::StartWay;
 use crate::lists::Ways;
 use rng_model::OutOfMemory;
 use rng_names::NameKey;
@@ -27,14 +27,14 @@ pub type StartMemo = HashMap<StartKey, Ways>;
 const MOST_KEPT: usize = 16_384;
 
 /// A copy of ways. The error is want of memory.
-pub fn copied(alloc: Global, ways: &[Way]) -> Result<Ways, OutOfMemory>
+pub fn copied(alloc: Global, ways: &[StartWay]) -> Result<Ways, OutOfMemory>
     ensures { IfOk result (λ copy. copy.items ≡ ways.now) }
 {
     Ok(SmallVec::from_slice(alloc, ways)?)
 }
 
 /// The ways that are kept for a start.
-pub fn kept(memo: &StartMemo, start: StartKey) -> Option<&[Way]>
+pub fn kept(memo: &StartMemo, start: StartKey) -> Option<&[StartWay]>
     ensures { IfSome result (λ ways. HasKept memo.now start ways.now) }
 {
     Some(memo.get(&start)?.as_slice())
@@ -45,9 +45,9 @@ pub fn keep(
     alloc: Global,
     memo: &mut StartMemo,
     start: StartKey,
-    ways: &[Way],
+    ways: &[StartWay],
 ) -> Result<(), OutOfMemory>
-    ensures { OnOk result ((k : StartKey) (ws : List Way) → HasKept memo.new k ws → HasKept memo.old k ws ⊎ ((k ≡ start) × (ws ≡ ways.now))) }
+    ensures { OnOk result ((k : StartKey) (ws : List StartWay) → HasKept memo.new k ws → HasKept memo.old k ws ⊎ ((k ≡ start) × (ws ≡ ways.now))) }
 {
     let copy = copied(alloc, ways)?;
     if memo.len() >= MOST_KEPT {

@@ -1,14 +1,14 @@
 // The ways of a start that something may match.
 ghost use Rattle.std.specs.Prelude.{◌≡◌, ◌||◌, ◌<◌, All, IfOk, IfNone, IfSome, OnOk, Some, length, slice_get};
 ghost use Rattle.rng_model.specs.simple.Table.{Table};
-ghost use Rattle.rng_deriv.specs.declared.derivatives.Way.{Way};
+ghost use Rattle.rng_deriv.specs.declared.derivatives.StartWay.{StartWay};
 ghost use Rattle.rng_deriv_laws.specs.plain.Derivatives.{is_not_allowed};
 ghost use Rattle.rng_pattern_table.specs.views.PatternTable.{Longer};
 ghost use Rattle.rng_pattern_table.specs.views.Trees.{tree_of};
 ghost use Rattle.rng_pattern_derivatives.specs.plain.Ways.{AreInside, IsInside, IsTakenOut, ways_by};
 ghost use Rattle.rng_deriv.specs.views.Starts.{IsWayInside, OpensLike, with_way};
 
-use crate::derivatives::Way;
+use crate::derivatives::StartWay;
 use crate::lists::Ways;
 use rng_model::OutOfMemory;
 use rng_pattern_table::{PatternNumber, PatternTable};
@@ -25,8 +25,8 @@ fn is_one_not_allowed(table: &PatternTable, body: PatternNumber, rest: PatternNu
 }
 
 /// The place of a way with this rest among others.
-fn place_of_rest(ways: &[Way], rest: PatternNumber) -> Option<usize>
-    ensures found { IfSome result (λ i. (w : Way) × (slice_get ways.now i ≡ Some w) × (w.rest ≡ rest)) }
+fn place_of_rest(ways: &[StartWay], rest: PatternNumber) -> Option<usize>
+    ensures found { IfSome result (λ i. (w : StartWay) × (slice_get ways.now i ≡ Some w) × (w.rest ≡ rest)) }
     ensures none { IfNone result (All (λ w. ¬ (w.rest ≡ rest)) ways.now) }
 {
     'others: for (place, way) in ways.iter().enumerate() {
@@ -38,7 +38,7 @@ fn place_of_rest(ways: &[Way], rest: PatternNumber) -> Option<usize>
 }
 
 /// Takes a way with this rest out of others, if there is one.
-fn take_rest(ways: &mut Ways, rest: PatternNumber) -> Option<Way>
+fn take_rest(ways: &mut Ways, rest: PatternNumber) -> Option<StartWay>
     ensures found { IfSome result (λ w. (w.rest ≡ rest) × IsTakenOut ways.old.items ways.new.items w) }
     ensures none { IfNone result (ways.new.items ≡ ways.old.items) }
 {
@@ -51,7 +51,7 @@ fn add_way(
     alloc: Global,
     table: &mut PatternTable,
     all: &mut Ways,
-    way: rng_pattern_derivatives::Way,
+    way: rng_pattern_derivatives::LeafWay,
 ) -> Result<(), OutOfMemory>
     requires inside { All (IsWayInside table.old) all.old.items }
     requires way { IsInside table.old way }
@@ -62,13 +62,13 @@ fn add_way(
         return Ok(());
     }
     let Some(other) = take_rest(all, way.rest) else {
-        return Ok(all.push(Way {
+        return Ok(all.push(StartWay {
             body: way.leaf,
             rest: way.rest,
         })?);
     };
     let body = table.choice(alloc, &[other.body, way.leaf])?;
-    all.push(Way {
+    all.push(StartWay {
         body,
         rest: way.rest,
     })?;
@@ -79,7 +79,7 @@ fn add_way(
 pub fn joined_ways(
     alloc: Global,
     table: &mut PatternTable,
-    ways: &[rng_pattern_derivatives::Way],
+    ways: &[rng_pattern_derivatives::LeafWay],
 ) -> Result<Ways, OutOfMemory>
     requires { AreInside table.old ways.now }
     ensures longer { OnOk result (Longer table.old table.new) }

@@ -8,15 +8,15 @@ use Rattle.rng_model.specs.simple.Tree.{s_value, s_one_or_more, s_joined}
 use Rattle.rng_model.specs.matching.Document.{Attribute, Item, Interleaves, SharesName}
 use Rattle.rng_model.specs.matching.Document as document
 use Rattle.rng_model.specs.matching.WellFormed.{Distinct}
-use Rattle.rng_model.proofs.Interleaving.{right_alone, left_is_all, right_is_all}
+use Rattle.rng_model.proofs.OneSidedInterleavings.{right_alone, left_is_all, right_is_all}
 use Rattle.rng_model.specs.matching.Reading.{Reading}
 use Rattle.rng_deriv_laws.specs.plain.Taking.{Takes, Same}
 use Rattle.rng_deriv_laws.specs.plain.Taking as t
 use Rattle.rng_deriv_laws.specs.plain.Restricted.{HasNoAttribute, HasNoneGrouped, RepeatsWell}
 use Rattle.rng_deriv_laws.specs.plain.Derivatives.{Way, more_of, alone, behind, group_of, interleave_of, group_before, interleave_before, attribute_ways}
 use Rattle.rng_deriv_laws.specs.plain.Ways.{TakesAttribute, AreAttributeWays}
-use Rattle.rng_deriv_laws.proofs.Tools.{nothing_shared, distinct_left, distinct_right, apart}
-use Rattle.rng_deriv_laws.proofs.Same.{group_of-same, interleave_of-same}
+use Rattle.rng_deriv_laws.proofs.ListFacts.{nothing_shared, distinct_left, distinct_right, apart}
+use Rattle.rng_deriv_laws.proofs.SamePatterns.{group_of-same, interleave_of-same}
 
 module _ (g : Reading) where
   -- ---- lists of ways

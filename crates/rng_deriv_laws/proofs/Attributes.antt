@@ -5,7 +5,7 @@ use Rattle.rng_model.specs.simple.Tree.{s_value, s_one_or_more, s_joined}
 use Rattle.rng_model.specs.matching.Document.{Attribute, Item, a_text, Interleaves}
 use Rattle.rng_model.specs.matching.Document as document
 use Rattle.rng_model.specs.matching.WellFormed.{Distinct, one_more}
-use Rattle.rng_model.proofs.Interleaving.{left_is_none, right_is_none}
+use Rattle.rng_model.proofs.OneSidedInterleavings.{left_is_none, right_is_none}
 use Rattle.rng_names.specs.plain.Holding.{holds}
 use Rattle.rng_model.specs.matching.Reading.{Reading}
 use Rattle.rng_deriv_laws.specs.plain.Taking.{Takes, WeaklyTakes, Same}
@@ -13,11 +13,11 @@ use Rattle.rng_deriv_laws.specs.plain.Taking as t
 use Rattle.rng_deriv_laws.specs.plain.Restricted.{IsRestricted}
 use Rattle.rng_deriv_laws.specs.plain.Derivatives.{Way, attribute_ways, rests_of, has_text, takes_attribute, after_attribute, after_attributes, closed}
 use Rattle.rng_deriv_laws.specs.plain.Ways.{TakesAttribute, EachWay, IsAttributeLeaf}
-use Rattle.rng_deriv_laws.proofs.Tools.{both, in_both, nothing_apart}
+use Rattle.rng_deriv_laws.proofs.ListFacts.{both, in_both, nothing_apart}
 use Rattle.rng_deriv_laws.proofs.Nullable.{under_in, under_out}
-use Rattle.rng_deriv_laws.proofs.Same.{choice_of-same, group_of-same, interleave_of-same, repeat_of-same}
+use Rattle.rng_deriv_laws.proofs.SamePatterns.{choice_of-same, group_of-same, interleave_of-same, repeat_of-same}
 use Rattle.rng_deriv_laws.proofs.AttributeWays.{attribute_ways-are}
-use Rattle.rng_deriv_laws.proofs.Hereditary.{IsRestricted-hereditary, attribute_ways-keep, rests_of-keeps}
+use Rattle.rng_deriv_laws.proofs.KeptRestrictions.{IsRestricted-hereditary, attribute_ways-keep, rests_of-keeps}
 use Rattle.rng_deriv_laws.proofs.Texts.{alone_in, alone_out}
 
 module _ (g : Reading) where

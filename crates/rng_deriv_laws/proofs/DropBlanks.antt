@@ -8,7 +8,7 @@ use Rattle.rng_model.specs.matching.Document.{Attribute, Item, a_text, an_elemen
 use Rattle.rng_model.specs.matching.Document as document
 use Rattle.rng_model.specs.restrictions.Restrictions.{ContentType, empty_content, complex_content, simple_content}
 use Rattle.rng_model.specs.datatypes.Texts.{is_blank}
-use Rattle.rng_model.proofs.Interleaving.{left_alone, right_alone, left_is_all, right_is_all}
+use Rattle.rng_model.proofs.OneSidedInterleavings.{left_alone, right_alone, left_is_all, right_is_all}
 use Rattle.rng_model.specs.matching.Reading.{Reading}
 use Rattle.rng_deriv_laws.specs.plain.Taking.{Takes}
 use Rattle.rng_deriv_laws.specs.plain.Taking as t

@@ -7,7 +7,7 @@ use Rattle.rng_model.specs.datatypes.Texts.{texts_of}
 use Rattle.rng_model.specs.matching.Reading.{Reading}
 use Rattle.rng_deriv_laws.specs.plain.Restricted.{MayBeExcepted}
 use Rattle.rng_deriv_laws.specs.plain.Derivatives.{is_excepted}
-use Rattle.rng_deriv_laws.proofs.Tools.{both, in_both, either_left, either_right, in_either}
+use Rattle.rng_deriv_laws.proofs.ListFacts.{both, in_both, either_left, either_right, in_either}
 
 not_true : (b : Bool) → (b ≡ true → ⊥) → not b ≡ true
 not_true true f = absurd (f refl)

@@ -14,9 +14,9 @@ use Rattle.rng_deriv_laws.specs.plain.Taking as t
 use Rattle.rng_deriv_laws.specs.plain.Blanks.{IsBare, cons, strings_alone, no_blanks}
 use Rattle.rng_deriv_laws.specs.plain.Derivatives.{Way, is_nullable, more_of, alone, behind, interleave_of, group_before, interleave_before, item_ways}
 use Rattle.rng_deriv_laws.specs.plain.Ways.{TakesItem, AreItemWays}
-use Rattle.rng_deriv_laws.proofs.Tools.{bare_cut, bare_left, bare_right, nothing_apart}
+use Rattle.rng_deriv_laws.proofs.ListFacts.{bare_cut, bare_left, bare_right, nothing_apart}
 use Rattle.rng_deriv_laws.proofs.Nullable.{null_in, null_out}
-use Rattle.rng_deriv_laws.proofs.Same.{group_of-same, interleave_of-same}
+use Rattle.rng_deriv_laws.proofs.SamePatterns.{group_of-same, interleave_of-same}
 
 module _ (g : Reading) where
   -- ---- lists of ways

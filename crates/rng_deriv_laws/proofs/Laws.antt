@@ -15,11 +15,11 @@ use Rattle.rng_deriv_laws.specs.plain.States.{finished, after_of, after_item, ac
 use Rattle.rng_deriv_laws.specs.plain.Events.{kinds, new, run, is_valid}
 use Rattle.rng_model.specs.restrictions.BreaksNone.{BreaksNone}
 use Rattle.rng_deriv_laws.specs.plain.Laws.{reading, AcceptsValidDocuments, NeverIsInvalid, UnknownNameIsNever, InvalidIsNever}
-use Rattle.rng_deriv_laws.proofs.Joint.{takes_in, takes_out}
+use Rattle.rng_deriv_laws.proofs.TakesAndMatches.{takes_in, takes_out}
 use Rattle.rng_deriv_laws.proofs.Restricted.{start_may_start, start_restricted, bodies_restricted}
 use Rattle.rng_deriv_laws.proofs.Document.{root_in, root_out}
 use Rattle.rng_deriv_laws.proofs.Events.{kinds_append, kinds_of_document, run_root, never_accepts}
-use Rattle.rng_deriv_laws.proofs.Place.{unknown_is_never, root_accepts}
+use Rattle.rng_deriv_laws.proofs.InvalidAt.{unknown_is_never, root_accepts}
 use Rattle.rng_deriv_laws.proofs.PyxDocuments.{document_formed}
 
 module _ (g : Grammar) (keeps : BreaksNone g) (tests : TextTests) where

@@ -19,7 +19,7 @@ use Rattle.rng_deriv_laws.specs.plain.States as states
 use Rattle.rng_deriv_laws.specs.plain.Meanings.{IsEmpty, IsStart, IsAfterStart, IsAfterString, IsAfterEnd, IsAfterEndOfText}
 use Rattle.rng_deriv_laws.specs.plain.LevelStates.{LevelState, HoldsAround, SomeHolds, HoldsInLevels, level_meaning, IsAfterText, IsAfterTag}
 use Rattle.rng_deriv_laws.specs.plain.LevelStates.{IsBodyNamed, StartsLevel, TakesString, EndsLevel, EndsNow, EndsWith}
-use Rattle.rng_deriv_laws.proofs.Tools.{both, in_both, either_left, either_right, in_either}
+use Rattle.rng_deriv_laws.proofs.ListFacts.{both, in_both, either_left, either_right, in_either}
 use Rattle.rng_deriv_laws.proofs.Nullable.{null_in, null_out}
 use Rattle.rng_deriv_laws.proofs.States.{none_taken, none_contained}
 use Rattle.rng_deriv_laws.proofs.Levels.{contains_in, contains_out, lone_in, lone_out}

@@ -14,9 +14,9 @@ use Rattle.rng_deriv_laws.specs.plain.Derivatives.{Way, is_nullable, closed, aft
 use Rattle.rng_deriv_laws.specs.plain.Ways.{Opens, EachWay, IsItemLeaf}
 use Rattle.rng_deriv_laws.specs.plain.States.{State, never, finished, after, either, after_of, end_tag, is_ended, accepts, enter, start_tag, string, end_text}
 use Rattle.rng_deriv_laws.specs.plain.States.{Holds, Contains, Begins, HasRestrictedBodies, IsRestrictedState}
-use Rattle.rng_deriv_laws.proofs.Tools.{both, in_both, either_left, either_right, in_either}
+use Rattle.rng_deriv_laws.proofs.ListFacts.{both, in_both, either_left, either_right, in_either}
 use Rattle.rng_deriv_laws.proofs.Nullable.{null_in, null_out}
-use Rattle.rng_deriv_laws.proofs.Hereditary.{IsRestricted-hereditary, closed-restricted, item_ways-keep, rests_of-keeps}
+use Rattle.rng_deriv_laws.proofs.KeptRestrictions.{IsRestricted-hereditary, closed-restricted, item_ways-keep, rests_of-keeps}
 use Rattle.rng_deriv_laws.proofs.Texts.{text_in, text_out, alone_in, alone_out}
 use Rattle.rng_deriv_laws.proofs.Attributes.{attributes_in, attributes_out, attributes_keep, closed_in, closed_out}
 use Rattle.rng_deriv_laws.proofs.Starts.{start_in, start_out, start_keeps}

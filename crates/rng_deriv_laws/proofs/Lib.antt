@@ -1,11 +1,11 @@
-pub mod Tools
-pub mod Joint
+pub mod ListFacts
+pub mod TakesAndMatches
 pub mod Nullable
-pub mod Same
+pub mod SamePatterns
 pub mod Excepts
 pub mod ItemWays
 pub mod AttributeWays
-pub mod Hereditary
+pub mod KeptRestrictions
 pub mod Texts
 pub mod Attributes
 pub mod Starts
@@ -17,10 +17,10 @@ pub mod Document
 pub mod Events
 pub mod Restricted
 pub mod PyxDocuments
-pub mod Place
+pub mod InvalidAt
 pub mod Laws
 mod Examples
-pub mod FreeForms
+pub mod SameWays
 pub mod Meanings
 pub mod StateMeanings
 pub mod LevelStates

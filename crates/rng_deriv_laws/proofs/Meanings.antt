@@ -12,7 +12,7 @@ use Rattle.rng_deriv_laws.specs.plain.Events.{kinds, events_of_items}
 use Rattle.rng_deriv_laws.specs.plain.Laws.{reading}
 use Rattle.rng_deriv_laws.specs.plain.Meanings.{Meaning, IsEmpty, IsStart, IsAfterStart, IsAfterString, IsAfterEnd, IsAfterEndOfText, Settles, Runs, as_blank, as_text}
 use Rattle.rng_deriv_laws.specs.plain.Meanings.{stays, at_start, at_string, at_end, at_end_of_text, RunsAnswer, EmptyIsInvalid}
-use Rattle.rng_deriv_laws.proofs.Joint.{takes_in, takes_out}
+use Rattle.rng_deriv_laws.proofs.TakesAndMatches.{takes_in, takes_out}
 use Rattle.rng_deriv_laws.proofs.PutBlanks.{without_is_clean}
 use Rattle.rng_deriv_laws.proofs.Events.{kinds_of_document, kinds_append}
 use Rattle.rng_deriv_laws.proofs.PyxDocuments.{document_formed}

@@ -8,7 +8,7 @@ use Rattle.rng_model.specs.matching.Reading.{Reading}
 use Rattle.rng_deriv_laws.specs.plain.Taking.{Takes}
 use Rattle.rng_deriv_laws.specs.plain.Taking as t
 use Rattle.rng_deriv_laws.specs.plain.Derivatives.{is_nullable}
-use Rattle.rng_deriv_laws.proofs.Tools.{both, in_both, either_left, either_right, in_either, nil_parts}
+use Rattle.rng_deriv_laws.proofs.ListFacts.{both, in_both, either_left, either_right, in_either, nil_parts}
 
 module _ (g : Reading) where
   pub null_in : (p : Simple ℕ) → Takes g p [] [] → is_nullable p ≡ true

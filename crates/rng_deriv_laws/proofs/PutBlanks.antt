@@ -14,7 +14,7 @@ use Rattle.rng_model.specs.matching.Reading.{Reading}
 use Rattle.rng_deriv_laws.specs.plain.Taking.{Takes}
 use Rattle.rng_deriv_laws.specs.plain.Taking as t
 use Rattle.rng_deriv_laws.specs.plain.Blanks.{Every, nil, cons, IsNotBlank, has_element, without_blanks}
-use Rattle.rng_deriv_laws.proofs.Tools.{every_parts, every_left, every_right}
+use Rattle.rng_deriv_laws.proofs.ListFacts.{every_parts, every_left, every_right}
 
 -- the second list is the first with elements padded
 data Spread : List Item → List Item → Type 0 where

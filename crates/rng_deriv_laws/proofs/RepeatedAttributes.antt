@@ -6,7 +6,7 @@ use Rattle.rng_model.specs.simple.Tree.{Simple, s_one_or_more}
 use Rattle.rng_model.specs.matching.Document.{Attribute, Item}
 use Rattle.rng_model.specs.matching.Document as document
 use Rattle.rng_model.specs.matching.WellFormed.{Distinct}
-use Rattle.rng_model.proofs.Interleaving.{right_alone}
+use Rattle.rng_model.proofs.OneSidedInterleavings.{right_alone}
 use Rattle.rng_model.specs.matching.Reading.{Reading}
 use Rattle.rng_deriv_laws.specs.plain.Taking.{Takes, Same}
 use Rattle.rng_deriv_laws.specs.plain.Taking as t
@@ -14,8 +14,8 @@ use Rattle.rng_deriv_laws.specs.plain.Restricted.{HasNoneGrouped}
 use Rattle.rng_deriv_laws.specs.plain.Derivatives.{Way, more_of}
 use Rattle.rng_deriv_laws.specs.plain.Ways.{TakesAttribute, AreAttributeWays}
 use Rattle.rng_deriv_laws.proofs.AttributeWays.{Remains, nothing, some, attribute_alone, repeat_alone}
-use Rattle.rng_deriv_laws.proofs.FreeForms.{attribute_among, attribute_way}
-use Rattle.rng_deriv_laws.proofs.Tools.{apart, distinct_left}
+use Rattle.rng_deriv_laws.proofs.SameWays.{attribute_among, attribute_way}
+use Rattle.rng_deriv_laws.proofs.ListFacts.{apart, distinct_left}
 
 module _ (g : Reading) where
   -- a way of a copy whose leaf may be all of the copy

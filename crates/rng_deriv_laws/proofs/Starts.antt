@@ -12,9 +12,9 @@ use Rattle.rng_deriv_laws.specs.plain.Restricted.{IsRestricted, IsRestrictedBody
 use Rattle.rng_deriv_laws.specs.plain.Blanks.{IsBare}
 use Rattle.rng_deriv_laws.specs.plain.Derivatives.{Way, item_ways, started, bodies_of, after_start}
 use Rattle.rng_deriv_laws.specs.plain.Ways.{TakesItem, Opens, EachWay, IsItemLeaf}
-use Rattle.rng_deriv_laws.proofs.Joint.{weakly_in, weakly_out}
+use Rattle.rng_deriv_laws.proofs.TakesAndMatches.{weakly_in, weakly_out}
 use Rattle.rng_deriv_laws.proofs.ItemWays.{item_ways-are}
-use Rattle.rng_deriv_laws.proofs.Hereditary.{IsRestricted-hereditary, item_ways-keep}
+use Rattle.rng_deriv_laws.proofs.KeptRestrictions.{IsRestricted-hereditary, item_ways-keep}
 
 module _ (g : Reading) (q : Name) where
   -- ---- what bodies and rests keep

@@ -20,7 +20,7 @@ use Rattle.rng_deriv_laws.specs.plain.Events.{Matcher, run}
 use Rattle.rng_deriv_laws.specs.plain.Meanings.{Meaning, IsEmpty, IsStart, IsAfterStart, IsAfterString, IsAfterEnd, IsAfterEndOfText, Settles, as_blank, as_text, Runs}
 use Rattle.rng_deriv_laws.specs.plain.Meanings.{stays, at_start, at_string, at_end, at_end_of_text}
 use Rattle.rng_deriv_laws.proofs.Starts.{start_in, start_out}
-use Rattle.rng_deriv_laws.proofs.Same.{same_back}
+use Rattle.rng_deriv_laws.proofs.SamePatterns.{same_back}
 use Rattle.rng_deriv_laws.proofs.States.{begins_after, begins_after_out}
 use Rattle.rng_deriv_laws.proofs.States.{holds_after_none, holds_after, holds_after_out, holds_left, holds_right, holds_out, begins_left, begins_right}
 use Rattle.rng_deriv_laws.proofs.States.{begins_either}

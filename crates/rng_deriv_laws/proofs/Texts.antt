@@ -13,12 +13,12 @@ use Rattle.rng_deriv_laws.specs.plain.Blanks.{IsBare, strings_alone}
 use Rattle.rng_deriv_laws.specs.plain.Derivatives.{is_nullable, Way, item_ways, rests_of, in_turn, takes_text, after_string, no_list, after_piece, list_has, after_text}
 use Rattle.rng_deriv_laws.specs.plain.Derivatives.{has_text}
 use Rattle.rng_deriv_laws.specs.plain.Ways.{TakesItem, EachWay, IsItemLeaf}
-use Rattle.rng_deriv_laws.proofs.Tools.{both, in_both, either_left, either_right, in_either}
+use Rattle.rng_deriv_laws.proofs.ListFacts.{both, in_both, either_left, either_right, in_either}
 use Rattle.rng_deriv_laws.proofs.Nullable.{null_in, null_out, under_in, under_out}
-use Rattle.rng_deriv_laws.proofs.Same.{choice_of-same}
+use Rattle.rng_deriv_laws.proofs.SamePatterns.{choice_of-same}
 use Rattle.rng_deriv_laws.proofs.Excepts.{excepted_in, excepted_out}
 use Rattle.rng_deriv_laws.proofs.ItemWays.{item_ways-are}
-use Rattle.rng_deriv_laws.proofs.Hereditary.{HasTexts-hereditary, item_ways-keep, rests_of-keeps}
+use Rattle.rng_deriv_laws.proofs.KeptRestrictions.{HasTexts-hereditary, item_ways-keep, rests_of-keeps}
 
 -- ---- what is left behind the leaves that take an item
 

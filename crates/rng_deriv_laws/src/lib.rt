@@ -12,10 +12,10 @@
 //! same for any matcher of which each event changes what it matches as it has to), `LevelStates` (open elements as levels
 //! of alternatives with their ways out, and what each event has to make of them), `LevelEvents` (a matcher of these, with
 //! its theorems).
-//! In `proofs/`: `Joint` (with the one definition), `Same` (choices as sets, groups and interleaves joined otherwise),
-//! `ItemWays` and `AttributeWays` (a law for each kind of pattern), `Hereditary` (what derivatives keep), `Texts`,
-//! `Attributes`, `Starts`, `DropBlanks`, `PutBlanks`, `States`, `Levels`, `Document`, `Events`, `Place`, `Restricted`,
-//! `PyxDocuments`, `Laws`; `FreeForms`, `Meanings` and `StateMeanings` are for matchers that keep patterns, ways and states
+//! In `proofs/`: `TakesAndMatches` (with the one definition), `SamePatterns` (choices as sets, groups and interleaves joined otherwise),
+//! `ItemWays` and `AttributeWays` (a law for each kind of pattern), `KeptRestrictions` (what derivatives keep), `Texts`,
+//! `Attributes`, `Starts`, `DropBlanks`, `PutBlanks`, `States`, `Levels`, `Document`, `Events`, `InvalidAt`, `Restricted`,
+//! `PyxDocuments`, `Laws`; `SameWays`, `Meanings` and `StateMeanings` are for matchers that keep patterns, ways and states
 //! otherwise, `OpenElements` counts what is open, and `LevelStates` and `LevelEvents` are for those that keep levels.
 //! `Examples` has documents on which wrong bodies answer wrongly.
 #![tactic(auto)]

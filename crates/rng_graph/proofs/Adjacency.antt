@@ -6,7 +6,7 @@ use Rattle.rng_graph.specs.plain.Expansion.{KeepsExpansion}
 use Rattle.rng_model.specs.schema.SchemaClauses.{BreaksExpansion}
 use Rattle.rng_graph.specs.plain.Graph.{Graph, IsGraphOf, Mentions, IsOrderBy, no_numbers, and_number, LeadsBy, by_one, by_more}
 use Rattle.rng_graph.specs.plain.Search.{Lists}
-use Rattle.rng_graph.proofs.Judged.{loop_breaks_expansion, order_keeps_expansion}
+use Rattle.rng_graph.proofs.JudgedByNumbers.{loop_breaks_expansion, order_keeps_expansion}
 
 module _ {A : Type 0} (M N : A → A → Type 0) (f : (x y : A) → N x y → M x y) where
   pub order_by : {xs : List A} → IsOrderBy M xs → IsOrderBy N xs

@@ -23,7 +23,7 @@ use Rattle.rng_graph.specs.plain.Graph.{same_definition, number_of}
 use Rattle.rng_graph.specs.plain.Resolving.{with_definition}
 use Rattle.rng_graph.proofs.GraphTables.{definition_same}
 use Rattle.rng_graph.proofs.Graphs.{found_contained}
-use Rattle.rng_graph.proofs.Resolves.{IsAsked, is_there, is_new, asked, definition_is, asked_for}
+use Rattle.rng_graph.proofs.ResolvedPatterns.{IsAsked, is_there, is_new, asked, definition_is, asked_for}
 
 -- a component in the code, and those of a definition
 abbrev pub seen : Bor code.Component → Component

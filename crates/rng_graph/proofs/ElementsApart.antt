@@ -17,7 +17,7 @@ use Rattle.rng_graph.specs.views.ComponentTable.{components_at}
 use Rattle.rng_graph.specs.plain.Graph.{AreApart, same_definition, same_leaf}
 use Rattle.rng_graph.specs.plain.ResolvedElements.{with_elements, with_all_elements, with_named_elements, with_elements_of, elements_of}
 use Rattle.rng_graph.proofs.Graphs.{contains_found, found_contained}
-use Rattle.rng_graph.proofs.Resolves.{none_there}
+use Rattle.rng_graph.proofs.ResolvedPatterns.{none_there}
 
 -- ---- positions
 

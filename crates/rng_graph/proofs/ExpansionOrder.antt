@@ -15,7 +15,7 @@ use Rattle.rng_graph.specs.declared.order.Sorted.{Sorted}
 use Rattle.rng_graph.specs.declared.order.Sorted.TheVariants as sorted
 use Rattle.rng_graph.proofs.Adjacency.{order_by, leads_by}
 use Rattle.rng_graph.proofs.GraphTables.{mentioned_is_there}
-use Rattle.rng_graph.proofs.Judged.{loop_breaks_expansion, order_keeps_expansion, deep_breaks_depth}
+use Rattle.rng_graph.proofs.JudgedByNumbers.{loop_breaks_expansion, order_keeps_expansion, deep_breaks_depth}
 use Rattle.rng_graph.proofs.Mentioned.{mentions_listed}
 
 pub keeps_breaks_not : {s : Schema} → KeepsExpansion s → BreaksExpansion s → ⊥

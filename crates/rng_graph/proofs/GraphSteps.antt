@@ -22,9 +22,9 @@ use Rattle.rng_graph.specs.plain.Resolving.{Numbering}
 use Rattle.rng_load.proofs.NameLists.{in_at, no_more}
 use Rattle.rng_graph.proofs.GraphTables.{definition_same}
 use Rattle.rng_graph.proofs.Graphs.{contains_found, found}
-use Rattle.rng_graph.proofs.Parts.{at_end, in_front, map_at}
-use Rattle.rng_graph.proofs.Growing.{front}
-use Rattle.rng_graph.proofs.Resolves.{IsNumbering, asked, is_there, is_new, none_there, stays}
+use Rattle.rng_graph.proofs.ListParts.{at_end, in_front, map_at}
+use Rattle.rng_graph.proofs.GrowingGraphs.{front}
+use Rattle.rng_graph.proofs.ResolvedPatterns.{IsNumbering, asked, is_there, is_new, none_there, stays}
 use Rattle.rng_graph.proofs.ResolvedBodies.{body_resolves, cons_is_not_nil, none_is_not_some}
 use Rattle.rng_graph.proofs.ComponentTables.{out_of_range}
 

@@ -17,7 +17,7 @@ use Rattle.rng_graph.specs.plain.Graph.{Spot, at_element, at_definition, Graph, 
 use Rattle.rng_graph.specs.plain.Graph.{same_leaf, AreApart, IsGraphOf, Mentions, IsOrderBy, no_numbers, and_number, LeadsBy, by_one, by_more, of_spot, spot_depth}
 use Rattle.rng_graph.specs.plain.Graph.{IsFilledBy, first_with, no_definition, definition_at, number_of, leaf_number}
 use Rattle.rng_model.proofs.Unfolding.{some_is}
-use Rattle.rng_graph.proofs.Loops.{no_more}
+use Rattle.rng_graph.proofs.LoopsOrOrder.{no_more}
 use Rattle.rng_graph.proofs.RenamedLeaves.{depth_same}
 use Rattle.rng_graph.proofs.Graphs.{found, contains_found, spot_of, point_of, resolved_body, has_body}
 

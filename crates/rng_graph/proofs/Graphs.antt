@@ -12,7 +12,7 @@ use Rattle.rng_model.specs.schema.Unfolding.{Leaf, content_of, Aim, to_element, 
 use Rattle.rng_graph.specs.plain.Met.{Met, met_start, met_in_definition, met_in_element, IsSettled}
 use Rattle.rng_graph.specs.plain.Graph.{Spot, at_element, at_definition, Graph, element_aim, definition_aim, aim_at, IsSpotBelow, IsResolved, IsGraphOf}
 use Rattle.rng_model.proofs.Unfolding.{some_is}
-use Rattle.rng_graph.proofs.Loops.{Covers}
+use Rattle.rng_graph.proofs.LoopsOrOrder.{Covers}
 
 -- ---- leaves of renamed trees
 

@@ -15,7 +15,7 @@ use Rattle.rng_graph.specs.views.GraphView.{trees_of, members, combined, graph_p
 use Rattle.rng_graph.specs.declared.graph.GraphPattern.{GraphPattern}
 use Rattle.rng_graph.specs.plain.Mentioned.{definition_there, mentioned, mentioned_among, all_mentioned}
 use Rattle.rng_graph.specs.plain.Search.{Lists}
-use Rattle.rng_graph.proofs.Loops.{no_more}
+use Rattle.rng_graph.proofs.LoopsOrOrder.{no_more}
 
 -- ---- what is mentioned is listed
 

@@ -20,7 +20,7 @@ use Rattle.rng_load.proofs.NameLists.{in_none, in_cons}
 use Rattle.rng_graph.specs.plain.Met.{Met, met_start, met_in_definition, met_in_element}
 use Rattle.rng_graph.specs.plain.ReadySchema.{IsReady}
 use Rattle.rng_graph.proofs.GraphTables.{name_same}
-use Rattle.rng_graph.proofs.Resolves.{name_is, none_there}
+use Rattle.rng_graph.proofs.ResolvedPatterns.{name_is, none_there}
 use Rattle.rng_graph.proofs.ResolvedBodies.{from_nested, none_is_not_some}
 
 -- ---- what is written in what

@@ -16,7 +16,7 @@ use Rattle.rng_graph.specs.views.GraphView.{combined}
 use Rattle.rng_graph.specs.plain.Met.{Met, met_in_definition}
 use Rattle.rng_graph.specs.plain.ResolvedElements.{with_elements, with_named_elements, with_elements_of}
 use Rattle.rng_graph.specs.plain.Resolving.{Numbering, resolve_each}
-use Rattle.rng_graph.proofs.Resolves.{IsNumbering, IsMore, IsAfter, more_and, no_more, none_there, stays, resolves}
+use Rattle.rng_graph.proofs.ResolvedPatterns.{IsNumbering, IsMore, IsAfter, more_and, no_more, none_there, stays, resolves}
 
 later_in : {A : Type 0} {x y : A} (xs : List A) → Contains xs y → Contains (x ∷ xs) y
 later_in xs c = (suc c.0, omega (arith, c.1), c.2)

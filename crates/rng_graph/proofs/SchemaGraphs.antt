@@ -28,7 +28,7 @@ use Rattle.std.proofs.lemmas.List.{length-map, map_push, take_all}
 use Rattle.rng_graph.proofs.ElementsApart.{elements_apart}
 use Rattle.rng_graph.proofs.GraphSteps.{IsGraphSoFar, fewer, goes_on, same_classes, whole}
 use Rattle.rng_graph.proofs.Graphs.{found}
-use Rattle.rng_graph.proofs.Parts.{map_at}
+use Rattle.rng_graph.proofs.ListParts.{map_at}
 use Rattle.rng_graph.proofs.ResolvedBodies.{none_is_not_some}
 
 -- the patterns of components, seen

@@ -7,8 +7,8 @@ use Rattle.rng_graph.specs.declared.order.Mark.TheVariants as mark
 use Rattle.rng_graph.specs.declared.order.Task.{Task}
 use Rattle.rng_graph.specs.declared.order.Task.TheVariants as task
 use Rattle.rng_graph.specs.plain.Search.{AreMentionsBelow, number_of, IsSearch, IsStep, goes_on, found_loop, weight}
-use Rattle.rng_graph.proofs.Searching.{enter_done, enter_open, enter_new, leave, weight_open, weight_done}
-use Rattle.rng_graph.proofs.Parts.{last_of}
+use Rattle.rng_graph.proofs.DepthFirstSearch.{enter_done, enter_open, enter_new, leave, weight_open, weight_done}
+use Rattle.rng_graph.proofs.ListParts.{last_of}
 
 module _ (all : List (List ℕ)) (marks : List Mark) (rest : List Task) (order : List ℕ) (t : Task) (s : IsSearch all marks (rest ++ t ∷ []) order) where
   pub number_below : number_of t < length all

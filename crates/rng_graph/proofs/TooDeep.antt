@@ -10,8 +10,8 @@ use Rattle.rng_model.specs.schema.SchemaClauses.{BreaksDepth}
 use Rattle.rng_graph.specs.plain.Met.{Met, met_start, met_in_element, IsSettled, IsOrder}
 use Rattle.rng_graph.specs.plain.DepthWith.{of_aim, depth_at, IsFilled, IsRight, tree_depth, IsFoundDeep, deep_start, deep_body, deep_name}
 use Rattle.rng_graph.proofs.Depths.{depth_is}
-use Rattle.rng_graph.proofs.Filled.{body_right, filled_right}
-use Rattle.rng_graph.proofs.Loops.{Covers, keeps, reached_is_met, met_is_reached}
+use Rattle.rng_graph.proofs.TablesInOrder.{body_right, filled_right}
+use Rattle.rng_graph.proofs.LoopsOrOrder.{Covers, keeps, reached_is_met, met_is_reached}
 use Rattle.rng_model.specs.schema.Depth.{depth, class_depth, depth_limit}
 use Rattle.rng_model.specs.schema.SchemaClauses as clauses
 use Rattle.rng_graph.specs.plain.InTwos.{in_twos}

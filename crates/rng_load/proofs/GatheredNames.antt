@@ -21,7 +21,7 @@ use Rattle.rnc_model.specs.loading.SchemaFile.{Name}
 use Rattle.rng_load.proofs.MentionedNames.{tree_found}
 use Rattle.rng_load.proofs.NameLists.{some_is, any_in, in_any, from_map, false_true, in_cons, in_none, in_first, in_left, in_right, in_at, none_twice, no_more}
 use Rattle.rng_load.proofs.TakenFiles.{kept_name, added_name, name_origin, name_grows, name_differs}
-use Rattle.rng_load.proofs.NamesAdded.{any_seen}
+use Rattle.rng_load.proofs.NameSets.{any_seen}
 use Rattle.rng_load.proofs.PlainReading.{grammar_mentions}
 use Rattle.rng_load.proofs.ReadInOrder.{none_at}
 

@@ -5,11 +5,11 @@ mod DistinctLists
 mod FileContent
 mod HandedIn
 mod TakenFiles
-mod NamesAdded
+mod NameSets
 mod ReadInOrder
 mod MentionedNames
 mod CountedPaths
-mod EachPath
+mod PathLists
 mod CountMarks
 mod PathVerdicts
 mod GatheredNames
@@ -23,17 +23,17 @@ mod ClosedFiles
 mod TreeSizes
 mod PlacesWithin
 mod ReadOneByOne
-mod LeftToRead
+mod ReadingSizes
 mod ReadDatatypes
 mod ReadMentioned
 mod GatherOneByOne
-mod LeftToGather
+mod GatheringSizes
 mod GatherIncluded
-mod AllFound
+mod FoundGrammars
 mod GrammarLookup
 pub mod PlacesListed
-mod TurnsTaken
-mod SchemaRead
+mod LoopItems
+mod ReaderEnds
 mod LoadedFiles
 mod WellPlaced
 mod NamesThatOverride

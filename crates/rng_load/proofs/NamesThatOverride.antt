@@ -14,7 +14,7 @@ use Rattle.rnc_model.specs.loading.Loading.{with_name}
 use Rattle.rnc_model.specs.loading.SchemaFile.{Name}
 use Rattle.rng_load.specs.declared.gathering.OverridingNames.{OverridingNames}
 use Rattle.rng_load.proofs.NameLists.{any_in, in_any, or_left, or_right}
-use Rattle.rng_load.proofs.NamesAdded.{any_seen}
+use Rattle.rng_load.proofs.NameSets.{any_seen}
 use Rattle.rng_load.proofs.TakenFiles.{kept_name, added_name, name_origin}
 
 -- ---- the test of names

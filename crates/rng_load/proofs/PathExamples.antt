@@ -9,7 +9,7 @@ use Rattle.rnc_model.specs.loading.Loading.{TakenFiles, hrefs_in}
 use Rattle.rnc_model.specs.loading.MentionPaths.{IsCyclic, HasMorePathsThan, directly, through}
 use Rattle.rnc_model.specs.loading.SchemaFile.{Name}
 use Rattle.rng_load.proofs.CountedPaths.{at_most}
-use Rattle.rng_load.proofs.EachPath.{more_here, more_found}
+use Rattle.rng_load.proofs.PathLists.{more_here, more_found}
 
 abbrev a : Name
 a = codes "a.rnc"

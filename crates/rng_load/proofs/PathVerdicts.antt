@@ -5,7 +5,7 @@ use Rattle.std.specs.Option.{is_some}
 use Rattle.std.specs.Prelude.{◌↔◌, MatchOption, not}
 use Rattle.rnc_model.specs.loading.MentionPaths.{BreaksMentions, path_limit}
 use Rattle.rnc_model.specs.loading.SchemaFile.{Name}
-use Rattle.rng_load.proofs.EachPath.{breaks_found, breaks_here}
+use Rattle.rng_load.proofs.PathLists.{breaks_found, breaks_here}
 use Rattle.rng_load.specs.plain.Counting.{HasFewPaths, StopsAt}
 use Rattle.rng_load.proofs.CountedPaths.{few_keep, long_breaks}
 

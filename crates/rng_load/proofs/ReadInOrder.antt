@@ -13,7 +13,7 @@ use Rattle.rng_load.specs.views.LoadingFaults.{IsNamedTree, IsTheReading, verdic
 use Rattle.rng_load.specs.declared.fault.ReadingFault.{ReadingFault}
 use Rattle.rng_load.specs.declared.fault.ReadingFault.TheVariants as readings
 use Rattle.rnc_model.specs.loading.SchemaFile.{Name, NamedFile, breaks, has_tree, IsTheFileVerdict}
-use Rattle.rng_load.proofs.NamesAdded.{entry_goes_last}
+use Rattle.rng_load.proofs.NameSets.{entry_goes_last}
 use Rattle.rng_load.proofs.TakenFiles.{IsFirm, more_firm, firm_taken, fresh, few_taken, first_broken, first_of}
 
 abbrev Entries : Type 0

@@ -12,7 +12,7 @@ use Rattle.rng_names.specs.views.Alternatives.{Adds, Stands, has, hold_fresh, ex
 use Rattle.rng_names.specs.plain.Holding.{holds, some_hold}
 use Rattle.rng_names.specs.plain.Written.{longest, longest_of}
 use Rattle.rng_names.specs.declared.alternatives.Alternatives.{Alternatives}
-use Rattle.rng_names.proofs.Fresh.{shorter}
+use Rattle.rng_names.proofs.FreshTexts.{shorter}
 
 or-true : (b : Bool) → true ≡ (b || true)
 or-true true = refl

@@ -1,12 +1,12 @@
-pub mod Views
-pub mod Choices
+pub mod NameViews
+pub mod ClassChoices
 pub mod Holding
-pub mod Fresh
+pub mod FreshTexts
 pub mod PlainNames
-pub mod Keys
+pub mod AlternativeTables
 pub mod HeldByAlternatives
 mod KeyLookups
 mod OwnKeys
-mod Growing
-mod Telling
-pub mod Serving
+mod CollectedNames
+mod NamespaceKeys
+pub mod ServingKeys

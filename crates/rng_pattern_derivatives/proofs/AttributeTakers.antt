@@ -26,7 +26,7 @@ use Rattle.rng_pattern_table.specs.declared.pattern.PatternNumber.{PatternNumber
 use Rattle.rng_pattern_table.specs.declared.pattern.Span.{Span}
 use Rattle.rng_pattern_table.proofs.KnownFacts.{joined_first, joined_second}
 use Rattle.rng_pattern_table.proofs.Trees.{Longer-length, tree_stays}
-use Rattle.rng_pattern_derivatives.proofs.Nodes.{IsStringLeaf, a_datatype, a_list, a_value, an_except, found_string}
+use Rattle.rng_pattern_derivatives.proofs.PatternNodes.{IsStringLeaf, a_datatype, a_list, a_value, an_except, found_string}
 use Rattle.rng_model.specs.matching.GrammarReading.{reading_of}
 use Rattle.rng_pattern_derivatives.specs.plain.Takers.{AreAttributes, AreAttributesTold, AreCandidates, AreSpansOf, HasAttribute, IsAttributeAt, IsSpanOf, IsTold}
 use Rattle.rng_pattern_derivatives.specs.plain.Ways.{AreWaysOf}

@@ -11,15 +11,15 @@ use Rattle.rng_model.specs.matching.Reading.{Reading}
 use Rattle.rng_deriv_laws.specs.plain.Taking.{Same, Takes}
 use Rattle.rng_deriv_laws.specs.plain.Taking as t
 use Rattle.rng_deriv_laws.specs.plain.Ways.{AreItemWays, TakesItem}
-use Rattle.rng_deriv_laws.proofs.FreeForms.{item_among, item_way}
-use Rattle.rng_deriv_laws.proofs.Hereditary.{IsHereditary}
+use Rattle.rng_deriv_laws.proofs.SameWays.{item_among, item_way}
+use Rattle.rng_deriv_laws.proofs.KeptRestrictions.{IsHereditary}
 use Rattle.rng_deriv_laws.proofs.ItemWays.{group_ways, item_in_first, item_of_both, item_ways-are}
-use Rattle.rng_deriv_laws.proofs.Same.{same, same_through}
-use Rattle.rng_deriv_laws.proofs.Tools.{bare_cut}
+use Rattle.rng_deriv_laws.proofs.SamePatterns.{same, same_through}
+use Rattle.rng_deriv_laws.proofs.ListFacts.{bare_cut}
 use Rattle.rng_pattern_table.specs.plain.Copies.{AreCopies, IsBehindCopies, IsOfCopies, IsOpened, as_it_is, both, copies_before, nothing_before, once_more, one}
 use Rattle.rng_pattern_derivatives.specs.plain.Kinds.{weight}
-use Rattle.rng_pattern_derivatives.proofs.Composing.{HandsOn, opened_hands_on, opened_same}
-use Rattle.rng_pattern_derivatives.proofs.Weights.{opened_less, right_less}
+use Rattle.rng_pattern_derivatives.proofs.WaysOfSides.{HandsOn, opened_hands_on, opened_same}
+use Rattle.rng_pattern_derivatives.proofs.SideWeights.{opened_less, right_less}
 
 module _ (g : Reading) (copy : Simple ℕ) (ends : Takes g copy [] []) where
   -- ---- copies

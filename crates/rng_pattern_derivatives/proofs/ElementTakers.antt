@@ -31,7 +31,7 @@ use Rattle.rng_pattern_derivatives.specs.declared.way.Kind.{Kind}
 use Rattle.rng_pattern_derivatives.specs.declared.way.Kind.TheVariants as kinds
 use Rattle.rng_pattern_derivatives.proofs.AttributeTakers.{less_or_same}
 use Rattle.rng_pattern_derivatives.proofs.KnownWays.{some_is}
-use Rattle.rng_pattern_derivatives.proofs.Rows.{class_there, no_class_there}
+use Rattle.rng_pattern_derivatives.proofs.GrammarRows.{class_there, no_class_there}
 
 module _ (q : Name) where
   -- some item is an element of this name

@@ -28,13 +28,13 @@ use Rattle.rng_pattern_derivatives.specs.declared.known.Known.{Known}
 use Rattle.rng_pattern_derivatives.specs.declared.way.Kind.{Kind}
 use Rattle.rng_pattern_derivatives.specs.declared.way.Kind.TheVariants as kinds
 use Rattle.rng_pattern_derivatives.specs.declared.way.Place.{Place}
-use Rattle.rng_pattern_derivatives.specs.declared.way.Way.{Way}
+use Rattle.rng_pattern_derivatives.specs.declared.way.LeafWay.{LeafWay}
 use Rattle.rng_pattern_derivatives.proofs.AttributeTakers.{spans_longer}
-use Rattle.rng_pattern_derivatives.proofs.Composing.{side_law}
+use Rattle.rng_pattern_derivatives.proofs.WaysOfSides.{side_law}
 use Rattle.rng_pattern_derivatives.proofs.KnownRests.{rests_longer}
 
 module _ (t : Table) (old new : List Node) (kind : Kind) (longer : Longer old new) where
-  those_stay : (n : PatternNumber) (ways : List Way) → AreThoseOf t old kind n ways → AreThoseOf t new kind n ways
+  those_stay : (n : PatternNumber) (ways : List LeafWay) → AreThoseOf t old kind n ways → AreThoseOf t new kind n ways
   those_stay n ways h =
       let long = Longer-length old new longer in
       let inside = h.inside in
@@ -45,7 +45,7 @@ module _ (t : Table) (old new : List Node) (kind : Kind) (longer : Longer old ne
       }
 
   -- the ways of a pattern that stood before
-  pub those_known : (n : PatternNumber) (ways : List Way) → n.0 < length old → AreWaysOf t new kind (tree_of t old n.0) ways → AreThoseOf t new kind n ways
+  pub those_known : (n : PatternNumber) (ways : List LeafWay) → n.0 < length old → AreWaysOf t new kind (tree_of t old n.0) ways → AreThoseOf t new kind n ways
   those_known n ways inside h =
       let long = Longer-length old new longer in
       record {
@@ -53,14 +53,14 @@ module _ (t : Table) (old new : List Node) (kind : Kind) (longer : Longer old ne
         ways = subst (λ p. AreWaysOf t new kind p ways) (sym (tree_stays t old new n.0 longer inside)) h;
       }
 
-  module _ {Z : Type 0} (known : HashMap PatternNumber (SmallVec Way) Z) (all : AreKnown t old kind known) where
+  module _ {Z : Type 0} (known : HashMap PatternNumber (SmallVec LeafWay) Z) (all : AreKnown t old kind known) where
     pub known_longer : AreKnown t new kind known
     known_longer n ways h = those_stay n ways (all n ways h)
 
 -- ways of a pattern are known as well
-pub known_more : {Z : Type 0} (t : Table) (ns : List Node) (kind : Kind) (known more : HashMap PatternNumber (SmallVec Way) Z) (n : PatternNumber)
-    (ways : List Way) → AreKnown t ns kind known → AreThoseOf t ns kind n ways
-    → ((m : PatternNumber) (ws : List Way) → HasKnown more m ws → HasKnown known m ws ⊎ ((m ≡ n) × (ws ≡ ways))) → AreKnown t ns kind more
+pub known_more : {Z : Type 0} (t : Table) (ns : List Node) (kind : Kind) (known more : HashMap PatternNumber (SmallVec LeafWay) Z) (n : PatternNumber)
+    (ways : List LeafWay) → AreKnown t ns kind known → AreThoseOf t ns kind n ways
+    → ((m : PatternNumber) (ws : List LeafWay) → HasKnown more m ws → HasKnown known m ws ⊎ ((m ≡ n) × (ws ≡ ways))) → AreKnown t ns kind more
 known_more t ns kind known more n ways all those within = λ m ws h. ⊎_elim (λ a. all m ws a)
     (λ b. subst (λ m. AreThoseOf t ns kind m ws) (sym b.0) (subst (AreThoseOf t ns kind n) (sym b.1) those)) (within m ws h)
 
@@ -71,7 +71,7 @@ none_found eq m empty k x e = none_is (subst (λ es. lookup (eq k) es ≡ Some x
     none_is e = cc
 
 -- nothing is known
-pub none_known : {Z : Type 0} (t : Table) (ns : List Node) (kind : Kind) (known : HashMap PatternNumber (SmallVec Way) Z) → IsEmpty known
+pub none_known : {Z : Type 0} (t : Table) (ns : List Node) (kind : Kind) (known : HashMap PatternNumber (SmallVec LeafWay) Z) → IsEmpty known
     → AreKnown t ns kind known
 none_known t ns kind known empty n ways h = absurd (none_found same.ghosts.eq known empty n h.0 h.1)
 
@@ -85,18 +85,18 @@ same_number a b e = ap (λ k. record { 0 = k }) ((Decides-eqb a.0 b.0).0 e)
 
 -- these are known for the key
 pub known_for : {Y Z : Type 0} (t : Table) (ns : List Node) (kind : Kind) (key : NameKey)
-    (known : HashMap NameKey (HashMap PatternNumber (SmallVec Way) Z) Y) (own : HashMap PatternNumber (SmallVec Way) Z) → HasForKey known key own
+    (known : HashMap NameKey (HashMap PatternNumber (SmallVec LeafWay) Z) Y) (own : HashMap PatternNumber (SmallVec LeafWay) Z) → HasForKey known key own
     → AreKnown t ns kind own → AreKnownFor t ns kind key known
 known_for t ns kind key known own at h = λ m there. subst (AreKnown t ns kind) (some_is (sym at ∙ there)) h
 
 pub none_by_key : {Y Z : Type 0} (Are : Name → Kind → Type 0) (t : Table) (keys : Keys) (ns : List Node)
-    (known : HashMap NameKey (HashMap PatternNumber (SmallVec Way) Z) Y) → IsEmpty known → AreKnownByKey Are t keys ns known
+    (known : HashMap NameKey (HashMap PatternNumber (SmallVec LeafWay) Z) Y) → IsEmpty known → AreKnownByKey Are t keys ns known
 none_by_key Are t keys ns known empty = λ k kind named m at. absurd (none_found same_key.ghosts.eq known empty k m at)
 
 -- the ways are told by the name alone
 abbrev pub AreTold : (Name → Kind → Type 0) → Type 0
 AreTold Are = (t : Table) (ns : List Node) (q r : Kind) (name : Name) → Are name q → Are name r
-    → (n : PatternNumber) (ws : List Way) → AreThoseOf t ns q n ws → AreThoseOf t ns r n ws
+    → (n : PatternNumber) (ws : List LeafWay) → AreThoseOf t ns q n ws → AreThoseOf t ns r n ws
 
 pub same_elements : AreTold IsElementKind
 same_elements t ns (kinds.Attribute q) r name a b n ws h = elim a [ ]
@@ -127,12 +127,12 @@ same_attributes t ns (kinds.Attribute q) (kinds.Attribute r) name a b n ws h = r
 }
 
 module _ {Y Z : Type 0} (Are : Name → Kind → Type 0) (t : Table) (keys : Keys) (old new : List Node) (longer : Longer old new)
-    (known : HashMap NameKey (HashMap PatternNumber (SmallVec Way) Z) Y) (all : AreKnownByKey Are t keys old known) where
+    (known : HashMap NameKey (HashMap PatternNumber (SmallVec LeafWay) Z) Y) (all : AreKnownByKey Are t keys old known) where
   pub by_key_longer : AreKnownByKey Are t keys new known
   by_key_longer = λ k kind named m at. known_longer t old new kind longer m (all k kind named m at)
 
   -- what is known for one key has changed
-  pub by_key_changed : AreTold Are → (key : NameKey) (kind : Kind) (more : HashMap NameKey (HashMap PatternNumber (SmallVec Way) Z) Y)
+  pub by_key_changed : AreTold Are → (key : NameKey) (kind : Kind) (more : HashMap NameKey (HashMap PatternNumber (SmallVec LeafWay) Z) Y)
       → Are (name_at keys key.0) kind → AreKnownFor t new kind key more → KeepsOtherKeys key known more → AreKnownByKey Are t keys new more
   by_key_changed same key kind more named h others = λ k other told m at. ⊎_elim
       (λ own.
@@ -158,7 +158,7 @@ all_longer t keys old new longer known all = record {
 
 -- ---- elements
 
-module _ (t : Table) (ns : List Node) (name : Name) (p : Simple ℕ) (ws : List Way) where
+module _ (t : Table) (ns : List Node) (name : Name) (p : Simple ℕ) (ws : List LeafWay) where
   pub element_law : (kind : Kind) → IsElementKind name kind → AreWaysOf t ns kind p ws
       → AreItemWays (reading_of t) (IsElementNamed name) p (ways_by (tree_of t ns) ws)
   element_law (kinds.Attribute q) named h = elim named [ ]

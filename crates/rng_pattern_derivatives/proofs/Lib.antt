@@ -1,28 +1,28 @@
-mod Offers
-pub mod Kept
-mod Standing
-mod Joining
-pub mod Adding
-mod Nodes
-pub mod Rows
+mod WayLists
+pub mod KeptRestrictions
+mod NumberedWays
+mod JoinedWays
+pub mod AddedWays
+mod PatternNodes
+pub mod GrammarRows
 mod WaysOfLeaves
-mod Composing
-mod Weights
+mod WaysOfSides
+mod SideWeights
 mod KnownRests
 mod AttributeTakers
 mod LikeAttributes
 pub mod KnownWays
 mod ElementTakers
-mod Bareness
-mod Closings
-pub mod Starts
-mod KnownTypes
-mod Behind
-mod Telling
-mod Pieces
-mod Tags
+mod PatternsWithoutAttributes
+mod ClosedTags
+pub mod StartBodies
+mod KnownDatatypes
+mod RestsOfWays
+mod LeafKinds
+mod ListPieces
+mod TagAttributes
 mod FewerWays
 mod Copies
-mod FewerLaws
+mod FewerWaysLaws
 mod LikeElements
 mod LikeLeaves

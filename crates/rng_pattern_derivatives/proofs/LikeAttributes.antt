@@ -34,8 +34,8 @@ use Rattle.rng_pattern_derivatives.specs.plain.Kinds.{IsNamed}
 use Rattle.rng_model.specs.matching.GrammarReading.{reading_of}
 use Rattle.rng_pattern_derivatives.specs.plain.Ways.{AreWaysOf, ways_by}
 use Rattle.rng_pattern_derivatives.specs.declared.way.Kind.TheVariants as kinds
-use Rattle.rng_pattern_derivatives.specs.declared.way.Way as numbered
-use Rattle.rng_pattern_derivatives.proofs.Nodes.{IsStringLeaf, a_datatype, a_list, a_value, an_except, found_string}
+use Rattle.rng_pattern_derivatives.specs.declared.way.LeafWay as numbered
+use Rattle.rng_pattern_derivatives.proofs.PatternNodes.{IsStringLeaf, a_datatype, a_list, a_value, an_except, found_string}
 
 -- ---- all attributes renamed, by a renaming that is its own way back
 
@@ -194,7 +194,7 @@ module _ (rename : Name → Name) (back : (n : Name) → rename (rename n) ≡ n
     unfolding trees
     tree_keeps ns k = in_keeps (fold (with_tree tb) [] ns) (fold_keeps [] ns (All-nil Keeps)) k
 
-    each_keeps : (g : Reading) (ns : List Node) (ws : List numbered.Way) → EachKeeps g (ways_by (tree_of tb ns) ws)
+    each_keeps : (g : Reading) (ns : List Node) (ws : List numbered.LeafWay) → EachKeeps g (ways_by (tree_of tb ns) ws)
     unfolding EachKeeps
     each_keeps g ns [] = tt
     each_keeps g ns (w ∷ ws) = ((tree_keeps ns w.leaf.0, tree_keeps ns w.rest.0), each_keeps g ns ws)
@@ -287,7 +287,7 @@ module _ (tb : Table) (keys : Keys) (serve : KeysServe tb keys) (q r : Name) (al
   rows_keep : (k : ℕ) → Keeps (swapped q r) (swapped_twice q r) (attribute_found tb (slice_get tb.patterns k))
   rows_keep k = row_keeps (slice_get tb.patterns k) k refl
 
-  pub ways_alike : (ns : List Node) (n : ℕ) (ws : List numbered.Way) (a b : Bor declared.Name) → name_of a.now ≡ q → name_of b.now ≡ r
+  pub ways_alike : (ns : List Node) (n : ℕ) (ws : List numbered.LeafWay) (a b : Bor declared.Name) → name_of a.now ≡ q → name_of b.now ≡ r
       → AreWaysOf tb ns (kinds.Attribute a) (tree_of tb ns n) ws → AreWaysOf tb ns (kinds.Attribute b) (tree_of tb ns n) ws
   ways_alike ns n ws a b is_q is_r h = record {
     inside = h.inside;

@@ -8,10 +8,10 @@ use Rattle.rng_model.specs.declared.name.NameClass.TheVariants as classes
 use Rattle.rng_model.specs.declared.simple.ElementId.{ElementId}
 use Rattle.rng_model.specs.declared.simple.PatternId.{PatternId}
 use Rattle.rng_names.specs.plain.Holding.{holds}
-use Rattle.rng_names.proofs.Views.{name_class_is}
+use Rattle.rng_names.proofs.NameViews.{name_class_is}
 use Rattle.rng_pattern_derivatives.specs.plain.Alike.{AreAlike, IsAlike}
 use Rattle.rng_pattern_derivatives.proofs.AttributeTakers.{pushed_cases}
-use Rattle.rng_pattern_derivatives.proofs.Rows.{body_there, class_there}
+use Rattle.rng_pattern_derivatives.proofs.GrammarRows.{body_there, class_there}
 
 pub named_alike : (t : Table) (e f : ℕ) (n m : declared.Name) (b : PatternId) → slice_get t.elements e ≡ Some (classes.Name n, b)
     → slice_get t.elements f ≡ Some (classes.Name m, b) → name_of n ≡ name_of m → IsAlike t e f

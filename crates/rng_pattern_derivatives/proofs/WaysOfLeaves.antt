@@ -15,14 +15,14 @@ use Rattle.rng_deriv_laws.specs.plain.Derivatives.{Way, item_ways, attribute_way
 use Rattle.rng_deriv_laws.specs.plain.Ways.{AreItemWays, AreAttributeWays, IsItemLeaf, IsAttributeLeaf}
 use Rattle.rng_deriv_laws.proofs.ItemWays.{item_ways-are}
 use Rattle.rng_deriv_laws.proofs.AttributeWays.{attribute_ways-are}
-use Rattle.rng_deriv_laws.proofs.Hereditary.{item_ways-keep, attribute_ways-keep}
+use Rattle.rng_deriv_laws.proofs.KeptRestrictions.{item_ways-keep, attribute_ways-keep}
 use Rattle.rng_model.specs.names.NameViews.{name_of}
 use Rattle.rng_pattern_derivatives.specs.plain.Kinds.{IsAlone, IsElementNamed, IsLeafOf, IsNamed, IsText, Obeys, rest_of_leaf, takes_kind}
 use Rattle.rng_pattern_derivatives.specs.plain.Ways.{AreKept, AreWays}
 use Rattle.rng_pattern_derivatives.specs.declared.way.Kind.{Kind}
 use Rattle.rng_pattern_derivatives.specs.declared.way.Kind.TheVariants as kinds
 use Rattle.rng_pattern_derivatives.specs.declared.way.Place.{Place}
-use Rattle.rng_pattern_derivatives.proofs.Kept.{Obeys-hereditary}
+use Rattle.rng_pattern_derivatives.proofs.KeptRestrictions.{Obeys-hereditary}
 
 -- a leaf, with what is left behind it
 abbrev pub leaf_way : Simple ℕ → Way

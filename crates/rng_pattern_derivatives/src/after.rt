@@ -26,7 +26,7 @@ use crate::leaves::{rest_of_leaf, takes_kind};
 use crate::spans::add_spans;
 use crate::starting::number_at;
 use crate::texts::is_excepted;
-use crate::way::{Candidates, First, Kind, Place, Rests, Way, Ways};
+use crate::way::{Candidates, First, Kind, LeafWay, Place, Rests, Ways};
 use crate::ways::ways;
 use rng_model::{Attr, Name, OutOfMemory, PatternId, Simple, SimpleGrammar, split_blanks};
 use rng_names::{NameKeys, contains};
@@ -280,7 +280,7 @@ fn rests(
     known: &mut Known,
     numbers: &[PatternNumber],
     first: First,
-    ways: &[Way],
+    ways: &[LeafWay],
 ) -> Result<Rests, OutOfMemory>
     requires inside { AreInside table.old ways.now }
     requires ready { IsReady grammar.now table.old numbers.now }

@@ -3,7 +3,7 @@ ghost use Rattle.std.specs.Prelude.{◌≡◌, ◌<◌, All, IfOk, length, true}
 ghost use Rattle.rng_pattern_derivatives.specs.plain.FewerWays.{AreRepeated, AreUncovered, HasOptionalRest};
 ghost use Rattle.rng_pattern_derivatives.specs.plain.Ways.{AreInside, IsInside};
 
-use crate::way::{Way, Ways};
+use crate::way::{LeafWay, Ways};
 use rng_model::OutOfMemory;
 use rng_pattern_table::{Pattern, PatternNumber, PatternTable};
 use smallvec::SmallVec;
@@ -17,7 +17,7 @@ use std::alloc::Global;
 pub fn repeated_ways(
     alloc: Global,
     table: &PatternTable,
-    copies: &[Way],
+    copies: &[LeafWay],
     more: PatternNumber,
 ) -> Result<Ways, OutOfMemory>
     requires { AreInside table.now copies.now }
@@ -26,7 +26,7 @@ pub fn repeated_ways(
     let mut all = SmallVec::new(alloc);
     'copies: for copy in copies {
         if table.facts(copy.rest).nullable {
-            all.push(Way {
+            all.push(LeafWay {
                 leaf: copy.leaf,
                 rest: more,
             })?;
@@ -44,7 +44,7 @@ pub fn uncovered(
     alloc: Global,
     table: &PatternTable,
     second: PatternNumber,
-    firsts: &[Way],
+    firsts: &[LeafWay],
     seconds: Ways,
 ) -> Result<Ways, OutOfMemory>
     requires second { second.0 < length table.now }
@@ -67,7 +67,7 @@ pub fn uncovered(
 
 /// Whether a way of the second side is left out: one with its leaf may end behind that. A way that leads back to the second side, as
 /// those of a repetition do, is kept, since its states come again. Takes no memory.
-fn is_covered(table: &PatternTable, second: PatternNumber, firsts: &[Way], way: Way) -> bool
+fn is_covered(table: &PatternTable, second: PatternNumber, firsts: &[LeafWay], way: LeafWay) -> bool
     requires firsts { AreInside table.now firsts.now }
     requires way { IsInside table.now way }
     ensures { result ≡ true → HasOptionalRest table.now firsts.now way.leaf }
@@ -92,7 +92,7 @@ fn leads_back(table: &PatternTable, rest: PatternNumber, second: PatternNumber) 
 }
 
 /// Whether some way with this leaf may end behind it. Takes no memory.
-fn has_optional_rest(table: &PatternTable, ways: &[Way], leaf: PatternNumber) -> bool
+fn has_optional_rest(table: &PatternTable, ways: &[LeafWay], leaf: PatternNumber) -> bool
     requires { AreInside table.now ways.now }
     ensures { result ≡ true → HasOptionalRest table.now ways.now leaf }
 {

@@ -4,11 +4,11 @@ ghost use Rattle.rng_model.specs.simple.Table.{Table};
 ghost use Rattle.rng_deriv_laws.specs.plain.Derivatives.{behind, joined_of};
 ghost use Rattle.rng_pattern_table.specs.views.PatternTable.{Adds, Longer};
 ghost use Rattle.rng_pattern_table.specs.views.Trees.{tree_of};
-ghost use Rattle.rng_pattern_derivatives.specs.declared.way.Way.{Way};
+ghost use Rattle.rng_pattern_derivatives.specs.declared.way.LeafWay.{LeafWay};
 ghost use Rattle.rng_pattern_derivatives.specs.plain.Kinds.{connector_of};
 ghost use Rattle.rng_pattern_derivatives.specs.plain.Ways.{AreInside, AreRestsBehind, IsInside, IsHoleInside, IsTakenOut, StandFor, filled, ways_by};
 
-use crate::way::{Hole, Joint, Rests, Way, Ways};
+use crate::way::{Hole, Joint, LeafWay, Rests, Ways};
 use rng_model::OutOfMemory;
 use rng_pattern_table::{PatternNumber, PatternTable};
 use smallvec::SmallVec;
@@ -52,8 +52,8 @@ pub fn fill(
 }
 
 /// Where the way with this leaf stands among others.
-fn place_of(ways: &[Way], leaf: PatternNumber) -> Option<usize>
-    ensures found { IfSome result (λ i. (w : Way) × (slice_get ways.now i ≡ Some w) × (w.leaf ≡ leaf)) }
+fn place_of(ways: &[LeafWay], leaf: PatternNumber) -> Option<usize>
+    ensures found { IfSome result (λ i. (w : LeafWay) × (slice_get ways.now i ≡ Some w) × (w.leaf ≡ leaf)) }
     ensures none { IfNone result (All (λ w. ¬ (w.leaf ≡ leaf)) ways.now) }
 {
     'others: for (place, way) in ways.iter().enumerate() {
@@ -65,7 +65,7 @@ fn place_of(ways: &[Way], leaf: PatternNumber) -> Option<usize>
 }
 
 /// Takes the way with this leaf out of others, if there is one.
-fn take_leaf(ways: &mut Ways, leaf: PatternNumber) -> Option<Way>
+fn take_leaf(ways: &mut Ways, leaf: PatternNumber) -> Option<LeafWay>
     ensures found { IfSome result (λ w. (w.leaf ≡ leaf) × IsTakenOut ways.old.items ways.new.items w) }
     ensures none { IfNone result (ways.new.items ≡ ways.old.items) }
 {
@@ -78,7 +78,7 @@ pub fn add_way(
     alloc: Global,
     table: &mut PatternTable,
     all: &mut Ways,
-    way: Way,
+    way: LeafWay,
 ) -> Result<(), OutOfMemory>
     requires inside { AreInside table.old all.old.items }
     requires way { IsInside table.old way }
@@ -92,7 +92,7 @@ pub fn add_way(
         return Ok(all.push(way)?);
     };
     let rest = table.choice(alloc, &[other.rest, way.rest])?;
-    all.push(Way {
+    all.push(LeafWay {
         leaf: way.leaf,
         rest,
     })?;
@@ -104,7 +104,7 @@ pub fn add_filled(
     alloc: Global,
     table: &mut PatternTable,
     hole: Hole,
-    ways: &[Way],
+    ways: &[LeafWay],
     all: &mut Ways,
 ) -> Result<(), OutOfMemory>
     requires hole { IsHoleInside table.old hole }
@@ -120,7 +120,7 @@ pub fn add_filled(
             alloc,
             table,
             all,
-            Way {
+            LeafWay {
                 leaf: way.leaf,
                 rest,
             },
@@ -130,7 +130,7 @@ pub fn add_filled(
 }
 
 /// The rests of the ways with this leaf.
-fn rests_behind(alloc: Global, ways: &[Way], leaf: PatternNumber) -> Result<Rests, OutOfMemory>
+fn rests_behind(alloc: Global, ways: &[LeafWay], leaf: PatternNumber) -> Result<Rests, OutOfMemory>
     ensures { IfOk result (λ rests. AreRestsBehind ways.now leaf rests.items) }
 {
     let mut rests = SmallVec::new(alloc);
@@ -146,7 +146,7 @@ fn rests_behind(alloc: Global, ways: &[Way], leaf: PatternNumber) -> Result<Rest
 pub fn joined_ways(
     alloc: Global,
     table: &mut PatternTable,
-    ways: &[Way],
+    ways: &[LeafWay],
 ) -> Result<Ways, OutOfMemory>
     requires { AreInside table.old ways.now }
     ensures longer { OnOk result (Longer table.old table.new) }
@@ -159,7 +159,7 @@ pub fn joined_ways(
         }
         let rests = rests_behind(alloc, ways, way.leaf)?;
         let rest = table.choice(alloc, rests.as_slice())?;
-        all.push(Way {
+        all.push(LeafWay {
             leaf: way.leaf,
             rest,
         })?;

@@ -5,13 +5,13 @@ ghost use Rattle.rng_model.specs.simple.Table.{Table};
 ghost use Rattle.rng_pattern_table.specs.views.Node.{Node};
 ghost use Rattle.rng_pattern_table.specs.declared.pattern.PatternNumber.{PatternNumber};
 ghost use Rattle.rng_pattern_derivatives.specs.views.KnownWays.{AreAllKnown, HasKnown};
-ghost use Rattle.rng_pattern_derivatives.specs.declared.way.Way.{Way};
+ghost use Rattle.rng_pattern_derivatives.specs.declared.way.LeafWay.{LeafWay};
 
 use crate::alike::alike_elements;
 use crate::datatypes::Datatypes;
 use crate::rests::KnownRests;
 use crate::takers::Takers;
-use crate::way::{Way, Ways};
+use crate::way::{LeafWay, Ways};
 use rng_model::{ElementId, OutOfMemory, SimpleGrammar};
 use rng_names::{NameKey, NameKeys};
 use rng_pattern_table::{PatternNumber, Span};
@@ -85,14 +85,14 @@ impl Known {
 }
 
 /// A copy of ways. The error is want of memory.
-pub fn copied_ways(alloc: Global, ways: &[Way]) -> Result<Ways, OutOfMemory>
+pub fn copied_ways(alloc: Global, ways: &[LeafWay]) -> Result<Ways, OutOfMemory>
     ensures { IfOk result (λ copy. copy.items ≡ ways.now) }
 {
     Ok(SmallVec::from_slice(alloc, ways)?)
 }
 
 /// The ways that are known of a pattern.
-pub fn known_ways(known: &KnownWays, number: PatternNumber) -> Option<&[Way]>
+pub fn known_ways(known: &KnownWays, number: PatternNumber) -> Option<&[LeafWay]>
     ensures { IfSome result (λ ways. HasKnown known.now number ways.now) }
 {
     Some(known.get(&number)?.as_slice())
@@ -103,9 +103,9 @@ pub fn keep(
     alloc: Global,
     known: &mut KnownWays,
     number: PatternNumber,
-    ways: &[Way],
+    ways: &[LeafWay],
 ) -> Result<(), OutOfMemory>
-    ensures { OnOk result ((n : PatternNumber) (ws : List Way) → HasKnown known.new n ws → HasKnown known.old n ws ⊎ ((n ≡ number) × (ws ≡ ways.now))) }
+    ensures { OnOk result ((n : PatternNumber) (ws : List LeafWay) → HasKnown known.new n ws → HasKnown known.old n ws ⊎ ((n ≡ number) × (ws ≡ ways.now))) }
 {
     let copy = copied_ways(alloc, ways)?;
     known.insert(number, copy)?;

@@ -12,7 +12,7 @@ ghost use Rattle.rng_pattern_derivatives.specs.plain.Takers.{AreCandidates};
 ghost use Rattle.rng_pattern_derivatives.specs.plain.Ways.{AreWaysOf};
 ghost use Rattle.rng_pattern_derivatives.specs.declared.way.Kind as kinds;
 
-use crate::way::{Candidates, Kind, Way, Ways};
+use crate::way::{Candidates, Kind, LeafWay, Ways};
 use rng_model::{ElementId, OutOfMemory, PatternId, Simple, SimpleGrammar};
 use rng_names::contains;
 use rng_pattern_table::{Pattern, PatternNumber, PatternTable};
@@ -107,7 +107,7 @@ pub fn ways_of_leaf(
     }
     let rest = rest_of_leaf(table, number)?;
     let leaf = like_leaf(table, candidates, number)?;
-    ways.push(Way { leaf, rest })?;
+    ways.push(LeafWay { leaf, rest })?;
     Ok(ways)
 }
 

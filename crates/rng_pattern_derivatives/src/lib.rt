@@ -25,4 +25,4 @@ mod ways;
 pub use after::{after_tag, after_text};
 pub use known::{Known, KnownWays};
 pub use starting::start;
-pub use way::{Way, Ways};
+pub use way::{LeafWay, Ways};

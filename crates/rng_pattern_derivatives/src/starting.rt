@@ -14,7 +14,7 @@ ghost use Rattle.rng_pattern_derivatives.specs.plain.Takers.{AreOfKey};
 use crate::by_key::ways_by_key;
 use crate::known::{Known, KnownByKey};
 use crate::leaves::element_takes;
-use crate::way::{Candidates, Kind, Way, Ways};
+use crate::way::{Candidates, Kind, LeafWay, Ways};
 use rng_model::{ElementId, Name, OutOfMemory, PatternId, SimpleGrammar};
 use rng_names::{NameKey, NameKeys};
 use rng_pattern_table::{Pattern, PatternNumber, PatternTable, Span};
@@ -135,7 +135,7 @@ fn add_starts(
     table: &PatternTable,
     numbers: &[PatternNumber],
     name: &Name,
-    ways: &[Way],
+    ways: &[LeafWay],
     starts: &mut Ways,
 ) -> Result<(), OutOfMemory>
     requires ready { IsReady grammar.now table.now numbers.now }
@@ -147,7 +147,7 @@ fn add_starts(
         let Some(body) = body(grammar, table, numbers, way.leaf, name) else {
             continue;
         };
-        starts.push(Way {
+        starts.push(LeafWay {
             leaf: body,
             rest: way.rest,
         })?;

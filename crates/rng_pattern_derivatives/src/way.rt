@@ -5,15 +5,15 @@ use smallvec::SmallVec;
 
 /// A leaf of a pattern that may take what comes first, and the pattern of what may follow then.
 #[derive(Clone, Copy, PartialEq, Eq)]
-pub struct Way {
+pub struct LeafWay {
     pub leaf: PatternNumber,
     pub rest: PatternNumber,
 }
 
 /// The way from the first pattern of a table to itself, which stands for none.
-impl Default for Way {
+impl Default for LeafWay {
     fn default() -> Self {
-        Way {
+        LeafWay {
             leaf: PatternNumber(0),
             rest: PatternNumber(0),
         }
@@ -21,7 +21,7 @@ impl Default for Way {
 }
 
 /// The ways of a pattern: two at most for nearly all, which take no memory of their own.
-pub type Ways = SmallVec<Way, 2>;
+pub type Ways = SmallVec<LeafWay, 2>;
 
 /// What is left by some ways of a pattern.
 pub type Rests = SmallVec<PatternNumber, 2>;

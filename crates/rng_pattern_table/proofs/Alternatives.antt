@@ -5,7 +5,7 @@ use Rattle.rng_model.specs.simple.Tree.{Simple, choice, group, interleave, s_not
 use Rattle.rng_model.specs.simple.Tree.{s_value, s_one_or_more, s_joined}
 use Rattle.rng_model.specs.restrictions.Restrictions.{ContentType, greater}
 use Rattle.rng_deriv_laws.specs.plain.Restricted.{IsRestricted, IsTyped, content_type, type_of_choice}
-use Rattle.rng_deriv_laws.proofs.Hereditary.{IsRestricted-hereditary}
+use Rattle.rng_deriv_laws.proofs.KeptRestrictions.{IsRestricted-hereditary}
 use Rattle.rng_pattern_table.specs.views.Choices.{IsAlternativeOf}
 use Rattle.rng_pattern_table.specs.plain.Reduced.{HasAlternative, HasAllowedMembers, IsReducedChoice, MayBeMember}
 use Rattle.rng_pattern_table.specs.views.Trees.{choice_from, choice_over}

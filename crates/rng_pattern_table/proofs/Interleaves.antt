@@ -7,16 +7,16 @@ use Rattle.rng_deriv_laws.specs.plain.Derivatives.{joined_of}
 use Rattle.rng_model.specs.matching.Reading.{Reading}
 use Rattle.rng_deriv_laws.specs.plain.Restricted.{HasNoAttribute, HasTexts, MayBeListed, RepeatsWell, content_type, type_of_both}
 use Rattle.rng_deriv_laws.specs.plain.Taking.{Same}
-use Rattle.rng_deriv_laws.proofs.Same.{interleave_associative, interleave_commutative, same, same_back, same_interleave, same_through}
+use Rattle.rng_deriv_laws.proofs.SamePatterns.{interleave_associative, interleave_commutative, same, same_back, same_interleave, same_through}
 use Rattle.rng_pattern_table.specs.plain.Kept.{HasContentWithin, HasNoLists, Interleaves, IsInterleaveOf}
 use Rattle.rng_pattern_table.specs.views.Node.{Node}
 use Rattle.rng_pattern_table.specs.views.Node as node
 use Rattle.rng_pattern_table.specs.views.PatternTable.{Adds, IsPatternTable, Longer}
 use Rattle.rng_pattern_table.specs.views.Trees.{tree_of}
 use Rattle.rng_pattern_table.specs.declared.pattern.PatternNumber.{PatternNumber}
-use Rattle.rng_pattern_table.proofs.Contents.{both_have, both_regrouped, both_swapped, both_within, greater_itself, less_together, some_is, together_greater}
-use Rattle.rng_pattern_table.proofs.Contents.{within_first, within_second}
-use Rattle.rng_pattern_table.proofs.Keeping.{content_wider, joined_content, joined_has}
+use Rattle.rng_pattern_table.proofs.ContentTypes.{both_have, both_regrouped, both_swapped, both_within, greater_itself, less_together, some_is, together_greater}
+use Rattle.rng_pattern_table.proofs.ContentTypes.{within_first, within_second}
+use Rattle.rng_pattern_table.proofs.KeptRestrictions.{content_wider, joined_content, joined_has}
 use Rattle.rng_pattern_table.proofs.Trees.{tree_of-over_parts, tree_stays}
 
 -- ---- the restrictions

@@ -2,20 +2,20 @@ pub mod Trees
 mod EqualPatterns
 pub mod KnownFacts
 pub mod Subsequences
-mod Rows
+mod TableRows
 mod Units
-mod Putting
+mod PutPatterns
 mod PatternKinds
 pub mod Choices
 pub mod Alternatives
-mod Absorbing
+mod AbsorbedAlternatives
 mod WiderParts
 mod OnlyMember
-mod Contents
-mod Keeping
+mod ContentTypes
+mod KeptRestrictions
 mod Interleaves
 pub mod Taking
 mod Renumbering
-mod Copying
-mod Selected
-mod Marking
+mod CopiedPatterns
+mod SelectedNumbers
+mod MarkedNumbers

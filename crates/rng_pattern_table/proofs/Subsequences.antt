@@ -6,13 +6,13 @@ use Rattle.rng_model.specs.matching.Document.{Attribute, Item, Items, a_text, an
 use Rattle.rng_model.specs.matching.Document as document
 use Rattle.rng_model.specs.names.Names.{Name}
 use Rattle.rng_model.specs.datatypes.Texts.{is_blank}
-use Rattle.rng_model.proofs.Interleaving.{left_is_all, right_is_all}
+use Rattle.rng_model.proofs.OneSidedInterleavings.{left_is_all, right_is_all}
 use Rattle.rng_model.specs.matching.Reading.{Reading}
 use Rattle.rng_deriv_laws.specs.plain.Taking.{Takes}
 use Rattle.rng_deriv_laws.specs.plain.Taking as t
 use Rattle.rng_deriv_laws.specs.plain.Blanks.{IsBare, cons, strings_alone, no_blanks}
 use Rattle.rng_deriv_laws.specs.plain.Derivatives.{is_nullable}
-use Rattle.rng_deriv_laws.proofs.Tools.{bare_cut, bare_left, bare_right, in_both}
+use Rattle.rng_deriv_laws.proofs.ListFacts.{bare_cut, bare_left, bare_right, in_both}
 use Rattle.rng_deriv_laws.proofs.Nullable.{null_out}
 use Rattle.rng_pattern_table.specs.plain.Facts.{LosesFirst, has_subsequences}
 

@@ -16,7 +16,7 @@ use Rattle.rng_model.specs.declared.simple.Simple.TheVariants as simple
 use Rattle.rng_model.specs.matching.Reading.{Reading}
 use Rattle.rng_deriv_laws.specs.plain.Taking.{Same, Takes}
 use Rattle.rng_deriv_laws.specs.plain.Taking as t
-use Rattle.rng_deriv_laws.proofs.Same.{same, same_choice, same_group, same_interleave, same_repeat, same_through}
+use Rattle.rng_deriv_laws.proofs.SamePatterns.{same, same_choice, same_group, same_interleave, same_repeat, same_through}
 use Rattle.rng_pattern_table.specs.views.Choices.{SomeTakes}
 use Rattle.rng_pattern_table.specs.views.Node.{Node}
 use Rattle.rng_pattern_table.specs.views.PatternTable.{Longer}

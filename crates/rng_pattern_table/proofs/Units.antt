@@ -10,7 +10,7 @@ use Rattle.rng_pattern_table.specs.views.Trees.{tree_of, tree_over}
 use Rattle.rng_pattern_table.specs.declared.pattern.Pattern.{Pattern}
 use Rattle.rng_pattern_table.specs.declared.pattern.Pattern.TheVariants as pattern
 use Rattle.rng_pattern_table.specs.declared.pattern.PatternNumber.{PatternNumber}
-use Rattle.rng_pattern_table.proofs.Rows.{found_new, found_old}
+use Rattle.rng_pattern_table.proofs.TableRows.{found_new, found_old}
 use Rattle.rng_pattern_table.proofs.Trees.{Longer-length, tree_of-over_parts, tree_stays}
 
 module _ (old new : List Node) (longer : Longer old new) where

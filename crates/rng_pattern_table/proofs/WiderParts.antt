@@ -6,11 +6,11 @@ use Rattle.std.proofs.lemmas.List.Elements.{Contains-append_cases}
 use Rattle.rng_model.specs.simple.Tree.{Simple}
 use Rattle.rng_model.specs.matching.Document.{Attribute, Item}
 use Rattle.rng_model.specs.simple.Table.{Table}
-use Rattle.rng_model.proofs.Interleaving.{left_alone, right_alone}
+use Rattle.rng_model.proofs.OneSidedInterleavings.{left_alone, right_alone}
 use Rattle.rng_model.specs.matching.Reading.{Reading}
 use Rattle.rng_deriv_laws.specs.plain.Taking.{Takes}
 use Rattle.rng_deriv_laws.specs.plain.Taking as taking
-use Rattle.rng_deriv_laws.proofs.Same.{on_group, on_interleave}
+use Rattle.rng_deriv_laws.proofs.SamePatterns.{on_group, on_interleave}
 use Rattle.rng_pattern_table.specs.views.Choices.{Covers}
 use Rattle.rng_pattern_table.specs.views.Node.{Node}
 use Rattle.rng_pattern_table.specs.views.Node as node

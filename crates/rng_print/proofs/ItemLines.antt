@@ -10,8 +10,8 @@ use Rattle.rncv_model.specs.printed.PrintedText.{IsItemsOf, item_of, mentions, s
 use Rattle.rng_print.specs.views.Items.{AreItems, item_at, items_seen}
 use Rattle.rng_print.specs.declared.items.Item.{Item}
 use Rattle.rng_print.specs.declared.items.Items.{Items}
-use Rattle.rng_print.proofs.Equal.{item_exact, item_itself}
-use Rattle.rng_print.proofs.Lookups.{each_at}
+use Rattle.rng_print.proofs.SameTests.{item_exact, item_itself}
+use Rattle.rng_print.proofs.ListLookups.{each_at}
 use Rattle.rng_print.proofs.Numberings.{all_each, and_all, and_fresh, fresh, written_more}
 
 module _ (t : Table) where

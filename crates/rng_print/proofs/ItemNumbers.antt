@@ -16,9 +16,9 @@ use Rattle.rng_print.specs.views.Items.{AreIndexed, AreItems, IsInside, element_
 use Rattle.rng_print.specs.declared.items.Item.{Item}
 use Rattle.rng_print.specs.declared.items.Item.TheVariants as variants
 use Rattle.rng_print.specs.declared.items.Items.{Items}
-use Rattle.rng_print.proofs.Booleans.{false_true}
-use Rattle.rng_print.proofs.Equal.{number_itself, tree_exact, tree_itself}
-use Rattle.rng_print.proofs.Carried.{with_all, with_map, place_map}
+use Rattle.rng_print.proofs.FailedTests.{false_true}
+use Rattle.rng_print.proofs.SameTests.{number_itself, tree_exact, tree_itself}
+use Rattle.rng_print.proofs.CarriedNumberings.{with_all, with_map, place_map}
 
 -- ---- one to one
 

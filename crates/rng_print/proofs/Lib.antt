@@ -1,11 +1,11 @@
-pub mod Booleans
-pub mod Equal
+pub mod FailedTests
+pub mod SameTests
 pub mod Numberings
-pub mod Carried
+pub mod CarriedNumberings
 pub mod OneText
 pub mod SameText
-pub mod Worked
-pub mod Lookups
+pub mod WorkedTexts
+pub mod ListLookups
 pub mod Literals
 pub mod Namespaces
 pub mod ItemNumbers
@@ -13,5 +13,5 @@ pub mod ItemTables
 pub mod ItemLines
 pub mod ClassTexts
 pub mod LineTexts
-pub mod Shapes
+pub mod TreeShapes
 pub mod OneForm

@@ -5,7 +5,7 @@ use Rattle.std.specs.Prelude.{◌==◌}
 use Rattle.std.proofs.lemmas.Bool.{eqb-true}
 use Rattle.rncv_model.specs.printed.PrintedText.{delimiter, with_character, runs_of, escaped, more_runs, joined_runs, literal}
 use Rattle.rng_print.specs.plain.Literals.{byte_text, open_text}
-use Rattle.rng_print.proofs.Equal.{number_itself}
+use Rattle.rng_print.proofs.SameTests.{number_itself}
 
 -- what is written of these runs where a run between these is open
 abbrev rest_text : ℕ → List (ℕ × List ℕ) → List ℕ

@@ -11,8 +11,8 @@ use Rattle.rng_model.specs.names.NameViews.{class_of}
 use Rattle.rng_model.specs.declared.name.NameClass.{NameClass, Choice, the_lemmas}
 use Rattle.rncv_model.specs.printed.Numbering.{and_new, with_new}
 use Rattle.rncv_model.specs.printed.PrintedText.{namespaces_in, namespaces_among}
-use Rattle.rng_print.proofs.Carried.{with_map}
-use Rattle.rng_print.proofs.Equal.{bytes_exact, bytes_itself}
+use Rattle.rng_print.proofs.CarriedNumberings.{with_map}
+use Rattle.rng_print.proofs.SameTests.{bytes_exact, bytes_itself}
 use Rattle.rng_print.proofs.Numberings.{and_append}
 
 -- a choice is seen as one of its members, each as it is seen

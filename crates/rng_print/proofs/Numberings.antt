@@ -6,7 +6,7 @@ use Rattle.std.specs.List.{AllByRecursion}
 use Rattle.std.proofs.lemmas.Bool.{or_cases}
 use Rattle.std.proofs.lemmas.List.{append-nil}
 use Rattle.rncv_model.specs.printed.Numbering.{has, with_new, and_new, first_times, IsReached, at_start, in_line, IsNumbering, numbered_from, numbered}
-use Rattle.rng_print.proofs.Booleans.{false_true}
+use Rattle.rng_print.proofs.FailedTests.{false_true}
 
 -- ---- lists
 

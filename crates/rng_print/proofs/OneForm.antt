@@ -15,9 +15,9 @@ use Rattle.rng_model.specs.schema.Unfolding.{Leaf}
 use Rattle.rncv_model.specs.printed.PrintedText.{element_at}
 use Rattle.rng_print.specs.plain.Renumbered.{renumbered, AreSameUpToNumbering}
 use Rattle.rncv_model.specs.printed.SchemaText.{IsPrintedForm}
-use Rattle.rng_print.proofs.Booleans.{false_true}
+use Rattle.rng_print.proofs.FailedTests.{false_true}
 use Rattle.rng_print.proofs.SameText.{same_text}
-use Rattle.rng_print.proofs.Shapes.{is_below, paired_tree}
+use Rattle.rng_print.proofs.TreeShapes.{is_below, paired_tree}
 
 abbrev Row : Type 0
 Row = NameClass × Simple ℕ

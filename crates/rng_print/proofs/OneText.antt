@@ -7,7 +7,7 @@ use Rattle.rng_model.specs.simple.Tree.{Simple, s_not_allowed, s_empty, s_text, 
 use Rattle.rng_model.specs.simple.Table.{Grammar}
 use Rattle.rncv_model.specs.printed.Numbering.{has, IsReached, at_start, in_line, numbered}
 use Rattle.rncv_model.specs.printed.PrintedText.{Item, element, pattern, same_item, item_of, element_at, parts_of, mentions, IsItemsOf, text_of, IsPrinted}
-use Rattle.rng_print.proofs.Equal.{item_exact, item_itself}
+use Rattle.rng_print.proofs.SameTests.{item_exact, item_itself}
 use Rattle.rng_print.proofs.Numberings.{one_numbering, numbering_found, numbering_there, has_contained, all_each, all_contained}
 
 -- ---- one text

@@ -14,9 +14,9 @@ use Rattle.rncv_model.specs.printed.PrintedText.{item_name, namespaces_of, names
 use Rattle.rncv_model.specs.printed.PrintedText.{lines, text_of, IsPrinted, datatype_text, class_text, connector_text, namespaces_in}
 use Rattle.rng_print.specs.plain.Renumbered.{renumbered, IsBelow, AreSameUpToNumbering}
 use Rattle.rng_print.proofs.Numberings.{all_append}
-use Rattle.rng_print.proofs.Booleans.{false_true}
-use Rattle.rng_print.proofs.Equal.{number_itself, tree_exact, tree_itself, item_exact, item_itself}
-use Rattle.rng_print.proofs.Carried.{map_append, place_map, carried}
+use Rattle.rng_print.proofs.FailedTests.{false_true}
+use Rattle.rng_print.proofs.SameTests.{number_itself, tree_exact, tree_itself, item_exact, item_itself}
+use Rattle.rng_print.proofs.CarriedNumberings.{map_append, place_map, carried}
 use Rattle.rng_print.proofs.OneText.{one_text}
 
 -- a test that is exact says of things carried over, and back again, what it says of them

@@ -30,7 +30,7 @@ use Rattle.rng_simple.proofs.Renamed.{as_tree_renamed}
 use Rattle.rng_simple.proofs.SimpleForms.{is_only_simple_form}
 use Rattle.rng_simple.proofs.SimpleLeaves.{simply_is_reached}
 use Rattle.rng_model.proofs.SimpleTrees.{same_simple}
-use Rattle.rng_print_laws.proofs.FineTrees.{IsFine, reached_there, start_fine, element_fine}
+use Rattle.rng_print_laws.proofs.SimpleFormParts.{IsFine, reached_there, start_fine, element_fine}
 use Rattle.rng_print_laws.proofs.RenamedSteps.{step_renamed}
 use Rattle.rng_print_laws.proofs.ClassParts.{IsGoodClass, IsFreeOfDeclarations, good_nested, free_nested}
 use Rattle.rng_print_laws.proofs.SimpleDepths.{simple_depth, renamed_depth}

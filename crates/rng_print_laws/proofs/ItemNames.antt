@@ -6,12 +6,12 @@ use Rattle.std.proofs.lemmas.Bool.{or_cases, eqb-true}
 use Rattle.rncv_model.specs.printed.Numbering.{has, place_in}
 use Rattle.rncv_model.specs.printed.Same.{same_tree}
 use Rattle.rncv_model.specs.printed.PrintedText.{Item, element, pattern, same_item, element_in, pattern_in, item_name}
-use Rattle.rng_print.proofs.Booleans.{false_true}
-use Rattle.rng_print.proofs.Equal.{item_exact, tree_exact, tree_itself, number_itself}
+use Rattle.rng_print.proofs.FailedTests.{false_true}
+use Rattle.rng_print.proofs.SameTests.{item_exact, tree_exact, tree_itself, number_itself}
 use Rattle.rng_print.proofs.Numberings.{or_first, or_second}
 use Rattle.rng_model.specs.names.Lists.{Among}
-use Rattle.rng_print_laws.proofs.Digits.{one_number, place_le, kept_le, one_place, tail_is}
-use Rattle.rng_print_laws.proofs.Listed.{among_has}
+use Rattle.rng_print_laws.proofs.NumberedNames.{one_number, place_le, kept_le, one_place, tail_is}
+use Rattle.rng_print_laws.proofs.ListedLines.{among_has}
 
 heads_apart : (v w : List ℕ) → ◌≡◌ {A = List ℕ} (0x65 ∷ v) (0x70 ∷ w) → ⊥
 heads_apart v w e = let c : ◌≡◌ {A = ℕ} 0x65 0x70 = cc in omega (arith, c)

@@ -1,34 +1,34 @@
-mod Escaping
-mod Encoding
+mod EscapedCharacters
+mod EncodedMarks
 pub mod Colons
-pub mod Digits
+pub mod NumberedNames
 pub mod FewItems
 mod MarksText
-mod Spelled
-mod Sentences
-mod Nesting
-mod Resolving
-mod Rules
-mod Conditions
+mod SpelledMarks
+mod LineSentences
+mod LineNesting
+mod ResolvedPrefixes
+mod LineDeclarations
+mod LineConditions
 mod ReadMarks
 mod ReadsBack
-mod Datatypes
-mod Examples
-pub mod Classes
-pub mod Trees
-pub mod Forms
-pub mod Characters
-pub mod Rooms
-pub mod SyntaxTrees
-pub mod Tokens
-pub mod FileTrees
-pub mod Components
-pub mod FineTrees
+mod NamedDatatypes
+mod PrintableExample
+pub mod PrintableClasses
+pub mod PrintableTrees
+pub mod PrintableForms
+pub mod FileCharacters
+pub mod RoomForBrackets
+pub mod WellSpelledSyntaxTrees
+pub mod WellSpelledTokens
+pub mod WellSpelledFileTrees
+pub mod WellSpelledComponents
+pub mod SimpleFormParts
 pub mod RenamedSteps
-pub mod Listed
+pub mod ListedLines
 pub mod ItemNames
 pub mod LinesFound
-pub mod Flattened
+pub mod FlattenedClasses
 pub mod ClassParts
 pub mod SimpleDepths
 pub mod GoodGrammars

@@ -13,8 +13,8 @@ use Rattle.rng_model.specs.schema.Unfolding.{Leaf, Unfolds, IsTreeOf, IsBodyOf}
 use Rattle.rncv_model.specs.printed.PrintedText.{Item, element, pattern, item_of, item_name, element_at, parts_of, IsItemsOf}
 use Rattle.rng_simple.specs.plain.Renamed.{simple_renamed}
 use Rattle.rng_print_laws.specs.plain.LinesSchema.{flattened, reference_pattern, item_pattern, IsSchemaOfLines}
-use Rattle.rng_print_laws.proofs.Listed.{AreAmong, among_left, among_right, start_among, line_among}
-use Rattle.rng_print_laws.proofs.Flattened.{with_flattened}
+use Rattle.rng_print_laws.proofs.ListedLines.{AreAmong, among_left, among_right, start_among, line_among}
+use Rattle.rng_print_laws.proofs.FlattenedClasses.{with_flattened}
 use Rattle.rng_print_laws.proofs.LinesFound.{line_number, item_found, start_found}
 use Rattle.rng_print_laws.proofs.GoodGrammars.{IsGoodTree}
 

@@ -22,7 +22,7 @@ use Rattle.rng_model.specs.schema.Unfolding.{Leaf, IsTreeOf, IsBodyOf}
 use Rattle.rng_model.proofs.Unfolding.{one_tree}
 use Rattle.rncv_model.specs.printed.Numbering.{place_in}
 use Rattle.rncv_model.specs.printed.PrintedText.{Item, element, pattern, same_item, element_at, IsItemsOf}
-use Rattle.rng_print.proofs.Equal.{item_exact}
+use Rattle.rng_print.proofs.SameTests.{item_exact}
 use Rattle.rng_graph.proofs.SimpleClass.{has_simple_class, class_unchanged}
 use Rattle.rng_simple.specs.plain.Renamed.{simple_renamed}
 use Rattle.rng_simple.specs.plain.SimpleOf.{simple_of}
@@ -32,12 +32,12 @@ use Rattle.rng_simple.proofs.Renamed.{as_tree_renamed, Origin, origin}
 use Rattle.rng_simple.proofs.RenamedTwice.{renamed_twice, renamed_itself}
 use Rattle.rng_simple.proofs.SimpleForms.{has_simple_form}
 use Rattle.rng_print_laws.specs.plain.LinesSchema.{flattened, IsSchemaOfLines}
-use Rattle.rng_print_laws.proofs.FineTrees.{leaf_of}
-use Rattle.rng_print_laws.proofs.Flattened.{nested_flattened, simple_flattened}
+use Rattle.rng_print_laws.proofs.SimpleFormParts.{leaf_of}
+use Rattle.rng_print_laws.proofs.FlattenedClasses.{nested_flattened, simple_flattened}
 use Rattle.rng_print_laws.proofs.GoodGrammars.{IsAttributeClass, IsGoodData, IsGoodValue, IsGoodTree, IsGoodGrammar, IsLastSimple}
 use Rattle.rng_print_laws.proofs.LinesFound.{in_rest}
 use Rattle.rng_print_laws.proofs.LineTrees.{leaf_at, placed, line_tree_of, leaf_among, start_tree_is, body_tree_is}
-use Rattle.rng_print_laws.proofs.Listed.{start_among, line_among}
+use Rattle.rng_print_laws.proofs.ListedLines.{start_among, line_among}
 use Rattle.rng_print_laws.proofs.RenamedSteps.{step_renamed}
 
 -- ---- trees with other names

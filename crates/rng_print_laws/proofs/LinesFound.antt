@@ -8,11 +8,11 @@ use Rattle.rng_model.specs.schema.Patterns.{Point, pattern_tree}
 use Rattle.rng_model.specs.schema.Schema.{Schema, Component, Definition, main_start, same_name, trees_named, connector_of, nested, body_among, body}
 use Rattle.rncv_model.specs.printed.Numbering.{has, place_in}
 use Rattle.rncv_model.specs.printed.PrintedText.{Item, same_item, item_name, IsItemsOf}
-use Rattle.rng_print.proofs.Booleans.{false_true}
-use Rattle.rng_print.proofs.Equal.{item_exact, item_itself, bytes_exact, bytes_itself}
+use Rattle.rng_print.proofs.FailedTests.{false_true}
+use Rattle.rng_print.proofs.SameTests.{item_exact, item_itself, bytes_exact, bytes_itself}
 use Rattle.rng_print.proofs.Numberings.{AreNew, has_left, has_right, or_first}
 use Rattle.rng_print_laws.specs.plain.LinesSchema.{reference_pattern, item_pattern, item_line, lines_components, IsSchemaOfLines}
-use Rattle.rng_print_laws.proofs.Listed.{each_once}
+use Rattle.rng_print_laws.proofs.ListedLines.{each_once}
 use Rattle.rng_print_laws.proofs.ItemNames.{names_apart}
 
 -- the number of the line of an item; the line of the start has the number 0

@@ -25,7 +25,7 @@ use Rattle.rng_simple.proofs.SameRestrictions.{same_restrictions}
 use Rattle.rng_print_laws.specs.plain.LinesSchema.{IsSchemaOfLines, IsReprinted, IsReprintedAs}
 use Rattle.rncv_model.specs.printed.SchemaText.{IsPrintedForm}
 use Rattle.rng_print_laws.proofs.FewItems.{items_few}
-use Rattle.rng_print_laws.proofs.Flattened.{leaves_flattened, twos_flattened}
+use Rattle.rng_print_laws.proofs.FlattenedClasses.{leaves_flattened, twos_flattened}
 use Rattle.rng_print_laws.proofs.GoodGrammars.{IsGoodTree, IsGoodBody, IsGoodGrammar, good_grammar}
 use Rattle.rng_print_laws.proofs.LineTrees.{leaf_at, placed, line_tree_of}
 use Rattle.rng_print_laws.proofs.LinesForm.{HasLine, IsLine, placed_last, below_of, class_is_form, start_leaf, body_leaf, start_is_tree, body_is_tree, has_line}

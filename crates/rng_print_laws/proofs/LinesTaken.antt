@@ -9,7 +9,7 @@ use Rattle.rng_model.specs.simple.Tree.{Simple, s_not_allowed, s_empty, s_text, 
 use Rattle.rng_model.specs.simple.Table.{Grammar}
 use Rattle.rng_model.specs.schema.Schema.{Schema}
 use Rattle.rncv_model.specs.printed.PrintedText.{Item, element, pattern, element_at}
-use Rattle.rng_print.proofs.Equal.{bytes_itself}
+use Rattle.rng_print.proofs.SameTests.{bytes_itself}
 use Rattle.rnc_model.specs.declarations.FileTree as tree
 use Rattle.rnc_model.specs.declarations.FileTree.{FileTree}
 use Rattle.rnc_model.specs.loading.Mentions.{MentionedFile, mention_of, mentions_of, mentions_of_pattern, mentions_of_component, mentions_of_components}

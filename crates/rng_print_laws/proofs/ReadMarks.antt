@@ -23,10 +23,10 @@ use Rattle.rng_print_laws.specs.plain.PrintedMarks.{run_mark, more_run_marks, jo
 use Rattle.rng_print_laws.specs.plain.PrintedMarks.{type_mark, parameter_marks, parameters_marks, datatype_marks, reference_marks, connector_marks, braced_marks}
 use Rattle.rng_print_laws.specs.plain.PrintedMarks.{pattern_marks, item_marks, line_marks, namespace_marks, item_line_marks, marks_of}
 use Rattle.rng_print.proofs.Numberings.{all_append}
-use Rattle.rng_print_laws.proofs.Digits.{item_ncname, prefix_ncname, item_bytes, prefix_bytes}
-use Rattle.rng_print_laws.proofs.Encoding.{encoded_run, encoded_runs, IsRun, all_runs}
-use Rattle.rng_print_laws.proofs.Conditions.{PrintableItem}
-use Rattle.rng_print_laws.proofs.Spelled.{Spells, a_space, a_line_end, a_word, a_cname, an_ns_name, a_segment, a_sign, Read, both, then, nothing}
+use Rattle.rng_print_laws.proofs.NumberedNames.{item_ncname, prefix_ncname, item_bytes, prefix_bytes}
+use Rattle.rng_print_laws.proofs.EncodedMarks.{encoded_run, encoded_runs, IsRun, all_runs}
+use Rattle.rng_print_laws.proofs.LineConditions.{PrintableItem}
+use Rattle.rng_print_laws.proofs.SpelledMarks.{Spells, a_space, a_line_end, a_word, a_cname, an_ns_name, a_segment, a_sign, Read, both, then, nothing}
 
 -- ---- literals
 

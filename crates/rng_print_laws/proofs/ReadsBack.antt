@@ -12,8 +12,8 @@ use Rattle.rng_print_laws.specs.plain.LinesTree.{lines_tree}
 use Rattle.rng_print_laws.specs.views.ReadBack.{IsReadAs}
 use Rattle.rng_print_laws.proofs.FewItems.{items_few}
 use Rattle.rng_print_laws.proofs.MarksText.{text_is}
-use Rattle.rng_print_laws.proofs.Conditions.{items_printable, tokens_read}
-use Rattle.rng_print_laws.proofs.Spelled.{marks_are_decoded, marks_have_tokens, tokens_are}
+use Rattle.rng_print_laws.proofs.LineConditions.{items_printable, tokens_read}
+use Rattle.rng_print_laws.proofs.SpelledMarks.{marks_are_decoded, marks_have_tokens, tokens_are}
 use Rattle.rng_print_laws.proofs.ReadMarks.{marks_are_read}
 
 -- The printed text of a printable grammar breaks no clause of a file but that of its size, and has the tree of its lines.

@@ -13,16 +13,16 @@
 //! prefixes; `marks_laws` of `rnc_text` says that marks which are parted are cut into their pieces and stand for their
 //! characters), `WellSpelledFiles` and `WellSpelledSchemas` (printable, said of the tree of a file and of the components of a
 //! schema).
-//! In `proofs/`, of reading back: `Escaping` and `Encoding` (escapes and runs, in bytes and in Unicode numbers), `Colons` and
-//! `Digits` (names), `MarksText` (the printed text is that of its marks), `Spelled` and `ReadMarks` (these are marks that are
-//! read), `Sentences` (their tokens are a sentence), `Nesting`, `Resolving` and `Rules` (the declarations), `Conditions`,
-//! `FewItems`, `ReadsBack`; `Datatypes` (those of the table can be named), `Examples`.
-//! Of printable grammars: `Characters` (the characters of a file are Chars), `Rooms` (how much room for brackets tokens leave),
-//! `SyntaxTrees` (from tokens to syntax trees), `Tokens` (from characters to tokens), `FileTrees` (declarations applied),
-//! `Components` (from files to the components of a schema), `Classes` and `Trees` (what a step of simplification keeps), `Forms`
+//! In `proofs/`, of reading back: `EscapedCharacters` and `EncodedMarks` (escapes and runs, in bytes and in Unicode numbers), `Colons` and
+//! `NumberedNames` (names), `MarksText` (the printed text is that of its marks), `SpelledMarks` and `ReadMarks` (these are marks that are
+//! read), `LineSentences` (their tokens are a sentence), `LineNesting`, `ResolvedPrefixes` and `LineDeclarations` (the declarations), `LineConditions`,
+//! `FewItems`, `ReadsBack`; `NamedDatatypes` (those of the table can be named), `PrintableExample`.
+//! Of printable grammars: `FileCharacters` (the characters of a file are Chars), `RoomForBrackets` (how much room for brackets tokens leave),
+//! `WellSpelledSyntaxTrees` (from tokens to syntax trees), `WellSpelledTokens` (from characters to tokens), `WellSpelledFileTrees` (declarations applied),
+//! `WellSpelledComponents` (from files to the components of a schema), `PrintableClasses` and `PrintableTrees` (what a step of simplification keeps), `PrintableForms`
 //! (from components to the simple form).
-//! Of printing again: `Listed`, `ItemNames` and `LinesFound` (each name finds its line), `Flattened` and `ClassParts` (choices of
-//! name classes as they are written), `FineTrees`, `SimpleDepths` and `GoodGrammars` (what a schema without faults leaves on its
+//! Of printing again: `ListedLines`, `ItemNames` and `LinesFound` (each name finds its line), `FlattenedClasses` and `ClassParts` (choices of
+//! name classes as they are written), `SimpleFormParts`, `SimpleDepths` and `GoodGrammars` (what a schema without faults leaves on its
 //! grammar), `LineTrees` (what a line stands for), `RenamedSteps`, `LinesForm` and `LinesGrammar` (the simple form of the
 //! lines), `LinesWritten` and `LinesKept` (their clauses), `ReadClasses`, `ReadLines`, `LinesTaken` and `LinesLoaded` (the file of
 //! the lines), `PrintedAgain` and `PrintedTwice` (answers).

@@ -12,7 +12,7 @@ use Rattle.rng_model.specs.restrictions.Restrictions.{BreaksWildcard, BreaksText
 use Rattle.rng_rules.specs.plain.Broken.{IsIntactBelow, grammar_broken}
 use Rattle.rng_model.specs.restrictions.Restricted.{IsRestricted}
 use Rattle.rng_rules.specs.declared.broken.Broken.{Broken}
-use Rattle.rng_rules.proofs.Parts as parts
+use Rattle.rng_rules.proofs.PartClauses as parts
 
 -- a part of the grammar is so
 abbrev SomePart : Grammar → (Simple ℕ → Type 0) → Type 0

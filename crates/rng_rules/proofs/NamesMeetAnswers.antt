@@ -9,7 +9,7 @@ use Rattle.rng_model.specs.declared.name.Name.{Name}
 use Rattle.rng_model.specs.declared.name.NameClass.{NameClass}
 use Rattle.rng_model.specs.declared.name.NameClass.TheVariants as class
 use Rattle.rng_names.specs.views.PlainNames.{IsPlain}
-use Rattle.rng_names.proofs.Views.{are_texts, name_class_is}
+use Rattle.rng_names.proofs.NameViews.{are_texts, name_class_is}
 use Rattle.rng_rules.specs.declared.names_meet.NamesOf.{NamesOf}
 use Rattle.rng_rules.specs.views.NamesMeetLabels.{HasName, AreGroups}
 use Rattle.rng_rules.specs.plain.NamesMeetReach.{AreBelow}

@@ -20,9 +20,9 @@ use Rattle.rng_schema_checks.specs.plain.GrammarTests.{components_at, components
 use Rattle.rng_schema_checks.specs.plain.PatternTests.{PatternTest, class_test, datatype_test, is_refused, is_unknown, passes, ref_test}
 use Rattle.rng_schema_checks.specs.declared.checking.ComponentClause.{ComponentClause}
 use Rattle.rng_schema_checks.specs.declared.checking.ComponentClause.TheVariants as clauses
-use Rattle.rng_schema_checks.proofs.AmongTests.{any_found, any_met, false_is_no_truth, same_name-found, same_name-met}
+use Rattle.rng_schema_checks.proofs.ListTests.{any_found, any_met, false_is_no_truth, same_name-found, same_name-met}
 use Rattle.rng_schema_checks.proofs.CombinedNames.{both_found, both_met, plain_met, two_plain_found}
-use Rattle.rng_schema_checks.proofs.PartsOfClasses.{declaration_passes, except_found, except_met, is_declaration, part_found, part_met}
+use Rattle.rng_schema_checks.proofs.NameClassTests.{declaration_passes, except_found, except_met, is_declaration, part_found, part_met}
 use Rattle.rng_schema_checks.proofs.WrittenInGrammars.{at_grammar, pattern_found, pattern_met, not_defined, lacks_it, lacked_around, lacks_around}
 use Rattle.rng_schema_checks.proofs.WrittenInGrammars.{not_both, refuted}
 

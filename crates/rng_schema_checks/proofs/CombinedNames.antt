@@ -10,7 +10,7 @@ use Rattle.rng_model.specs.schema.Schema.{Component, same_name, is_interleaved}
 use Rattle.rng_model.specs.declared.method.Method.{Method}
 use Rattle.rng_model.specs.declared.method.Method.TheVariants as methods
 use Rattle.rng_schema_checks.specs.plain.GrammarTests.{Name, has, is_plain, is_choice, is_interleaved_as, two_plain, both_methods}
-use Rattle.rng_schema_checks.proofs.AmongTests.{any_found, any_met, false_is_no_truth, same_name-found, same_name-met}
+use Rattle.rng_schema_checks.proofs.ListTests.{any_found, any_met, false_is_no_truth, same_name-found, same_name-met}
 
 -- ---- methods
 

@@ -3,7 +3,7 @@ use Rattle.std.proofs.Common.{◌≡◌, inl, inr, sym, subst, ◌∙◌, ◌↔
 use Rattle.std.proofs.Math.Nat.{eq-or-lt_of_le}
 use Rattle.rng_model.specs.schema.Schema.{Schema}
 use Rattle.rng_model.specs.schema.SchemaClauses.{BreaksSchemaClause, in_name_class, in_datatype, in_combination, without_start, in_ref, in_expansion, in_depth}
-use Rattle.rng_schema_checks.proofs.AmongTests.{false_is_no_truth}
+use Rattle.rng_schema_checks.proofs.ListTests.{false_is_no_truth}
 
 module _ (s : Schema) where
   -- each clause that is broken has this number at least

@@ -1,8 +1,8 @@
-mod AmongTests
+mod ListTests
 mod KnownDatatypes
 mod NamesByPlace
-mod KeptNames
-mod PartsOfClasses
+mod NameSets
+mod NameClassTests
 mod WrittenPatterns
 mod CombinedNames
 mod WrittenInGrammars

@@ -7,7 +7,7 @@ use Rattle.rng_model.specs.schema.Schema.{Schema, Component, HasComponent, IsWri
 use Rattle.rng_model.specs.schema.SchemaClauses.{IsDefinedAt}
 use Rattle.rng_schema_checks.specs.plain.GrammarTests.{components_at, components_or_none, defines, defines_if, is_named, some_has}
 use Rattle.rng_schema_checks.specs.plain.PatternTests.{PatternTest, has_written, lacks, passes}
-use Rattle.rng_schema_checks.proofs.AmongTests.{any_found, any_met, same_name-found, same_name-met}
+use Rattle.rng_schema_checks.proofs.ListTests.{any_found, any_met, same_name-found, same_name-met}
 use Rattle.rng_schema_checks.proofs.WrittenPatterns.{written_found, written_met}
 
 pub refuted : (b : Bool) → ¬ (b ≡ true) → b ≡ false

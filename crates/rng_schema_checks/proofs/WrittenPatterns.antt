@@ -6,7 +6,7 @@ use Rattle.rng_model.specs.schema.Patterns.{optional, zero_or_more, one_or_more,
 use Rattle.rng_model.specs.schema.Patterns.{IsWrittenIn, IsWrittenAmong, itself, in_element, in_attribute, in_list, in_except, in_mixed, in_optional}
 use Rattle.rng_model.specs.schema.Patterns.{in_zero_or_more, in_one_or_more, in_first, in_second, in_another, in_external, in_this, in_later}
 use Rattle.rng_schema_checks.specs.plain.PatternTests.{PatternTest, passes, has_written, some_has_written}
-use Rattle.rng_schema_checks.proofs.AmongTests.{false_is_no_truth}
+use Rattle.rng_schema_checks.proofs.ListTests.{false_is_no_truth}
 
 module _ (t : PatternTest) where
   -- a pattern that passes is written in this one

@@ -21,7 +21,7 @@ use Rattle.rng_simple.specs.plain.SimpleWith.{simple_with, simple_at}
 use Rattle.rng_graph.specs.plain.DepthWith.{IsRight}
 use Rattle.rng_graph.specs.plain.Graph.{Spot, Graph, IsGraphOf, Mentions, IsOrderBy, IsFilledBy, leaf_number, same_leaf}
 use Rattle.rng_simple.specs.plain.GrammarBy.{spot_simple, content_simple, IsNumberReached, in_first, in_body, IsGrammarBy, IsMadeOf}
-use Rattle.rng_graph.proofs.Loops.{reached_is_met}
+use Rattle.rng_graph.proofs.LoopsOrOrder.{reached_is_met}
 use Rattle.rng_simple.proofs.PointSimples.{with_leaves}
 use Rattle.rng_simple.proofs.SimpleLeaves.{simple_leaves, with_renamed, simply_is_reached}
 use Rattle.rng_simple.proofs.Renamed.{renamed_corresponds, origin}
@@ -36,8 +36,8 @@ use Rattle.rng_simple.proofs.SimpleTables.{leaf_name, simple_resolved}
 use Rattle.rng_graph.specs.views.ExpansionOrder.{IsGraphOfSchema, IsWholeOrder}
 use Rattle.rng_graph.specs.views.GraphView.{graph_of, classes_of}
 use Rattle.rng_graph.specs.declared.graph.Graph as declared
-use Rattle.rng_graph.proofs.Parts.{map_at}
-use Rattle.rng_graph.proofs.Judged.{order_is, order_covers, order_keeps_expansion, definitions}
+use Rattle.rng_graph.proofs.ListParts.{map_at}
+use Rattle.rng_graph.proofs.JudgedByNumbers.{order_is, order_covers, order_keeps_expansion, definitions}
 
 module _ (s : Schema) (ds : List Definition) (ls : List Leaf) (g : Graph) (is : IsGraphOf s ds ls g)
     {js : List ℕ} (o : IsOrderBy (Mentions g) js) (h : All (λ j. j < length ds) js) (all : (j : ℕ) → j < length ds → Contains js j)

@@ -1,13 +1,13 @@
-pub mod Sorts
+pub mod TreeSplits
 pub mod StepSimpleOf
 pub mod NoStep
-pub mod Reached
-pub mod Normal
-pub mod Sharing
+pub mod ReachedValues
+pub mod NormalValues
+pub mod ThreeParts
 pub mod StepMatches
 pub mod StepLex
 pub mod NestedNames
-pub mod Correspondence
+pub mod CorrespondingTrees
 pub mod Rereading
 pub mod MappedLists
 pub mod Renamed
@@ -25,7 +25,7 @@ pub mod RowTable
 pub mod SimpleParts
 pub mod SimpleRows
 pub mod RowReach
-pub mod Marks
+pub mod QueueMarks
 pub mod RowCopies
 pub mod GrammarElements
 pub mod MadeGrammar

@@ -6,7 +6,7 @@ use Rattle.rng_model.specs.simple.Leaves.{renamed, LeafIn}
 use Rattle.rng_model.specs.simple.Leaves as f
 use Rattle.rng_simple.specs.plain.SimpleOf.{Sort, nothing, blank, proper, sort_of, choice_by, both_by, joined_by, join}
 use Rattle.rng_simple.specs.plain.Renamed.{simple_renamed}
-use Rattle.rng_simple.proofs.Sorts.{Sorted, is_nothing, is_blank, is_proper, sorted}
+use Rattle.rng_simple.proofs.TreeSplits.{Sorted, is_nothing, is_blank, is_proper, sorted}
 
 module _ {K L : Type 0} where
   -- renaming is the same before and after

@@ -5,8 +5,8 @@ use Rattle.rng_model.specs.simple.Tree.{Connector, Tree, Trees}
 use Rattle.rng_model.specs.matching.Document.{Attribute, Item}
 use Rattle.rng_model.specs.matching.Matching.{Texts, Leaves, Matches, MatchesOne, MatchesAll, Weakly}
 use Rattle.rng_model.specs.matching.Matching as m
-use Rattle.rng_simple.proofs.Correspondence.{Corresponds, AllCorrespond}
-use Rattle.rng_simple.proofs.Correspondence as s
+use Rattle.rng_simple.proofs.CorrespondingTrees.{Corresponds, AllCorrespond}
+use Rattle.rng_simple.proofs.CorrespondingTrees as s
 
 module _ {K L : Type 0} (R : K → L → Type 0) (A : Leaves (Unit {0}) K) (B : Leaves (Unit {0}) L) (In : NameClass → Name → Type 0) (texts : Texts) where
   -- a body for the other reading, and what makes an element of it

@@ -24,7 +24,7 @@ use Rattle.rng_simple.specs.plain.SimpleOf.{simple_of}
 use Rattle.rng_simple.proofs.SimpleForms.{has_simple_form, is_only_simple_form}
 use Rattle.rng_simple.proofs.StepMatches.{weakly}
 use Rattle.rng_simple.proofs.NestedNames.{nested_out}
-use Rattle.rng_simple.proofs.Correspondence.{Corresponds, corresponds_itself, corresponds_renamed, turned, lex_back}
+use Rattle.rng_simple.proofs.CorrespondingTrees.{Corresponds, corresponds_itself, corresponds_renamed, turned, lex_back}
 use Rattle.rng_simple.proofs.Rereading.{reread, Body}
 use Rattle.rng_simple.proofs.KeptLeaves.{FormHas}
 use Rattle.rng_simple.proofs.WrittenMatches.{HasSimpleForm, has_form, has_tree, tree_leaves, form_leaves, to_tree, simplified, unsimplified, to_written}

@@ -5,8 +5,8 @@ use Rattle.rng_model.specs.simple.Simplification.{IsSimpleFormOf}
 use Rattle.rng_simple.specs.plain.SimpleOf.{simple_of}
 use Rattle.rng_simple.proofs.StepSimpleOf.{steps_keep}
 use Rattle.rng_simple.proofs.NoStep.{unchanged}
-use Rattle.rng_simple.proofs.Reached.{reached}
-use Rattle.rng_simple.proofs.Normal.{normal}
+use Rattle.rng_simple.proofs.ReachedValues.{reached}
+use Rattle.rng_simple.proofs.NormalValues.{normal}
 
 module _ {L : Type 0} where
   pub has_simple_form : (a : Tree L) → IsSimpleFormOf a (as_tree (simple_of a))

@@ -15,7 +15,7 @@ use Rattle.rng_model.specs.schema.Unfolding.{Leaf}
 use Rattle.rng_model.specs.schema.Reached.{IsReachedByTrees, from_start, from_element, IsReachedBySimpleForms, from_simple_start, from_simple_body}
 use Rattle.rng_simple.specs.plain.SimpleWith.{simple_with, join_all_with}
 use Rattle.rng_simple.specs.plain.Renamed.{simple_renamed}
-use Rattle.rng_simple.proofs.Sorts.{Sorted, is_nothing, is_blank, is_proper, sorted}
+use Rattle.rng_simple.proofs.TreeSplits.{Sorted, is_nothing, is_blank, is_proper, sorted}
 use Rattle.rng_simple.proofs.Renamed.{join_leaves, join_renamed, renamed_sort}
 use Rattle.rng_simple.proofs.SimpleForms.{is_only_simple_form}
 

@@ -9,8 +9,8 @@ use Rattle.rng_graph.specs.plain.Met.{IsSettled, IsOrder}
 use Rattle.rng_graph.specs.plain.DepthWith.{of_aim, IsFilled, IsRight}
 use Rattle.rng_graph.specs.plain.Graph.{Spot, at_element, at_definition, Graph, element_aim, definition_aim, aim_at, IsSpotBelow, IsResolved, IsGraphOf}
 use Rattle.rng_graph.specs.plain.Graph.{of_spot, leaf_number}
-use Rattle.rng_graph.proofs.Filled.{body_right, filled_right}
-use Rattle.rng_graph.proofs.Filling.{ReadsMentions}
+use Rattle.rng_graph.proofs.TablesInOrder.{body_right, filled_right}
+use Rattle.rng_graph.proofs.TableEntries.{ReadsMentions}
 use Rattle.rng_graph.proofs.Graphs.{found}
 use Rattle.rng_graph.proofs.GraphTables.{number_is, leaf_number_is, table_of}
 use Rattle.rng_simple.specs.plain.SimpleWith.{simple_with, simple_at}

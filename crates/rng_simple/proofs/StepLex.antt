@@ -6,7 +6,7 @@ use Rattle.rng_model.specs.simple.Simplification as step
 use Rattle.rng_model.specs.matching.Document.{Interleaves, Shares, in_any_order}
 use Rattle.rng_model.specs.matching.Matching.{Texts}
 use Rattle.rng_model.specs.matching.Lex.{Lex, LexOne, LexAll, Repeats, once, again}
-use Rattle.rng_simple.proofs.Sharing.{shares_left, shares_right, nothing_right, nothing_left, with_nothing, after_nothing}
+use Rattle.rng_simple.proofs.ThreeParts.{shares_left, shares_right, nothing_right, nothing_left, with_nothing, after_nothing}
 use Rattle.rng_simple.proofs.NestedNames.{shift, unshift, either}
 
 -- each of the lists may be exchanged

@@ -9,8 +9,8 @@ use Rattle.rng_model.specs.simple.Simplification as step
 use Rattle.rng_model.specs.matching.Document.{Attribute, Item, Interleaves, done, Shares, in_order, in_any_order}
 use Rattle.rng_model.specs.matching.Matching.{Texts, Leaves, Matches, MatchesOne, MatchesAll, Weakly}
 use Rattle.rng_model.specs.matching.Matching as m
-use Rattle.rng_model.proofs.Interleaving.{left_alone, right_alone, left_is_all, right_is_all}
-use Rattle.rng_simple.proofs.Sharing.{to_left, to_right, shares_left, shares_right, nothing_right, nothing_left, with_nothing, after_nothing, not_by_choice}
+use Rattle.rng_model.proofs.OneSidedInterleavings.{left_alone, right_alone, left_is_all, right_is_all}
+use Rattle.rng_simple.proofs.ThreeParts.{to_left, to_right, shares_left, shares_right, nothing_right, nothing_left, with_nothing, after_nothing, not_by_choice}
 
 module _ {X L : Type 0} (leaves : Leaves X L) (In : NameClass → Name → Type 0) (texts : Texts) where
   abbrev M : X → Tree L → List Attribute → List Item → Type 0

@@ -15,7 +15,7 @@ use Rattle.rng_model.specs.datatypes.Texts.{TextTests, texts_of, is_blank}
 use Rattle.rng_tree_matcher.specs.plain.Acceptance.{IsDerivable, IsOf, Accepts, TakesText, Contains, has_element, without_blanks, content}
 use Rattle.rng_model.specs.matching.WellFormed.{Separate}
 use Rattle.rng_model.specs.matching.WellFormed as w
-use Rattle.rng_model.proofs.Interleaving.{left_alone, left_is_all}
+use Rattle.rng_model.proofs.OneSidedInterleavings.{left_alone, left_is_all}
 
 -- the second list is the first with elements padded
 data Spread : List Item → List Item → Type 0 where

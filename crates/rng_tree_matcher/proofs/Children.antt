@@ -24,7 +24,7 @@ use Rattle.rng_tree_matcher.specs.views.PatternTable.{AreCopied, is_nullable, tr
 use Rattle.rng_tree_matcher.specs.declared.pattern_table.TableEntry.{TableEntry}
 use Rattle.rng_tree_matcher.specs.declared.derivative.Symbol.{Symbol}
 use Rattle.rng_tree_matcher.proofs.Blanks.{alone_in, alone_out}
-use Rattle.rng_tree_matcher.proofs.Derivable.{grammar_derivable, entry_derivable}
+use Rattle.rng_tree_matcher.proofs.DerivableKinds.{grammar_derivable, entry_derivable}
 use Rattle.rng_tree_matcher.proofs.Acceptance.{nullable_in, nullable_out}
 use Rattle.rng_tree_matcher.proofs.DerivativeSequence.{any_mapped, item_step, taken_more}
 use Rattle.rng_tree_matcher.proofs.Content.{StandForItems-push, child_dropped, child_kept, its_elements, list_of-items, well_formed_at}

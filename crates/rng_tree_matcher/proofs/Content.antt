@@ -25,9 +25,9 @@ use Rattle.rng_tree_matcher.specs.plain.Derivative.{HasItsElements, StandsForIte
 use Rattle.rng_tree_matcher.specs.plain.Content.{AnswersContent, AnswersNode, IsAfterAttributes, StandForItems, TakesNode}
 use Rattle.rng_tree_matcher.specs.views.PatternTable.{AreCopied, tree_of}
 use Rattle.rng_tree_matcher.specs.declared.pattern_table.TableEntry.{TableEntry}
-use Rattle.rng_tree_matcher.proofs.Follows.{All-found}
+use Rattle.rng_tree_matcher.proofs.GrowingTables.{All-found}
 use Rattle.rng_tree_matcher.specs.declared.derivative.Symbol.{Symbol}
-use Rattle.rng_tree_matcher.proofs.Derivable.{grammar_derivable}
+use Rattle.rng_tree_matcher.proofs.DerivableKinds.{grammar_derivable}
 use Rattle.rng_tree_matcher.proofs.Blanks.{WeaklyByRules, weakly_in, weakly_out}
 
 -- ---- symbols for items

@@ -16,7 +16,7 @@ use Rattle.rng_tree_matcher.specs.declared.pattern_table.TableEntry.{TableEntry}
 use Rattle.rng_tree_matcher.specs.declared.derivative.Symbol.{Symbol}
 use Rattle.rng_tree_matcher.specs.declared.derivative.Symbol.TheVariants as symbol
 use Rattle.rng_tree_matcher.proofs.PatternTable.{tree_stays}
-use Rattle.rng_tree_matcher.proofs.Derivable.{entry_derivable}
+use Rattle.rng_tree_matcher.proofs.DerivableKinds.{entry_derivable}
 use Rattle.rng_tree_matcher.proofs.Acceptance.{nullable_in, nullable_out}
 use Rattle.rng_tree_matcher.proofs.Content.{as_many, item_at, many_items}
 

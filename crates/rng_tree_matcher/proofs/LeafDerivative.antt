@@ -23,13 +23,13 @@ use Rattle.rng_model.specs.datatypes.Texts.{TextTests, is_blank, texts_of}
 use Rattle.rng_tree_matcher.specs.plain.Acceptance.{Fits, IsAfterAttribute, IsAfterItem, IsDerivable, IsOf, TakesText, has_element}
 use Rattle.rng_tree_matcher.specs.views.PatternTable.{AreCopied, Longer, attribute_found, is_nullable, tree_over, tree_of}
 use Rattle.rng_tree_matcher.specs.plain.Derivative.{HasItsElements, IsAfter, IsDerivative, IsLeftOfLeaf, StandsForItem, first_side}
-use Rattle.rng_tree_matcher.proofs.Steps.{IsAttribute}
+use Rattle.rng_tree_matcher.proofs.DerivativeSteps.{IsAttribute}
 use Rattle.rng_tree_matcher.specs.declared.pattern_table.Node.{Node}
 use Rattle.rng_tree_matcher.specs.declared.pattern_table.Node.TheVariants as node
 use Rattle.rng_tree_matcher.specs.declared.pattern_table.TableEntry.{TableEntry}
 use Rattle.rng_tree_matcher.specs.declared.derivative.Symbol.{Symbol}
 use Rattle.rng_tree_matcher.specs.declared.derivative.Symbol.TheVariants as symbol
-use Rattle.rng_tree_matcher.proofs.Derivable.{grammar_derivable, entry_derivable}
+use Rattle.rng_tree_matcher.proofs.DerivableKinds.{grammar_derivable, entry_derivable}
 use Rattle.rng_tree_matcher.proofs.PatternTable.{tree_stays}
 use Rattle.rng_tree_matcher.proofs.Blanks.{weak_text_in, weak_text_out}
 use Rattle.rng_tree_matcher.proofs.Acceptance.{nullable_in, nullable_out, none_after, empty_after, attribute_after, text_after_text, text_after_element, element_after}

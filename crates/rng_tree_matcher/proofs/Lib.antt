@@ -1,10 +1,10 @@
 pub mod PatternTable
-pub mod Follows
+pub mod GrowingTables
 pub mod Acceptance
 pub mod Blanks
-pub mod Copied
-pub mod Steps
-pub mod Derivable
+pub mod CopiedGrammars
+pub mod DerivativeSteps
+pub mod DerivableKinds
 pub mod LeafDerivative
 pub mod Named
 pub mod Content

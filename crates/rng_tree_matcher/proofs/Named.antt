@@ -17,7 +17,7 @@ use Rattle.rng_model.specs.declared.name.Name as declared
 use Rattle.rng_model.specs.declared.name.NameClass.TheVariants as classes
 use Rattle.rng_tree_matcher.specs.plain.Named.{ListsFirst, candidates, has_number, is_same_place, listed_under, local_of, place_of}
 use Rattle.rng_tree_matcher.specs.declared.names.ElementNames.{ElementNames}
-use Rattle.rng_tree_matcher.proofs.Copied.{past_from_none}
+use Rattle.rng_tree_matcher.proofs.CopiedGrammars.{past_from_none}
 
 pub has_front : (xs ys : List ℕ) (k : ℕ) → has_number xs k ≡ true → has_number (xs ++ ys) k ≡ true
 has_front xs ys k h = list_any-append (λ x. nat_eq k x) xs ys ∙ or_left (has_number xs k) (has_number ys k) h

@@ -10,7 +10,7 @@ use Rattle.std.proofs.lemmas.Option.{same_Some}
 use Rattle.std.proofs.lemmas.Bool.{true≢false, and_right, and_left, and_parts, and_from}
 use Rattle.std.specs.Cmp.Lexicographic.{pointwise}
 use Rattle.rng_model.specs.datatypes.Blanks.{pieces, collapse}
-use Rattle.rng_model.proofs.Runs.{pieces-collapse, pieces_fit, spaced_length, IsUtf8-pieces}
+use Rattle.rng_model.proofs.BlankRuns.{pieces-collapse, pieces_fit, spaced_length, IsUtf8-pieces}
 use Rattle.rng_types.specs.plain.Pieces.{only}
 
 joined_only : (ps : List (List ℕ)) (w : List ℕ) → Some w ≡ only ps → join_with_byte 32 ps ≡ w

@@ -4,7 +4,7 @@ use Rattle.rng_model.specs.documents.PyxTrees.{Event}
 use Rattle.rng_model.specs.declared.pyx_fault.PyxFault.{PyxFault}
 use Rattle.rng_model.specs.declared.pyx_fault.PyxFault.TheVariants as pyx
 use Rattle.rng_model.specs.documents.Documents.{IsTheDocument, IsTheFault}
-use Rattle.pyx.specs.views.Standing.{Kept, Stands}
+use Rattle.pyx.specs.views.ReaderAfterPiece.{Kept, Stands}
 
 -- a clause that holds unless memory ran out
 abbrev pub UnlessMemory : {A : Type 0} → Result A PyxFault → Type 0 → Type 0

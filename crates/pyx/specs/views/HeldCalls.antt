@@ -2,7 +2,7 @@
 use Rattle.std.specs.Prelude.{◌≡◌, ◌≤◌, ℕ, List, None}
 use Rattle.rng_model.specs.documents.PyxHeld.{KeptOf}
 use Rattle.rng_model.specs.documents.PyxTrees.{Event}
-use Rattle.pyx.specs.views.Standing.{Kept, Stands}
+use Rattle.pyx.specs.views.ReaderAfterPiece.{Kept, Stands}
 
 abbrev pub held_limit : ℕ
 held_limit = 8641445888

@@ -5,8 +5,8 @@ use Rattle.rng_model.specs.documents.PyxClauses.{IsFirstFault}
 use Rattle.rng_model.specs.documents.PyxTrees.{Event}
 use Rattle.rng_model.specs.documents.Documents.{IsTheDocument}
 use Rattle.rng_model.specs.declared.pyx_fault.PyxFault.TheVariants as pyx
-use Rattle.rncv_run.specs.declared.streams.DocumentFault.{DocumentFault}
-use Rattle.rncv_run.specs.declared.streams.DocumentFault.TheVariants as faults
+use Rattle.rncv_run.specs.declared.document_input.DocumentFault.{DocumentFault}
+use Rattle.rncv_run.specs.declared.document_input.DocumentFault.TheVariants as faults
 use Rattle.rncv_model.specs.answers.Input.{IsRead}
 
 -- all that was left was read, it is a document, and its events were handed out

@@ -9,21 +9,21 @@ use Rattle.rng_deriv_laws.specs.plain.LevelStates as level
 use Rattle.rng_deriv_laws.specs.plain.LevelStates.{AreOpened, AreEnded, IsAfterText, EndsWith}
 use Rattle.rng_pattern_table.specs.declared.pattern.PatternNumber.{PatternNumber}
 use Rattle.rng_deriv.specs.views.Numbers.{Longer, IsInside, tree_of}
-use Rattle.rng_deriv.specs.declared.derivatives.Way.{Way}
+use Rattle.rng_deriv.specs.declared.derivatives.StartWay.{StartWay}
 use Rattle.rng_deriv.specs.declared.links.Link.{Link}
 
 abbrev pub link_of : List (Simple ℕ) → Link → level.Link
 link_of trees l = record { inner = l.inner; outer = l.outer; rest = tree_of trees l.rest }
 
 -- the link leads from the body of the way to the alternative at this place, and leaves the rest of the way
-abbrev pub IsLinkOf : List PatternNumber → ℕ → Way → Link → Type 0
+abbrev pub IsLinkOf : List PatternNumber → ℕ → StartWay → Link → Type 0
 IsLinkOf bodies outer w l = (l.outer ≡ outer) × (slice_get bodies l.inner ≡ Some w.body) × (l.rest ≡ w.rest)
 
-abbrev pub IsBodyOf : List Way → PatternNumber → Type 0
-IsBodyOf ways b = (w : Way) × Contains ways w × (w.body ≡ b)
+abbrev pub IsBodyOf : List StartWay → PatternNumber → Type 0
+IsBodyOf ways b = (w : StartWay) × Contains ways w × (w.body ≡ b)
 
 -- bodies and links of the ways of the alternative at this place were added
-pub record AddsLinks (outer : ℕ) (ways : List Way) (old_bodies new_bodies : List PatternNumber) (old_links new_links : List Link) : Type 0 where
+pub record AddsLinks (outer : ℕ) (ways : List StartWay) (old_bodies new_bodies : List PatternNumber) (old_links new_links : List Link) : Type 0 where
   pub bodies : List PatternNumber
   pub links : List Link
   pub bodies_are : new_bodies ≡ old_bodies ++ bodies

@@ -11,7 +11,7 @@ use Rattle.rng_deriv_laws.specs.plain.Derivatives as tree
 use Rattle.rng_deriv_laws.specs.plain.LevelStates.{AreStarts}
 use Rattle.rng_pattern_table.specs.views.Trees.{tree_in}
 use Rattle.rng_pattern_table.specs.declared.pattern.PatternNumber.{PatternNumber}
-use Rattle.rng_deriv.specs.declared.derivatives.Way.{Way}
+use Rattle.rng_deriv.specs.declared.derivatives.StartWay.{StartWay}
 
 -- some patterns were added
 abbrev pub Longer : List (Simple ℕ) → List (Simple ℕ) → Type 0
@@ -41,11 +41,11 @@ pub record AddsEach (Is : Simple ℕ → Simple ℕ → Type 0) (old new : List 
 abbrev pub IsChoiceOf : Reading → List (Simple ℕ) → List PatternNumber → Simple ℕ → Type 0
 IsChoiceOf g trees ms p = (ns : List Item) → Takes g p [] ns ↔ ((m : PatternNumber) × Contains ms m × Takes g (tree_of trees m) [] ns)
 
-abbrev pub way_of : List (Simple ℕ) → Way → tree.Way
+abbrev pub way_of : List (Simple ℕ) → StartWay → tree.Way
 way_of trees w = record { leaf = tree_of trees w.body; rest = tree_of trees w.rest }
 
 -- the ways are those of a start of this name
-pub record AddsStarts (g : Reading) (q : Name) (old new : List (Simple ℕ)) (p : Simple ℕ) (ways : List Way) : Type 0 where
+pub record AddsStarts (g : Reading) (q : Name) (old new : List (Simple ℕ)) (p : Simple ℕ) (ways : List StartWay) : Type 0 where
   pub longer : Longer old new
   pub inside : All (λ w. IsInside new w.body × IsInside new w.rest) ways
   pub starts : AreStarts g q p (map (way_of new) ways)

@@ -3,7 +3,7 @@ use Rattle.std.specs.Prelude.{⊤, List, [], Bool, true, false}
 use Rattle.smallvec.specs.SmallVec.{SmallVec}
 use Rattle.std.specs.HashMap.{HashMap}
 use Rattle.rng_names.specs.plain.Keys.{Keys, KeysServe}
-use Rattle.rng_deriv.specs.declared.derivatives.Way.{Way}
+use Rattle.rng_deriv.specs.declared.derivatives.StartWay.{StartWay}
 use Rattle.rng_model.specs.simple.Table.{Table}
 use Rattle.rng_pattern_table.specs.views.Node.{Node}
 use Rattle.rng_pattern_table.specs.declared.pattern.PatternNumber.{PatternNumber}
@@ -19,7 +19,7 @@ pub record IsServed (t : Table) (ns : List Node) (numbers : List PatternNumber) 
   pub bodies : HasRestrictedBodies t ns numbers
 
 -- so it is, and what is kept of starts and known of ways is so in the table, unless memory was wanting
-abbrev pub IsServedBy : {Z : Type 0} → Table → Keys → Bool → List Node → List PatternNumber → HashMap StartKey (SmallVec Way) Z → Known → Type 0
+abbrev pub IsServedBy : {Z : Type 0} → Table → Keys → Bool → List Node → List PatternNumber → HashMap StartKey (SmallVec StartWay) Z → Known → Type 0
 IsServedBy t keys true ns numbers memo known = ⊤
 IsServedBy t keys false ns numbers memo known = IsServed t ns numbers × KeysServe t keys × AreAnswers t ns keys memo × AreAllKnown t keys ns known
 

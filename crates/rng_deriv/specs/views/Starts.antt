@@ -7,20 +7,20 @@ use Rattle.rng_deriv_laws.specs.plain.Derivatives as tree
 use Rattle.rng_deriv_laws.specs.plain.Restricted.{IsRestricted}
 use Rattle.rng_deriv_laws.specs.plain.Ways.{EachWay, Opens}
 use Rattle.rng_deriv.specs.views.Numbers.{way_of}
-use Rattle.rng_deriv.specs.declared.derivatives.Way.{Way}
+use Rattle.rng_deriv.specs.declared.derivatives.StartWay.{StartWay}
 use Rattle.rng_pattern_table.specs.views.Node.{Node}
 use Rattle.rng_pattern_table.specs.views.Trees.{trees, tree_of}
 use Rattle.rng_model.specs.matching.GrammarReading.{reading_of}
 use Rattle.rng_pattern_derivatives.specs.plain.Starting.{IsRestrictedBodyNamed}
 use Rattle.rng_pattern_derivatives.specs.plain.Ways.{way_by}
-use Rattle.rng_pattern_derivatives.specs.declared.way.Way as numbered
+use Rattle.rng_pattern_derivatives.specs.declared.way.LeafWay as numbered
 
 -- the numbers of the way are numbers of the table
-abbrev pub IsWayInside : List Node → Way → Type 0
+abbrev pub IsWayInside : List Node → StartWay → Type 0
 IsWayInside ns w = (w.body.0 < length ns) × (w.rest.0 < length ns)
 
 -- what these ways open those do, and these are restricted where those are
-pub record OpensLike (t : Table) (ns : List Node) (those : List tree.Way) (these : List Way) : Type 0 where
+pub record OpensLike (t : Table) (ns : List Node) (those : List tree.Way) (these : List StartWay) : Type 0 where
   pub inside : All (IsWayInside ns) these
   pub opens : (xs : List Attribute) (kids ms : List Item) → Opens (reading_of t) xs kids ms (map (way_of (trees t ns)) these)
       ↔ Opens (reading_of t) xs kids ms those
@@ -28,5 +28,5 @@ pub record OpensLike (t : Table) (ns : List Node) (those : List tree.Way) (these
       → EachWay (IsRestrictedBodyNamed (reading_of t) q) IsRestricted (map (way_of (trees t ns)) these)
 
 -- some ways, and one more
-abbrev pub with_way : Table → List Node → List Way → numbered.Way → List tree.Way
+abbrev pub with_way : Table → List Node → List StartWay → numbered.LeafWay → List tree.Way
 with_way t ns before w = map (way_of (trees t ns)) before ++ way_by (tree_of t ns) w ∷ []

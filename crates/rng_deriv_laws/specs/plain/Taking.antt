@@ -1,5 +1,5 @@
 -- Which attributes with which items a pattern takes: the rules of matching (RELAX NG Specification, section 6.2) for
--- the trees of the simple syntax, where names and texts are judged by tests. `proofs/Joint` says that a pattern takes
+-- the trees of the simple syntax, where names and texts are judged by tests. `proofs/TakesAndMatches` says that a pattern takes
 -- what it matches by the one definition of matching; the body of an element is here judged by that.
 use Rattle.std.specs.Prelude.{◌≡◌, ℕ, List, [], ◌∷◌, ◌++◌, map, true}
 use Rattle.rng_model.specs.names.Names.{Name, NameClass, In}

@@ -23,7 +23,7 @@ use Rattle.rng_pattern_derivatives.specs.declared.way.First.{First}
 use Rattle.rng_pattern_derivatives.specs.declared.way.First.TheVariants as firsts
 use Rattle.rng_pattern_derivatives.specs.declared.way.Place.{Place}
 use Rattle.rng_pattern_derivatives.specs.declared.way.Place.TheVariants as places
-use Rattle.rng_pattern_derivatives.specs.declared.way.Way.{Way}
+use Rattle.rng_pattern_derivatives.specs.declared.way.LeafWay.{LeafWay}
 
 -- ---- what comes first
 
@@ -64,7 +64,7 @@ abbrev pub AreFor : First → List tree.Way → Type 0
 AreFor first ws = EachWay (λ l. IsLeafFor first l × Obeys (place_of first) l) (Obeys (place_of first)) ws
 
 -- numbered ways are those by which a pattern takes it
-pub record AreWaysFor (t : Table) (ns : List Node) (first : First) (p : Simple ℕ) (ways : List Way) : Type 0 where
+pub record AreWaysFor (t : Table) (ns : List Node) (first : First) (p : Simple ℕ) (ways : List LeafWay) : Type 0 where
   pub inside : AreInside ns ways
   pub law : Obeys (place_of first) p
       → AreThoseBehind (reading_of t) first p (Offers (reading_of t) (ways_by (tree_of t ns) ways) (attributes_of first) (items_of first))
@@ -75,7 +75,7 @@ abbrev pub TellsTaken : Reading → First → Simple ℕ → Bool → Type 0
 TellsTaken g first l b = IsLeafFor first l → Obeys (place_of first) l → (b ≡ true) ↔ Takes g l (attributes_of first) (items_of first)
 
 -- the rests of the ways whose leaves take it
-pub record AreRests (t : Table) (old new : List Node) (first : First) (ways : List Way) (rests : List PatternNumber) : Type 0 where
+pub record AreRests (t : Table) (old new : List Node) (first : First) (ways : List LeafWay) (rests : List PatternNumber) : Type 0 where
   pub inside : All (λ m. m.0 < length new) rests
   pub takes : AreFor first (ways_by (tree_of t old) ways) → (xs : List Attribute) (ns : List Item) → SomeTakes (reading_of t) (tree_of t new) rests xs ns
       ↔ Offers (reading_of t) (ways_by (tree_of t old) ways) (attributes_of first) (items_of first) xs ns

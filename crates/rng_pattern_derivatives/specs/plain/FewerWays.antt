@@ -8,31 +8,31 @@ use Rattle.rng_pattern_table.specs.plain.Facts.{LosesFirst}
 use Rattle.rng_pattern_table.specs.views.Node.{Node}
 use Rattle.rng_pattern_table.specs.views.Trees.{tree_of}
 use Rattle.rng_pattern_table.specs.declared.pattern.PatternNumber.{PatternNumber}
-use Rattle.rng_pattern_derivatives.specs.declared.way.Way.{Way}
+use Rattle.rng_pattern_derivatives.specs.declared.way.LeafWay.{LeafWay}
 
 -- the pattern of this number may be left out
 abbrev pub IsOptional : List Node → PatternNumber → Type 0
 IsOptional ns n = (t : Table) (g : Reading) → Takes g (tree_of t ns n.0) [] []
 
 -- some way with this leaf may end behind it
-pub record HasOptionalRest (ns : List Node) (ways : List Way) (leaf : PatternNumber) : Type 0 where
-  pub way : Way
+pub record HasOptionalRest (ns : List Node) (ways : List LeafWay) (leaf : PatternNumber) : Type 0 where
+  pub way : LeafWay
   pub contained : Contains ways way
   pub same : way.leaf ≡ leaf
   pub optional : IsOptional ns way.rest
 
 -- the ways of copies that may end behind their leaf, each with this rest
-pub record AreRepeated (ns : List Node) (copies : List Way) (more : PatternNumber) (all : List Way) : Type 0 where
-  pub within : (w : Way) → Contains all w → (w.rest ≡ more) × HasOptionalRest ns copies w.leaf
-  pub each : (w : Way) → Contains copies w → Contains all (record { leaf = w.leaf; rest = more })
+pub record AreRepeated (ns : List Node) (copies : List LeafWay) (more : PatternNumber) (all : List LeafWay) : Type 0 where
+  pub within : (w : LeafWay) → Contains all w → (w.rest ≡ more) × HasOptionalRest ns copies w.leaf
+  pub each : (w : LeafWay) → Contains copies w → Contains all (record { leaf = w.leaf; rest = more })
       ⊎ ((t : Table) (g : Reading) → Takes g (tree_of t ns w.rest.0) [] [] → ⊥)
 
 -- what this way leaves of the second side of a group is no more than what one with the same leaf leaves of the group
-pub record IsCovered (ns : List Node) (second : PatternNumber) (firsts : List Way) (w : Way) : Type 0 where
+pub record IsCovered (ns : List Node) (second : PatternNumber) (firsts : List LeafWay) (w : LeafWay) : Type 0 where
   pub loses : (t : Table) (g : Reading) → LosesFirst g (tree_of t ns second.0)
   pub first : HasOptionalRest ns firsts w.leaf
 
 -- all ways of the second side but some that are covered
-pub record AreUncovered (ns : List Node) (second : PatternNumber) (firsts seconds left : List Way) : Type 0 where
-  pub within : (w : Way) → Contains left w → Contains seconds w
-  pub each : (w : Way) → Contains seconds w → Contains left w ⊎ IsCovered ns second firsts w
+pub record AreUncovered (ns : List Node) (second : PatternNumber) (firsts seconds left : List LeafWay) : Type 0 where
+  pub within : (w : LeafWay) → Contains left w → Contains seconds w
+  pub each : (w : LeafWay) → Contains seconds w → Contains left w ⊎ IsCovered ns second firsts w

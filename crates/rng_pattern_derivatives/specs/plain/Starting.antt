@@ -22,7 +22,7 @@ use Rattle.rng_pattern_derivatives.specs.plain.Kinds.{Obeys}
 use Rattle.rng_model.specs.matching.GrammarReading.{reading_of}
 use Rattle.rng_pattern_derivatives.specs.plain.Ways.{AreInside, ways_by}
 use Rattle.rng_pattern_derivatives.specs.declared.way.Place.{Place}
-use Rattle.rng_pattern_derivatives.specs.declared.way.Way.{Way}
+use Rattle.rng_pattern_derivatives.specs.declared.way.LeafWay.{LeafWay}
 
 -- the patterns of the grammar stand in the table, by these numbers
 pub record IsReady (t : Table) (ns : List Node) (numbers : List PatternNumber) : Type 0 where
@@ -51,7 +51,7 @@ IsBodyOf t ns numbers leaf q (Some b) = (b.0 < length ns)
 
 -- The bodies, each with what is left behind the element, by which p takes an element of this name (RELAX NG
 -- Specification, section 6.2.7): with blank strings about elements gone before.
-pub record AreStarts (t : Table) (ns : List Node) (numbers : List PatternNumber) (p : Simple ℕ) (q : Name) (starts : List Way) : Type 0 where
+pub record AreStarts (t : Table) (ns : List Node) (numbers : List PatternNumber) (p : Simple ℕ) (q : Name) (starts : List LeafWay) : Type 0 where
   pub inside : AreInside ns starts
   pub to : IsRestricted p → (xs : List Attribute) (kids : Items) (ms : List Item) → IsBare (an_element q xs kids ∷ ms)
       → Takes (reading_of t) p [] (an_element q xs kids ∷ ms) → Opens (reading_of t) xs (list_of kids) ms (ways_by (tree_of t ns) starts)
@@ -60,7 +60,7 @@ pub record AreStarts (t : Table) (ns : List Node) (numbers : List PatternNumber)
   pub kept : IsRestricted p → HasRestrictedBodies t ns numbers → EachWay (IsRestrictedBodyNamed (reading_of t) q) IsRestricted (ways_by (tree_of t ns) starts)
 
 -- the starts open what the bodies of the ways open
-pub record AreBodies (t : Table) (ns : List Node) (numbers : List PatternNumber) (q : Name) (ways starts : List Way) : Type 0 where
+pub record AreBodies (t : Table) (ns : List Node) (numbers : List PatternNumber) (q : Name) (ways starts : List LeafWay) : Type 0 where
   pub inside : AreInside ns starts
   pub opens : (xs : List Attribute) (kids ms : List Item) → Opens (reading_of t) xs kids ms (ways_by (tree_of t ns) starts)
       ↔ Opens (reading_of t) xs kids ms (bodies_of (reading_of t) q (ways_by (tree_of t ns) ways))

@@ -17,7 +17,7 @@ use Rattle.rng_pattern_table.specs.declared.pattern.PatternNumber.{PatternNumber
 use Rattle.rng_pattern_table.specs.views.Trees.{tree_of}
 use Rattle.rng_pattern_derivatives.specs.plain.Kinds.{IsElementNamed, IsNamed, IsText, IsLeafOf, Obeys, connector_of}
 use Rattle.rng_model.specs.matching.GrammarReading.{reading_of}
-use Rattle.rng_pattern_derivatives.specs.declared.way.Way.{Way}
+use Rattle.rng_pattern_derivatives.specs.declared.way.LeafWay.{LeafWay}
 use Rattle.rng_pattern_derivatives.specs.declared.way.Kind.{Kind}
 use Rattle.rng_pattern_derivatives.specs.declared.way.Kind.TheVariants as kinds
 use Rattle.rng_pattern_derivatives.specs.declared.way.Place.{Place}
@@ -25,21 +25,21 @@ use Rattle.rng_pattern_derivatives.specs.declared.way.Hole.{Hole}
 use Rattle.rng_pattern_derivatives.specs.declared.way.Hole.TheVariants as holes
 
 -- ways over the trees that their numbers stand for
-abbrev pub way_by : (ℕ → Simple ℕ) → Way → tree.Way
+abbrev pub way_by : (ℕ → Simple ℕ) → LeafWay → tree.Way
 way_by f w = record { leaf = f w.leaf.0; rest = f w.rest.0 }
 
-abbrev pub ways_by : (ℕ → Simple ℕ) → List Way → List tree.Way
+abbrev pub ways_by : (ℕ → Simple ℕ) → List LeafWay → List tree.Way
 ways_by f ws = map (way_by f) ws
 
 -- their numbers are numbers of the table
-abbrev pub IsInside : List Node → Way → Type 0
+abbrev pub IsInside : List Node → LeafWay → Type 0
 IsInside ns w = (w.leaf.0 < length ns) × (w.rest.0 < length ns)
 
-abbrev pub AreInside : List Node → List Way → Type 0
+abbrev pub AreInside : List Node → List LeafWay → Type 0
 AreInside ns ws = All (IsInside ns) ws
 
 -- the rests of the ways with this leaf
-abbrev pub AreRestsBehind : List Way → PatternNumber → List PatternNumber → Type 0
+abbrev pub AreRestsBehind : List LeafWay → PatternNumber → List PatternNumber → Type 0
 AreRestsBehind ways leaf rests = (r : PatternNumber) → Contains rests r ↔ Contains ways (record { leaf = leaf; rest = r })
 
 -- it was taken out of a list
@@ -66,7 +66,7 @@ abbrev pub AreKept : Kind → Place → List tree.Way → Type 0
 AreKept kind place ws = EachWay (λ l. IsLeafOf kind l × Obeys place l) (Obeys place) ws
 
 -- the numbered ways offer what these ways do, and keep what they keep
-pub record StandFor (ns : List Node) (numbered : List Way) (ws : Table → List tree.Way) : Type 0 where
+pub record StandFor (ns : List Node) (numbered : List LeafWay) (ws : Table → List tree.Way) : Type 0 where
   pub inside : AreInside ns numbered
   pub offers : (t : Table) (g : Reading) (xs : List Attribute) (ks : List Item) (ys : List Attribute) (ms : List Item)
       → Offers g (ways_by (tree_of t ns) numbered) xs ks ys ms ↔ Offers g (ws t) xs ks ys ms
@@ -79,7 +79,7 @@ AreWays g (kinds.Attribute q) p ws = RepeatsWell p → AreAttributeWays g (IsNam
 AreWays g kinds.Text p ws = AreItemWays g IsText p ws
 
 -- numbered ways are those of a pattern of a grammar, and keep what the pattern obeys
-pub record AreWaysOf (t : Table) (ns : List Node) (kind : Kind) (p : Simple ℕ) (numbered : List Way) : Type 0 where
+pub record AreWaysOf (t : Table) (ns : List Node) (kind : Kind) (p : Simple ℕ) (numbered : List LeafWay) : Type 0 where
   pub inside : AreInside ns numbered
   pub law : AreWays (reading_of t) kind p (ways_by (tree_of t ns) numbered)
   pub kept : (place : Place) → Obeys place p → AreKept kind place (ways_by (tree_of t ns) numbered)

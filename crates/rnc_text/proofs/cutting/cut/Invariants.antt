@@ -1,6 +1,6 @@
 use Rattle.std.proofs.Common.{length}
 use Rattle.rnc_model.specs.tokens.Cut.{tokens_of}
-use Rattle.rnc_text.proofs.Cuts.{HasCut}
+use Rattle.rnc_text.proofs.OneCut.{HasCut}
 use Rattle.rnc_text.proofs.cutting.cut.Given as goal
 
 abbrev pub invariant-pieces : goal.invariant-pieces

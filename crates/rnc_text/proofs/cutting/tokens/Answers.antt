@@ -1,5 +1,5 @@
 use Rattle.rnc_model.specs.tokens.Cut.{tokens_of}
-use Rattle.rnc_text.proofs.Cuts.{in_order, gives_tokens, gives_five, whole_cut}
+use Rattle.rnc_text.proofs.OneCut.{in_order, gives_tokens, gives_five, whole_cut}
 use Rattle.rnc_text.proofs.cutting.tokens.Goals as goal
 
 pub returns-clause-only : goal.returns-clause-only

@@ -2,8 +2,8 @@ use Rattle.std.proofs.Common.{rules, arith, sym, ◌∙◌, refl}
 use Rattle.std.specs.Str.{chars, IsUtf8}
 use Rattle.std.proofs.lemmas.Bool.{eqb-true}
 use Rattle.rnc_model.specs.characters.Decoding.{Begins, here}
-use Rattle.rnc_text.proofs.Fronts.{front_begins, nothing_begins}
-use Rattle.rnc_text.proofs.Decoded.{decodes_then, text_decoded, text_broken, some_chars, no_chars, front_shorter, not_empty}
+use Rattle.rnc_text.proofs.FrontCharacter.{front_begins, nothing_begins}
+use Rattle.rnc_text.proofs.OneDecoding.{decodes_then, text_decoded, text_broken, some_chars, no_chars, front_shorter, not_empty}
 use Rattle.rnc_text.proofs.decoding.decode.Goals as goal
 
 pub rest-init : goal.rest-init

@@ -1,5 +1,5 @@
 use Rattle.std.proofs.Common.{rules, inl, refl}
-use Rattle.rnc_text.proofs.Decoded.{gives_text, gives_fault, fault_one, decoded_one}
+use Rattle.rnc_text.proofs.OneDecoding.{gives_text, gives_fault, fault_one, decoded_one}
 use Rattle.rnc_text.proofs.decoding.read_text.Goals as goal
 
 pub returns-in-Ok-clause-only : goal.returns-in-Ok-clause-only

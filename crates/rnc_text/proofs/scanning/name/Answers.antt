@@ -2,7 +2,7 @@ use Rattle.rnc_model.specs.tokens.Tokens.{word_kind}
 use Rattle.rnc_text.specs.plain.CutSteps.{front}
 use Rattle.rnc_text.specs.plain.Cursors.{remaining}
 use Rattle.rnc_text.specs.declared.scanning.Class.TheVariants as classes
-use Rattle.rnc_text.proofs.Scans.{name_colon, name_word, finds_token, finds_at, finds_same}
+use Rattle.rnc_text.proofs.ScanResults.{name_colon, name_word, finds_token, finds_at, finds_same}
 use Rattle.rnc_text.proofs.scanning.name.Goals as goal
 
 pub returns-in-Some : goal.returns-in-Some

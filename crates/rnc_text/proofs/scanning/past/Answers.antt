@@ -1,6 +1,6 @@
 use Rattle.std.proofs.Common.{sym, ◌∙◌}
 use Rattle.rnc_text.proofs.Cursors.{past_shorter}
-use Rattle.rnc_text.proofs.Scans.{walks_none, walks_on, walks_out, walks_end}
+use Rattle.rnc_text.proofs.ScanResults.{walks_none, walks_on, walks_out, walks_end}
 use Rattle.rnc_text.proofs.scanning.past.Goals as goal
 
 pub characters-init : goal.characters-init

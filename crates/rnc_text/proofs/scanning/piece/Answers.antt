@@ -6,8 +6,8 @@ use Rattle.rnc_model.specs.declared.character.Character.TheVariants.{LineEnd, Or
 use Rattle.rnc_model.specs.declared.character.Character.{Character}
 use Rattle.rnc_text.specs.declared.scanning.Class.TheVariants as classes
 use Rattle.rnc_text.proofs.Cursors.{past_then}
-use Rattle.rnc_text.proofs.Scans.{piece_none, piece_line, piece_name, piece_blank, piece_hash, piece_backslash, piece_quote, piece_sign, IsOther, or_left}
-use Rattle.rnc_text.proofs.Scans.{or_right, finds_gap, finds_same, finds_all}
+use Rattle.rnc_text.proofs.ScanResults.{piece_none, piece_line, piece_name, piece_blank, piece_hash, piece_backslash, piece_quote, piece_sign, IsOther, or_left}
+use Rattle.rnc_text.proofs.ScanResults.{or_right, finds_gap, finds_same, finds_all}
 use Rattle.rnc_text.proofs.scanning.piece.Goals as goal
 
 pub returns-in_err-first : goal.returns-in_err-first

@@ -5,7 +5,7 @@ use Rattle.rnc_text.specs.plain.Cursors.{remaining}
 use Rattle.rnc_model.specs.declared.character.Character.TheVariants.{Ordinary}
 use Rattle.rnc_text.specs.declared.scanning.Class.TheVariants as classes
 use Rattle.rnc_model.specs.declared.token.TokenKind.TheVariants as kinds
-use Rattle.rnc_text.proofs.Scans.{colon_past, local_found, local_none, finds_token, finds_at, token_told}
+use Rattle.rnc_text.proofs.ScanResults.{colon_past, local_found, local_none, finds_token, finds_at, token_told}
 use Rattle.rnc_text.proofs.scanning.qualified.Goals as goal
 
 pub text_to-requires : goal.text_to-requires

@@ -5,7 +5,7 @@ use Rattle.rnc_model.specs.declared.character.Character.TheVariants.{Ordinary}
 use Rattle.rnc_text.specs.declared.scanning.Class.TheVariants as classes
 use Rattle.rnc_model.specs.declared.token.TokenKind.TheVariants as kinds
 use Rattle.rnc_text.proofs.Cursors.{past_then}
-use Rattle.rnc_text.proofs.Scans.{quoted_none, quoted_name, finds_token, token_told}
+use Rattle.rnc_text.proofs.ScanResults.{quoted_none, quoted_name, finds_token, token_told}
 use Rattle.rnc_text.proofs.scanning.quoted_identifier.Goals as goal
 
 pub returns-then-not-begins_ncname : goal.returns-then-not-begins_ncname

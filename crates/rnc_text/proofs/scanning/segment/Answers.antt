@@ -5,7 +5,7 @@ use Rattle.rnc_model.specs.declared.character.Character.TheVariants.{Ordinary}
 use Rattle.rnc_text.specs.declared.scanning.Class.TheVariants as classes
 use Rattle.rnc_model.specs.declared.token.TokenKind.TheVariants as kinds
 use Rattle.rnc_text.proofs.Cursors.{past_then}
-use Rattle.rnc_text.proofs.Scans.{segment_none, segment_some, finds_token, token_told}
+use Rattle.rnc_text.proofs.ScanResults.{segment_none, segment_some, finds_token, token_told}
 use Rattle.rnc_text.proofs.scanning.segment.Goals as goal
 
 pub returns-in_err-after : goal.returns-in_err-after

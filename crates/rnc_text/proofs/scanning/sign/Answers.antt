@@ -1,7 +1,7 @@
 use Rattle.std.proofs.Common.{[], ◌∷◌}
 use Rattle.rnc_model.specs.declared.character.Character.TheVariants.{Ordinary}
 use Rattle.rnc_model.specs.declared.token.TokenKind.TheVariants as kinds
-use Rattle.rnc_text.proofs.Scans.{sign_found, finds_token, token_told}
+use Rattle.rnc_text.proofs.ScanResults.{sign_found, finds_token, token_told}
 use Rattle.rnc_text.proofs.scanning.sign.Goals as goal
 
 pub text_to-requires : goal.text_to-requires

@@ -3,7 +3,7 @@ use Rattle.rnc_model.specs.tokens.Tokens.{three}
 use Rattle.rnc_model.specs.declared.character.Character.TheVariants.{Ordinary}
 use Rattle.rnc_model.specs.declared.token.TokenKind.TheVariants as kinds
 use Rattle.rnc_text.proofs.Cursors.{past_then}
-use Rattle.rnc_text.proofs.Scans.{triple_no_second, triple_no_third, triple_no_end, triple_some, finds_token, token_told}
+use Rattle.rnc_text.proofs.ScanResults.{triple_no_second, triple_no_third, triple_no_end, triple_some, finds_token, token_told}
 use Rattle.rnc_text.proofs.scanning.triple_segment.Goals as goal
 
 pub returns-in_err-third : goal.returns-in_err-third

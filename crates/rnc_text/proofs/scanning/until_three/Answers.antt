@@ -1,5 +1,5 @@
 use Rattle.rnc_text.proofs.Cursors.{past_shorter}
-use Rattle.rnc_text.proofs.Scans.{looks_none, looks_on, looks_found, looks_end}
+use Rattle.rnc_text.proofs.ScanResults.{looks_none, looks_on, looks_found, looks_end}
 use Rattle.rnc_text.proofs.scanning.until_three.Goals as goal
 
 pub characters-init : goal.characters-init

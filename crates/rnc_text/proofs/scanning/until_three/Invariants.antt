@@ -1,5 +1,5 @@
 use Rattle.std.proofs.Common.{length}
-use Rattle.rnc_text.proofs.Scans.{Looks}
+use Rattle.rnc_text.proofs.ScanResults.{Looks}
 use Rattle.rnc_text.proofs.scanning.until_three.Given as goal
 
 abbrev pub invariant-characters : goal.invariant-characters

@@ -1,6 +1,6 @@
 use Rattle.std.proofs.Common.{rules, codes}
 use Rattle.clap.specs.Words.{found_of}
-use Rattle.rncv_cli.proofs.Matches.{first_is_value}
+use Rattle.rncv_cli.proofs.ClapMatches.{first_is_value}
 use Rattle.rncv_cli.proofs.command_line.command_of.Goals as goal
 
 pub returns-in_err-get_str : goal.returns-in_err-get_str

@@ -1,4 +1,4 @@
-use Rattle.rncv_cli.proofs.Beginning.{beginning_is_kept, beginning_is_read}
+use Rattle.rncv_cli.proofs.FileBeginning.{beginning_is_kept, beginning_is_read}
 use Rattle.rncv_cli.proofs.schema_files.beginning_of.Goals as goal
 
 pub returns-clause-bytes : goal.returns-clause-bytes

@@ -1,7 +1,7 @@
 use Rattle.std.proofs.Common.{◌≡◌, ◌∙◌, ◌+◌, ◌-◌, arith, drop, length, subst, sym}
 use Rattle.std.proofs.lemmas.List.{drop_all}
 use Rattle.rng_deriv.specs.views.Levels.{AddsEnded}
-use Rattle.rng_deriv.proofs.Ending.{ends_at, no_ends, only_ended}
+use Rattle.rng_deriv.proofs.EndedElements.{ends_at, no_ends, only_ended}
 use Rattle.rng_deriv.proofs.ends.ended.Goals as goal
 
 pub returns-in-Some-clause-ended : goal.returns-in-Some-clause-ended

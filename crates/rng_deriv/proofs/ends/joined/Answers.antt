@@ -1,5 +1,5 @@
 use Rattle.std.proofs.Common.{◌∙◌, sym}
-use Rattle.rng_deriv.proofs.Ending.{beside_none}
+use Rattle.rng_deriv.proofs.EndedElements.{beside_none}
 use Rattle.rng_deriv.proofs.ends.joined.Goals as goal
 
 pub returns-then-is_not_allowed-clause-choice : goal.returns-then-is_not_allowed-clause-choice

@@ -2,7 +2,7 @@ use Rattle.std.proofs.Common.{rules, ◌≡◌, subst, sym, slice_get, slice_ind
 use Rattle.std.proofs.lemmas.Option.{slice_get-get_or}
 use Rattle.rng_pattern_table.specs.declared.pattern.PatternNumber.{PatternNumber}
 use Rattle.rng_deriv.specs.views.Levels.{LeavesBy}
-use Rattle.rng_deriv.proofs.Ending.{leaves_rest}
+use Rattle.rng_deriv.proofs.EndedElements.{leaves_rest}
 use Rattle.rng_deriv.proofs.Numbers.{set_lent}
 use Rattle.rng_deriv.proofs.ends.leave.Goals as goal
 

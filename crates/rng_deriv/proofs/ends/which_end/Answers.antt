@@ -1,4 +1,4 @@
-use Rattle.rng_deriv.proofs.Ending.{nullable_at}
+use Rattle.rng_deriv.proofs.EndedElements.{nullable_at}
 use Rattle.rng_deriv.proofs.ends.which_end.Goals as goal
 
 pub alternatives-preserved : goal.alternatives-preserved

@@ -1,6 +1,6 @@
 use Rattle.std.proofs.Common.{◌<◌, subst}
 use Rattle.std.proofs.lemmas.Option.{slice_get-get_or}
-use Rattle.rng_deriv.proofs.Ending.{ends_with_at}
+use Rattle.rng_deriv.proofs.EndedElements.{ends_with_at}
 use Rattle.rng_deriv.proofs.ends.which_end_with.Goals as goal
 
 pub alternatives-preserved : goal.alternatives-preserved

@@ -1,4 +1,4 @@
-use Rattle.rng_deriv.proofs.Linked.{links_at, no_links}
+use Rattle.rng_deriv.proofs.AddedLinks.{links_at, no_links}
 use Rattle.rng_deriv.proofs.links.add_links.Goals as goal
 
 pub ways-init : goal.ways-init

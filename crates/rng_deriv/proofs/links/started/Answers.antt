@@ -1,7 +1,7 @@
 use Rattle.std.proofs.Common.{◌∙◌, subst}
 use Rattle.rng_model.specs.names.NameViews.{name_of}
 use Rattle.rng_deriv.specs.views.Levels.{AddsLinks}
-use Rattle.rng_deriv.proofs.Opening.{opens_at}
+use Rattle.rng_deriv.proofs.StartedElements.{opens_at}
 use Rattle.rng_deriv.proofs.links.started.Goals as goal
 
 pub alternatives-preserved : goal.alternatives-preserved

@@ -3,7 +3,7 @@ use Rattle.std.specs.List.{list_all}
 use Rattle.rng_model.specs.documents.EventView.{event_of}
 use Rattle.rng_deriv_laws.specs.plain.Derivatives.{is_not_allowed}
 use Rattle.rng_deriv.specs.views.Numbers.{tree_of}
-use Rattle.rng_deriv.proofs.Knowing.{comes_on, fails}
+use Rattle.rng_deriv.proofs.KnownDocuments.{comes_on, fails}
 use Rattle.rng_deriv.proofs.LevelRenewal.{come_renewed}
 use Rattle.rng_deriv.proofs.progress.go_on.Goals as goal
 

@@ -1,7 +1,7 @@
 use Rattle.std.proofs.Common.{subst, sym}
 use Rattle.rng_model.specs.documents.EventView.{event_of}
 use Rattle.rng_deriv.specs.views.Positions.{AddsProgress, IsKnown}
-use Rattle.rng_deriv.proofs.Knowing.{fails_on}
+use Rattle.rng_deriv.proofs.KnownDocuments.{fails_on}
 use Rattle.rng_deriv.proofs.progress.take_event.Goals as goal
 
 pub returns-in-Failed-clause-progress : goal.returns-in-Failed-clause-progress

@@ -1,6 +1,6 @@
 use Rattle.std.proofs.Common.{◌∙◌, inl, inr, subst}
 use Rattle.rng_deriv.specs.views.StartMemo.{HasKept}
-use Rattle.rng_deriv.proofs.Memo.{kept_or_put, none_kept}
+use Rattle.rng_deriv.proofs.KeptStarts.{kept_or_put, none_kept}
 use Rattle.rng_deriv.proofs.start_memo.keep.Goals as goal
 use Rattle.rng_deriv.proofs.start_memo.keep.Goals.{then-len-ge-MOST_KEPT, else-len-ge-MOST_KEPT}
 

@@ -4,9 +4,9 @@ use Rattle.rng_model.specs.simple.Table.{Table}
 use Rattle.rng_pattern_table.specs.views.Trees.{tree_of}
 use Rattle.rng_pattern_table.proofs.Trees.{Longer-trans}
 use Rattle.rng_pattern_derivatives.specs.plain.Ways.{ways_by}
-use Rattle.rng_pattern_derivatives.specs.declared.way.Way as numbered
+use Rattle.rng_pattern_derivatives.specs.declared.way.LeafWay as numbered
 use Rattle.rng_deriv.specs.views.Starts.{OpensLike}
-use Rattle.rng_deriv.proofs.Joining.{next_joined}
+use Rattle.rng_deriv.proofs.JoinedStarts.{next_joined}
 use Rattle.rng_deriv.proofs.starts.joined_ways.Goals as goal
 
 -- that numbers are in the table is said for each grammar, so for one of nothing
@@ -24,5 +24,5 @@ ways-preserved c = record {
 
 pub returns-clause-ways : goal.returns-clause-ways
 returns-clause-ways c = λ t.
-    subst (λ (ws : List numbered.Way). OpensLike t c.ways.table (ways_by (tree_of t c.args.table.now) ws) c.ways.joined.items)
+    subst (λ (ws : List numbered.LeafWay). OpensLike t c.ways.table (ways_by (tree_of t c.args.table.now) ws) c.ways.joined.items)
     (take_all c.ways.way-index c.args.ways.now c.ways-test.false) (c.ways.invariant.joined t)

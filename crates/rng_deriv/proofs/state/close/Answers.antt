@@ -1,6 +1,6 @@
 use Rattle.std.proofs.Common.{subst}
 use Rattle.rng_deriv.specs.views.Levels.{AddsEnded}
-use Rattle.rng_deriv.proofs.Stepping.{ends}
+use Rattle.rng_deriv.proofs.StateSteps.{ends}
 use Rattle.rng_deriv.proofs.state.close.Goals as goal
 
 pub returns-clause-state : goal.returns-clause-state

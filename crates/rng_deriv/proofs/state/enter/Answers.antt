@@ -4,7 +4,7 @@ use Rattle.rng_model.specs.names.NameViews.{name_of}
 use Rattle.rng_deriv_laws.specs.plain.LevelStates.{IsAfterTag}
 use Rattle.rng_deriv.specs.views.Levels.{AddsOpened}
 use Rattle.rng_deriv.specs.views.Numbers.{AddsEach}
-use Rattle.rng_deriv.proofs.Stepping.{enters}
+use Rattle.rng_deriv.proofs.StateSteps.{enters}
 use Rattle.rng_deriv.proofs.state.enter.Goals as goal
 
 pub returns-clause-state : goal.returns-clause-state

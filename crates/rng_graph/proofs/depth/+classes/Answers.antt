@@ -6,7 +6,7 @@ use Rattle.rng_graph.specs.plain.InTwos.{nested}
 use Rattle.rng_graph.specs.plain.DepthWith.{cut_off}
 use Rattle.rng_graph.specs.plain.MemberDepths.{nested_class_depth}
 use Rattle.rng_graph.proofs.MemberDepths.{choice_depth}
-use Rattle.rng_graph.proofs.Parts.{first_and_rest}
+use Rattle.rng_graph.proofs.ListParts.{first_and_rest}
 use Rattle.rng_graph.proofs.depth.+classes.Goals as goal
 
 pub choice_depth-loop-member-init : goal.choice_depth-loop-member-init

@@ -4,8 +4,8 @@ use Rattle.rng_graph.specs.plain.DepthWith.{one_more, depth_with}
 use Rattle.rng_graph.specs.views.GraphView.{graph_pattern_of}
 use Rattle.rng_graph.specs.plain.MemberDepths.{members_depth, depth_at_spot}
 use Rattle.rng_graph.proofs.MemberDepths.{depth_seen, next_member}
-use Rattle.rng_graph.proofs.Views.{attribute_view, list_view, data_except_view, mixed_view, optional_view, zero_or_more_view, one_or_more_view}
-use Rattle.rng_graph.proofs.Views.{group_view, interleave_view, choice_view}
+use Rattle.rng_graph.proofs.GraphPatternKinds.{attribute_view, list_view, data_except_view, mixed_view, optional_view, zero_or_more_view, one_or_more_view}
+use Rattle.rng_graph.proofs.GraphPatternKinds.{group_view, interleave_view, choice_view}
 use Rattle.rng_graph.proofs.depth.+patterns.Goals as goal
 
 pub pattern_depth-returns-in-List : goal.pattern_depth-returns-in-List

@@ -3,9 +3,9 @@ use Rattle.std.proofs.lemmas.List.{length-map, length-set, take_all}
 use Rattle.rng_graph.specs.plain.Graph.{IsFilledBy, spot_depth}
 use Rattle.rng_graph.specs.views.GraphView.{graph_body_of, graph_of}
 use Rattle.rng_graph.specs.plain.MemberDepths.{depth_in}
-use Rattle.rng_graph.proofs.FilledTable.{filled_next}
+use Rattle.rng_graph.proofs.DepthTable.{filled_next}
 use Rattle.rng_graph.proofs.depth_table.depths.Goals as goal
-use Rattle.rng_graph.proofs.Parts.{read_at, map_at}
+use Rattle.rng_graph.proofs.ListParts.{read_at, map_at}
 
 pub loop-j-preserved : goal.loop-j-preserved
 loop-j-preserved c =

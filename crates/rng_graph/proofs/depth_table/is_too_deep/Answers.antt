@@ -1,8 +1,8 @@
 use Rattle.std.proofs.Common.{◌≡◌, ◌<◌, ◌∙◌, ap, length, get_or, arith, rules, refl}
 use Rattle.rng_graph.specs.plain.MemberDepths.{depth_in}
-use Rattle.rng_graph.proofs.FilledTable.{element_is_deep, none_is_deep, next_is_flat}
+use Rattle.rng_graph.proofs.DepthTable.{element_is_deep, none_is_deep, next_is_flat}
 use Rattle.rng_graph.proofs.depth_table.is_too_deep.Goals as goal
-use Rattle.rng_graph.proofs.Parts.{read_at}
+use Rattle.rng_graph.proofs.ListParts.{read_at}
 
 pub returns-then-is_deep_element-clause-deep : goal.returns-then-is_deep_element-clause-deep
 returns-then-is_deep_element-clause-deep c = λ yes.

@@ -2,7 +2,7 @@ use Rattle.std.proofs.Common.{◌≡◌, ◌++◌, OnOk, ap, ◌∙◌, subst}
 use Rattle.rng_model.specs.simple.Tree.{group, interleave, choice}
 use Rattle.rng_graph.specs.views.GraphView.{graph_pattern_of}
 use Rattle.rng_graph.proofs.Mentioned.{mentioned_seen}
-use Rattle.rng_graph.proofs.Views.{group_view, interleave_view, choice_view}
+use Rattle.rng_graph.proofs.GraphPatternKinds.{group_view, interleave_view, choice_view}
 use Rattle.rng_graph.proofs.mentions.+patterns.Goals as goal
 
 pub add_mentions-returns-in-Group : goal.add_mentions-returns-in-Group

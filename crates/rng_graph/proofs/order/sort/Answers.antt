@@ -1,7 +1,7 @@
 use Rattle.std.proofs.Common.{rules, ◌≡◌, sym, subst, [], vec_items}
 use Rattle.std.proofs.lemmas.List.{length-map}
 use Rattle.rng_graph.specs.plain.Search.{IsSearch, IsStart, lists}
-use Rattle.rng_graph.proofs.Searching.{started, all_ordered}
+use Rattle.rng_graph.proofs.DepthFirstSearch.{started, all_ordered}
 use Rattle.rng_graph.proofs.SearchSteps.{step_goes, none_there}
 use Rattle.rng_graph.proofs.order.sort.Goals as goal
 

@@ -4,7 +4,7 @@ use Rattle.rng_graph.specs.declared.order.Mark.TheVariants as mark
 use Rattle.rng_graph.specs.plain.Search.{number_of, lists}
 use Rattle.rng_graph.proofs.SearchSteps.{number_below, number_marked, step_new, step_open, step_done, step_leave}
 use Rattle.rng_graph.proofs.order.step.Goals as goal
-use Rattle.rng_graph.proofs.Parts.{read_at}
+use Rattle.rng_graph.proofs.ListParts.{read_at}
 
 pub index-requires : goal.index-requires
 index-requires c =

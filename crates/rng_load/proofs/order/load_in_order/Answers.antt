@@ -3,7 +3,7 @@ use Rattle.std.proofs.lemmas.Result.{err_from_is_err_and}
 use Rattle.rng_load.specs.views.FilesView.{names_of, taken_files_of}
 use Rattle.rnc_model.specs.loading.Files.{named_files}
 use Rattle.rnc_model.specs.loading.Loading.{with_name}
-use Rattle.rng_load.proofs.NamesAdded.{names_after_insert}
+use Rattle.rng_load.proofs.NameSets.{names_after_insert}
 use Rattle.rng_load.proofs.TakenFiles.{none_firm, all_read}
 use Rattle.rng_load.proofs.HandedIn.{length_named}
 use Rattle.rng_load.proofs.ReadInOrder.{name_at, no_name_left, length_entries, as_told, goes_on, fewer_left}

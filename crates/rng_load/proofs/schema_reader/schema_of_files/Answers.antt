@@ -5,7 +5,7 @@ use Rattle.rng_load.specs.views.FilesView.{taken_files_of}
 use Rattle.rng_load.specs.views.GatheredComponents.{gathered_of}
 use Rattle.rnc_model.specs.loading.Loading.{tree_in}
 use Rattle.rng_load.specs.views.PlacedGrammars.{grammars_of}
-use Rattle.rng_load.proofs.SchemaRead.{main_gathered, whole}
+use Rattle.rng_load.proofs.ReaderEnds.{main_gathered, whole}
 use Rattle.rng_load.proofs.schema_reader.schema_of_files.Goals as goal
 
 pub add-requires-clause-there : goal.add-requires-clause-there

@@ -1,5 +1,5 @@
 use Rattle.std.proofs.Common.{rules, sym, ◌∙◌}
-use Rattle.rng_model.proofs.Runs.{collapse-none, collapse-onto}
+use Rattle.rng_model.proofs.BlankRuns.{collapse-none, collapse-onto}
 use Rattle.rng_model.proofs.blanks.collapse.Goals as goal
 
 pub returns-in_default : goal.returns-in_default

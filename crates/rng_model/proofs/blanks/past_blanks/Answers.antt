@@ -1,4 +1,4 @@
-use Rattle.rng_model.proofs.Runs.{blanks_boundary}
+use Rattle.rng_model.proofs.BlankRuns.{blanks_boundary}
 use Rattle.rng_model.proofs.blanks.past_blanks.Goals as goal
 
 pub split_at-requires : goal.split_at-requires

@@ -2,7 +2,7 @@ use Rattle.std.proofs.Common.{◌≡◌, false, sym, ◌∙◌, rules}
 use Rattle.rng_model.specs.names.NameViews.{class_of}
 use Rattle.rng_names.specs.plain.Holding.{pair}
 use Rattle.rng_names.specs.plain.Written.{both_hold, is_met}
-use Rattle.rng_names.proofs.Fresh.{none_is_found}
+use Rattle.rng_names.proofs.FreshTexts.{none_is_found}
 use Rattle.rng_names.proofs.common_name.meet.Goals as goal
 
 pub returns-else-is_met-clause-apart : goal.returns-else-is_met-clause-apart

@@ -1,7 +1,7 @@
 use Rattle.std.proofs.Common.{rules}
 use Rattle.rng_model.specs.names.NameViews.{class_of, name_of}
 use Rattle.rng_names.proofs.PlainNames.{plain_common, plain_apart, swapped}
-use Rattle.rng_names.proofs.Views.{are_texts, name_class_is}
+use Rattle.rng_names.proofs.NameViews.{are_texts, name_class_is}
 use Rattle.rng_names.proofs.common_name.overlap.Goals as goal
 
 pub returns-in-Name-default-clause-common : goal.returns-in-Name-default-clause-common

@@ -5,7 +5,7 @@ use Rattle.rng_model.specs.names.Names.{NameClass}
 use Rattle.rng_model.specs.names.NameViews.{class_of}
 use Rattle.rng_names.specs.plain.Written.{longest}
 use Rattle.rng_names.specs.views.GrammarClasses.{seen_class}
-use Rattle.rng_names.proofs.Growing.{holds_on, holds_of_all, seen_at}
+use Rattle.rng_names.proofs.CollectedNames.{holds_on, holds_of_all, seen_at}
 use Rattle.rng_names.proofs.grammar_classes.longest_among.Goals as goal
 
 pub classes-preserved-in_default : goal.classes-preserved-in_default

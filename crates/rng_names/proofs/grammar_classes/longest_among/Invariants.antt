@@ -2,7 +2,7 @@ use Rattle.std.proofs.Common.{◌≡◌, ◌≤◌, map, Some}
 use Rattle.rng_model.specs.names.Names.{NameClass}
 use Rattle.rng_names.specs.plain.Written.{longest}
 use Rattle.rng_names.specs.views.GrammarClasses.{seen_class}
-use Rattle.rng_names.proofs.Growing.{HoldsBefore}
+use Rattle.rng_names.proofs.CollectedNames.{HoldsBefore}
 use Rattle.rng_names.proofs.grammar_classes.longest_among.Given as goal
 
 abbrev pub invariant-classes : goal.invariant-classes

@@ -3,8 +3,8 @@ use Rattle.std.proofs.lemmas.List.{take_all}
 use Rattle.rng_model.specs.names.Names.{some_of}
 use Rattle.rng_model.specs.names.NameViews.{class_of}
 use Rattle.rng_names.specs.plain.Written.{longest}
-use Rattle.rng_names.proofs.Choices.{longest-members, longest_among}
-use Rattle.rng_names.proofs.Views.{choice_is}
+use Rattle.rng_names.proofs.ClassChoices.{longest-members, longest_among}
+use Rattle.rng_names.proofs.NameViews.{choice_is}
 use Rattle.rng_names.proofs.written.+longest.Goals as goal
 
 pub returns-after-members : goal.returns-after-members

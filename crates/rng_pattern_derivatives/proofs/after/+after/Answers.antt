@@ -25,18 +25,18 @@ use Rattle.rng_pattern_derivatives.specs.declared.way.Kind.TheVariants as kinds
 use Rattle.rng_pattern_derivatives.specs.plain.Ways.{AreInside}
 use Rattle.rng_pattern_derivatives.specs.declared.way.First.TheVariants as firsts
 use Rattle.rng_pattern_derivatives.specs.declared.way.Place.TheVariants as places
-use Rattle.rng_pattern_derivatives.specs.declared.way.Way as numbered
-use Rattle.rng_pattern_derivatives.proofs.Behind.{leaf_leaves, leaf_leaves_none, leaf_not_taken, leaf_taken, left_behind}
-use Rattle.rng_pattern_derivatives.proofs.Closings.{both_ok}
-use Rattle.rng_pattern_derivatives.proofs.KnownTypes.{allowed_there, equal_there}
+use Rattle.rng_pattern_derivatives.specs.declared.way.LeafWay as numbered
+use Rattle.rng_pattern_derivatives.proofs.RestsOfWays.{leaf_leaves, leaf_leaves_none, leaf_not_taken, leaf_taken, left_behind}
+use Rattle.rng_pattern_derivatives.proofs.ClosedTags.{both_ok}
+use Rattle.rng_pattern_derivatives.proofs.KnownDatatypes.{allowed_there, equal_there}
 use Rattle.rng_pattern_derivatives.proofs.KnownWays.{all_longer}
-use Rattle.rng_pattern_derivatives.proofs.Nodes.{is_over, parts_there}
-use Rattle.rng_pattern_derivatives.proofs.Pieces.{either_blank, either_none, either_true, list_told, one_piece_more, value_told}
-use Rattle.rng_pattern_derivatives.proofs.Rows.{decides_holds}
-use Rattle.rng_pattern_derivatives.proofs.Starts.{ready_longer}
+use Rattle.rng_pattern_derivatives.proofs.PatternNodes.{is_over, parts_there}
+use Rattle.rng_pattern_derivatives.proofs.ListPieces.{either_blank, either_none, either_true, list_told, one_piece_more, value_told}
+use Rattle.rng_pattern_derivatives.proofs.GrammarRows.{decides_holds}
+use Rattle.rng_pattern_derivatives.proofs.StartBodies.{ready_longer}
 use Rattle.rng_pattern_derivatives.proofs.WaysOfLeaves.{is_leaf}
-use Rattle.rng_pattern_derivatives.proofs.Telling.{no_attribute_found, no_data_found, tells_of_attribute, tells_of_data, tells_of_except, tells_of_list, tells_of_no_attribute}
-use Rattle.rng_pattern_derivatives.proofs.Telling.{tells_of_no_leaf, tells_of_no_string, tells_of_none, tells_of_other_name, tells_of_text, tells_of_value}
+use Rattle.rng_pattern_derivatives.proofs.LeafKinds.{no_attribute_found, no_data_found, tells_of_attribute, tells_of_data, tells_of_except, tells_of_list, tells_of_no_attribute}
+use Rattle.rng_pattern_derivatives.proofs.LeafKinds.{tells_of_no_leaf, tells_of_no_string, tells_of_none, tells_of_other_name, tells_of_text, tells_of_value}
 use Rattle.rng_pattern_derivatives.proofs.after.+after.Goals as goal
 use Rattle.rng_pattern_derivatives.proofs.after.+after.Goals.{rests-then-branch+in_ok-push, rests-else-branch}
 
@@ -87,7 +87,7 @@ after_ways-returns-clause-left t c =
     let n2 = c.rests.new.table in
     let slice : List PatternNumber = c.as_slice-2.result.now in
     let some = subst (λ (rs : List PatternNumber). AreRests t0 n1 n2 c.args.first c.in_ok-ways.ways.items rs) (sym c.as_slice-2.ensures)
-    (subst (λ (ws : List numbered.Way). AreRests t0 n1 n2 c.args.first ws c.in_ok-rests.rests.items) c.as_slice.ensures c.in_ok-rests.ensures.rests) in
+    (subst (λ (ws : List numbered.LeafWay). AreRests t0 n1 n2 c.args.first ws c.in_ok-rests.rests.items) c.as_slice.ensures c.in_ok-rests.ensures.rests) in
     if_ok c.choice.result _ _ (λ n h. left_behind t0 old n1 n2 c.choice.new.self c.args.first c.args.number n c.in_ok-ways.ways.items slice
     c.in_ok-ways.ensures.ways some h.0 (h.1.0 t0) (h.1.1 t0 (reading_of t0)))
     (both_ok c.choice.result _ _ c.choice.ensures.inside (both_ok c.choice.result _ _ c.choice.ensures.alternatives c.choice.ensures.matches))
@@ -241,7 +241,7 @@ list_takes-returns-clause-taken t c =
 pub rests-takes-requires : goal.rests-takes-requires
 rests-takes-requires t c =
     let d = c.decreases in
-    let d0 : numbered.Way = record { leaf = record { 0 = 0 }; rest = record { 0 = 0 } } in
+    let d0 : numbered.LeafWay = record { leaf = record { 0 = 0 }; rest = record { 0 = 0 } } in
     let there = (c.requires.inside c.ways.way-index d0 c.ways-test.true).0 in
     let long = Longer-length c.args.table.now c.ways.table c.ways.invariant.longer in (
       omega (arith, d),
@@ -259,9 +259,9 @@ rests-ways-preserved t c =
     let t0 = c.args.grammar.now in
     let old = c.args.table.now in
     let new = c.takes.new.table in
-    let ws : List numbered.Way = c.args.ways.now in
+    let ws : List numbered.LeafWay = c.args.ways.now in
     let i = c.ways.way-index in
-    let d : numbered.Way = record { leaf = record { 0 = 0 }; rest = record { 0 = 0 } } in
+    let d : numbered.LeafWay = record { leaf = record { 0 = 0 }; rest = record { 0 = 0 } } in
     let inv = c.ways.invariant in
     let next : i + 1 ≡ suc i = omega arith in
     let cut : take (i + 1) ws ≡ take i ws ++ get_or ws i d ∷ [] = ap (λ k. take k ws) next ∙ take-suc ws i d c.ways-test.true in
@@ -269,7 +269,7 @@ rests-ways-preserved t c =
     record {
       longer = Longer-trans old c.ways.table new inv.longer c.in_ok-takes.ensures.longer;
       known = c.in_ok-takes.ensures.known;
-      rests = subst (λ (vs : List numbered.Way). AreRests t0 old new c.args.first vs c.if-branch.rests.items) (sym cut) (elim c.if-branch.branch [
+      rests = subst (λ (vs : List numbered.LeafWay). AreRests t0 old new c.args.first vs c.if-branch.rests.items) (sym cut) (elim c.if-branch.branch [
         | rests-then-branch+in_ok-push w ↦ leaf_leaves t0 old c.ways.table new c.args.first (take i ws) (get_or ws i d) c.ways.rests.items inv.longer
             c.in_ok-takes.ensures.longer inside inv.rests c.in_ok-takes.field-0 c.if-branch.rests.items
             w.if-branch.true (search rules) c.in_ok-takes.ensures.taken

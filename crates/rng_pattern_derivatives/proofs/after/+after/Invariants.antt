@@ -9,8 +9,8 @@ use Rattle.rng_pattern_derivatives.specs.plain.Kinds.{Obeys}
 use Rattle.rng_model.specs.matching.GrammarReading.{reading_of}
 use Rattle.rng_pattern_derivatives.specs.declared.way.First.TheVariants as firsts
 use Rattle.rng_pattern_derivatives.specs.declared.way.Place.TheVariants as places
-use Rattle.rng_pattern_derivatives.proofs.Behind.{rank}
-use Rattle.rng_pattern_derivatives.proofs.Pieces.{texts_in}
+use Rattle.rng_pattern_derivatives.proofs.RestsOfWays.{rank}
+use Rattle.rng_pattern_derivatives.proofs.ListPieces.{texts_in}
 use Rattle.rng_pattern_derivatives.proofs.after.+after.Given as goal
 
 abbrev pub decreases-after : goal.decreases-after

@@ -1,9 +1,9 @@
 use Rattle.std.proofs.Common.{rules}
 use Rattle.rng_pattern_table.proofs.Choices.{if_ok}
-use Rattle.rng_pattern_derivatives.proofs.Closings.{both_ok}
+use Rattle.rng_pattern_derivatives.proofs.ClosedTags.{both_ok}
 use Rattle.rng_pattern_derivatives.proofs.KnownWays.{all_longer}
-use Rattle.rng_pattern_derivatives.proofs.Starts.{ready_longer}
-use Rattle.rng_pattern_derivatives.proofs.Tags.{one_behind_more, tag_behind}
+use Rattle.rng_pattern_derivatives.proofs.StartBodies.{ready_longer}
+use Rattle.rng_pattern_derivatives.proofs.TagAttributes.{one_behind_more, tag_behind}
 use Rattle.rng_pattern_derivatives.proofs.after.after_tag.Goals as goal
 
 pub after-requires-clause-ready : goal.after-requires-clause-ready

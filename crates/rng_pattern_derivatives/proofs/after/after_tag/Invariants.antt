@@ -1,6 +1,6 @@
 use Rattle.std.proofs.Common.{drop}
 use Rattle.rng_pattern_derivatives.specs.views.KnownWays.{AreAllKnown}
-use Rattle.rng_pattern_derivatives.proofs.Tags.{IsBehindSome}
+use Rattle.rng_pattern_derivatives.proofs.TagAttributes.{IsBehindSome}
 use Rattle.rng_pattern_derivatives.proofs.after.after_tag.Given as goal
 
 abbrev pub invariant-attrs : goal.invariant-attrs

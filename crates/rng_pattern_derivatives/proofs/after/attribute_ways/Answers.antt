@@ -7,7 +7,7 @@ use Rattle.rng_pattern_derivatives.specs.plain.Takers.{AreSpansOf, IsTold}
 use Rattle.rng_pattern_derivatives.specs.plain.Ways.{AreWaysOf}
 use Rattle.rng_pattern_derivatives.specs.declared.way.Kind.TheVariants as kinds
 use Rattle.rng_pattern_derivatives.proofs.AttributeTakers.{spans_longer}
-use Rattle.rng_pattern_derivatives.proofs.Closings.{both_ok}
+use Rattle.rng_pattern_derivatives.proofs.ClosedTags.{both_ok}
 use Rattle.rng_pattern_derivatives.proofs.KnownWays.{all_longer, by_key_changed, same_attributes}
 use Rattle.rng_pattern_derivatives.proofs.LikeAttributes.{ways_alike}
 use Rattle.rng_pattern_derivatives.proofs.after.attribute_ways.Goals as goal

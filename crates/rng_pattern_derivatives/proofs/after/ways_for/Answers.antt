@@ -3,11 +3,11 @@ use Rattle.rng_pattern_table.proofs.Choices.{if_ok}
 use Rattle.rng_pattern_table.specs.views.Trees.{tree_of}
 use Rattle.rng_pattern_derivatives.specs.plain.After.{AreWaysFor}
 use Rattle.rng_pattern_derivatives.specs.views.KnownWays.{IsAttributeKind, IsElementKind}
-use Rattle.rng_pattern_derivatives.proofs.Closings.{both_ok}
+use Rattle.rng_pattern_derivatives.proofs.ClosedTags.{both_ok}
 use Rattle.rng_pattern_derivatives.proofs.AttributeTakers.{spans_longer}
 use Rattle.rng_pattern_derivatives.proofs.KnownRests.{rests_longer}
 use Rattle.rng_pattern_derivatives.proofs.KnownWays.{by_key_longer}
-use Rattle.rng_pattern_derivatives.proofs.Behind.{ways_for_attribute, ways_for_text}
+use Rattle.rng_pattern_derivatives.proofs.RestsOfWays.{ways_for_attribute, ways_for_text}
 use Rattle.rng_pattern_derivatives.proofs.after.ways_for.Goals as goal
 
 pub returns-in-Text-clause-ways : goal.returns-in-Text-clause-ways

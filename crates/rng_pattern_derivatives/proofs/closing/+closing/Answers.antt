@@ -8,7 +8,7 @@ use Rattle.rng_model.specs.matching.Reading.{Reading}
 use Rattle.rng_deriv_laws.specs.plain.Taking.{Takes}
 use Rattle.rng_deriv_laws.specs.plain.Restricted.{HasTexts, MayBeListed}
 use Rattle.rng_deriv_laws.specs.plain.Derivatives.{closed}
-use Rattle.rng_deriv_laws.proofs.FreeForms.{choice_all}
+use Rattle.rng_deriv_laws.proofs.SameWays.{choice_all}
 use Rattle.rng_pattern_table.specs.plain.Reduced.{has_attribute}
 use Rattle.rng_pattern_table.specs.views.Choices.{SomeTakes}
 use Rattle.rng_pattern_table.specs.views.Trees.{choice_over, tree_of}
@@ -17,11 +17,11 @@ use Rattle.rng_pattern_table.specs.declared.pattern.PatternNumber.{PatternNumber
 use Rattle.rng_pattern_table.proofs.Choices.{if_ok}
 use Rattle.rng_pattern_table.proofs.Trees.{Longer-length, Longer-trans}
 use Rattle.rng_pattern_derivatives.specs.plain.Closing.{IsBareOfAttributes}
-use Rattle.rng_pattern_derivatives.proofs.Bareness.{bare_there, closed_same}
+use Rattle.rng_pattern_derivatives.proofs.PatternsWithoutAttributes.{bare_there, closed_same}
 use Rattle.rng_pattern_derivatives.specs.declared.way.Joint.TheVariants as joints
-use Rattle.rng_pattern_derivatives.proofs.Closings.{both_closed, both_ok, choice_closed, copies_closed, inside_more, none_closed, takes_more, bare_more}
+use Rattle.rng_pattern_derivatives.proofs.ClosedTags.{both_closed, both_ok, choice_closed, copies_closed, inside_more, none_closed, takes_more, bare_more}
 use Rattle.rng_pattern_derivatives.proofs.KnownRests.{rests_longer, rests_more}
-use Rattle.rng_pattern_derivatives.proofs.Nodes.{is_over, other_single, parts_there, single_alone}
+use Rattle.rng_pattern_derivatives.proofs.PatternNodes.{is_over, other_single, parts_there, single_alone}
 use Rattle.rng_pattern_derivatives.proofs.closing.+closing.Goals as goal
 
 pub close-returns-then-not-facts-clause-closed : goal.close-returns-then-not-facts-clause-closed

@@ -5,7 +5,7 @@ use Rattle.rng_model.specs.matching.Reading.{Reading}
 use Rattle.rng_deriv_laws.specs.plain.Taking.{Takes}
 use Rattle.rng_deriv_laws.specs.plain.Restricted.{HasTexts, MayBeListed}
 use Rattle.rng_deriv_laws.specs.plain.Derivatives.{closed}
-use Rattle.rng_deriv_laws.proofs.FreeForms.{choice_all}
+use Rattle.rng_deriv_laws.proofs.SameWays.{choice_all}
 use Rattle.rng_pattern_table.specs.views.Choices.{SomeTakes}
 use Rattle.rng_pattern_table.specs.views.PatternTable.{Longer}
 use Rattle.rng_pattern_table.specs.views.Trees.{tree_of}

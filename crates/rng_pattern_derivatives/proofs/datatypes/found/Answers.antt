@@ -1,6 +1,6 @@
 use Rattle.std.proofs.Common.{sym}
 use Rattle.rng_types.specs.views.View.{datatype_at}
-use Rattle.rng_pattern_derivatives.proofs.KnownTypes.{no_type, type_is}
+use Rattle.rng_pattern_derivatives.proofs.KnownDatatypes.{no_type, type_is}
 use Rattle.rng_pattern_derivatives.proofs.datatypes.found.Goals as goal
 
 pub returns-in-Ok : goal.returns-in-Ok

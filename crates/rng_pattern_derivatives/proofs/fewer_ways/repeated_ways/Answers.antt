@@ -1,8 +1,8 @@
 use Rattle.std.proofs.Common.{◌≡◌, ◌∙◌, ◌++◌, ◌∷◌, [], List, get_or, rules, subst, sym, take, true, false, ◌+◌}
 use Rattle.rng_pattern_derivatives.specs.plain.FewerWays.{AreRepeated}
-use Rattle.rng_pattern_derivatives.specs.declared.way.Way.{Way}
+use Rattle.rng_pattern_derivatives.specs.declared.way.LeafWay.{LeafWay}
 use Rattle.rng_pattern_derivatives.proofs.FewerWays.{one_dropped, one_repeated}
-use Rattle.rng_pattern_derivatives.proofs.Joining.{one_more_taken, way_to}
+use Rattle.rng_pattern_derivatives.proofs.JoinedWays.{one_more_taken, way_to}
 use Rattle.rng_pattern_derivatives.proofs.fewer_ways.repeated_ways.Goals as goal
 use Rattle.rng_pattern_derivatives.proofs.fewer_ways.repeated_ways.Goals.{then-facts+in_ok-push, else-facts}
 
@@ -12,10 +12,10 @@ not_both e = cc
 pub copies-preserved : goal.copies-preserved
 copies-preserved c =
     let ns = c.args.table.now in
-    let ways : List Way = c.args.copies.now in
+    let ways : List LeafWay = c.args.copies.now in
     let i = c.copies.copy-index in
     let none = way_to (record { 0 = 0 }) (record { 0 = 0 }) in
-    let way : Way = get_or ways i none in
+    let way : LeafWay = get_or ways i none in
     let all = c.copies.all.items in
     let more = c.args.more in
     let next = one_more_taken ways i none c.copies-test.true in

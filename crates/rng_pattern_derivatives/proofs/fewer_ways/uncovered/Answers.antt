@@ -1,19 +1,19 @@
 use Rattle.std.proofs.Common.{◌≡◌, ◌++◌, ◌∷◌, [], List, IsTrue, get_or, rules, subst, sym, take, true, ◌+◌}
 use Rattle.std.proofs.lemmas.Bool.{not-false}
 use Rattle.rng_pattern_derivatives.specs.plain.FewerWays.{AreUncovered}
-use Rattle.rng_pattern_derivatives.specs.declared.way.Way.{Way}
+use Rattle.rng_pattern_derivatives.specs.declared.way.LeafWay.{LeafWay}
 use Rattle.rng_pattern_derivatives.proofs.FewerWays.{one_covered, one_left}
-use Rattle.rng_pattern_derivatives.proofs.Joining.{one_more_taken, way_to}
+use Rattle.rng_pattern_derivatives.proofs.JoinedWays.{one_more_taken, way_to}
 use Rattle.rng_pattern_derivatives.proofs.fewer_ways.uncovered.Goals as goal
 use Rattle.rng_pattern_derivatives.proofs.fewer_ways.uncovered.Goals.{then-not-is_covered+in_ok-push, else-not-is_covered}
 
 pub seconds-preserved : goal.seconds-preserved
 seconds-preserved c =
     let ns = c.args.table.now in
-    let ways : List Way = c.as_slice-way-items.result.now in
+    let ways : List LeafWay = c.as_slice-way-items.result.now in
     let i = c.seconds.way-index in
     let none = way_to (record { 0 = 0 }) (record { 0 = 0 }) in
-    let way : Way = get_or ways i none in
+    let way : LeafWay = get_or ways i none in
     let left = c.seconds.left.items in
     let firsts = c.args.firsts.now in
     let next = one_more_taken ways i none c.seconds-test.true in

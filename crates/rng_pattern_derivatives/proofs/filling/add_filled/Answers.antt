@@ -5,9 +5,9 @@ use Rattle.rng_model.specs.simple.Table.{Table}
 use Rattle.rng_pattern_table.specs.views.Trees.{tree_of}
 use Rattle.rng_pattern_table.proofs.Trees.{Longer-trans}
 use Rattle.rng_pattern_derivatives.specs.plain.Ways.{filled, ways_by}
-use Rattle.rng_pattern_derivatives.specs.declared.way.Way as numbered
-use Rattle.rng_pattern_derivatives.proofs.Adding.{filled_more, filled_stays}
-use Rattle.rng_pattern_derivatives.proofs.Standing.{stands_as, stands_longer, stands_then}
+use Rattle.rng_pattern_derivatives.specs.declared.way.LeafWay as numbered
+use Rattle.rng_pattern_derivatives.proofs.AddedWays.{filled_more, filled_stays}
+use Rattle.rng_pattern_derivatives.proofs.NumberedWays.{stands_as, stands_longer, stands_then}
 use Rattle.rng_pattern_derivatives.proofs.filling.add_filled.Goals as goal
 
 pub ways-preserved : goal.ways-preserved
@@ -15,7 +15,7 @@ ways-preserved c =
     let first = c.args.table.now in
     let base = c.fill.new.table in
     let new = c.add_way.new.table in
-    let ways : List numbered.Way = c.args.ways.now in
+    let ways : List numbered.LeafWay = c.args.ways.now in
     let i = c.ways.way-index in
     let longer = Longer-trans first c.ways.table base c.ways.invariant.longer c.in_ok-rest.ensures.longer in
     let own = c.requires.ways i _ c.ways-test.true in

@@ -2,7 +2,7 @@ use Rattle.std.proofs.Common.{arith, length, ◌≡◌, ◌++◌, ◌∷◌, [],
 use Rattle.rng_pattern_table.specs.views.Trees.{tree_of}
 use Rattle.rng_pattern_table.proofs.Taking.{choice_of_two}
 use Rattle.rng_pattern_derivatives.specs.plain.Ways.{AreInside, StandFor, ways_by}
-use Rattle.rng_pattern_derivatives.proofs.Adding.{back_inside, joined_stands, nowhere_stands, two_below}
+use Rattle.rng_pattern_derivatives.proofs.AddedWays.{back_inside, joined_stands, nowhere_stands, two_below}
 use Rattle.rng_pattern_derivatives.proofs.filling.add_way.Goals as goal
 
 pub returns-then-is_not_allowed-clause-ways : goal.returns-then-is_not_allowed-clause-ways

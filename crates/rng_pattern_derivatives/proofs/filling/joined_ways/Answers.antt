@@ -1,8 +1,8 @@
 use Rattle.std.proofs.Common.{◌+◌, List, get_or, refl, subst, sym}
 use Rattle.std.proofs.lemmas.List.Elements.{Contains-get_or}
 use Rattle.rng_pattern_derivatives.specs.plain.Ways.{AreRestsBehind}
-use Rattle.rng_pattern_derivatives.specs.declared.way.Way.{Way}
-use Rattle.rng_pattern_derivatives.proofs.Joining.{AreJoined, join_made, joined_stand, one_joined, rests_inside, way_to}
+use Rattle.rng_pattern_derivatives.specs.declared.way.LeafWay.{LeafWay}
+use Rattle.rng_pattern_derivatives.proofs.JoinedWays.{AreJoined, join_made, joined_stand, one_joined, rests_inside, way_to}
 use Rattle.rng_pattern_derivatives.proofs.filling.joined_ways.Goals as goal
 
 pub choice-requires : goal.choice-requires
@@ -14,10 +14,10 @@ choice-requires c = λ k d h.
 pub ways-preserved : goal.ways-preserved
 ways-preserved c =
     let old = c.args.table.now in
-    let ways : List Way = c.args.ways.now in
+    let ways : List LeafWay = c.args.ways.now in
     let i = c.ways.way-index in
     let none = way_to (record { 0 = 0 }) (record { 0 = 0 }) in
-    let way : Way = get_or ways i none in
+    let way : LeafWay = get_or ways i none in
     let slice = c.as_slice-in-ways.result.now in
     let rest = c.in_ok-rest.rest in
     let behind = subst (AreRestsBehind ways way.leaf) (sym c.as_slice-in-ways.ensures) c.in_ok-rests.ensures in

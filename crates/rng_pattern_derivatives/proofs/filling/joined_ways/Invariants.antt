@@ -1,4 +1,4 @@
-use Rattle.rng_pattern_derivatives.proofs.Joining.{AreJoined}
+use Rattle.rng_pattern_derivatives.proofs.JoinedWays.{AreJoined}
 use Rattle.rng_pattern_derivatives.proofs.filling.joined_ways.Given as goal
 
 abbrev pub invariant-ways : goal.invariant-ways

@@ -1,18 +1,18 @@
 use Rattle.std.proofs.Common.{◌≡◌, ◌++◌, ◌∷◌, [], List, get_or, rules, subst, sym, take, ◌+◌}
 use Rattle.std.proofs.lemmas.List.{take_all}
 use Rattle.rng_pattern_derivatives.specs.plain.Ways.{AreRestsBehind}
-use Rattle.rng_pattern_derivatives.specs.declared.way.Way.{Way}
-use Rattle.rng_pattern_derivatives.proofs.Joining.{none_behind, one_behind, one_more_taken, way_to}
+use Rattle.rng_pattern_derivatives.specs.declared.way.LeafWay.{LeafWay}
+use Rattle.rng_pattern_derivatives.proofs.JoinedWays.{none_behind, one_behind, one_more_taken, way_to}
 use Rattle.rng_pattern_derivatives.proofs.filling.rests_behind.Goals as goal
 use Rattle.rng_pattern_derivatives.proofs.filling.rests_behind.Goals.{then-eq+in_ok-push, else-eq}
 
 pub ways-preserved : goal.ways-preserved
 ways-preserved c =
-    let ways : List Way = c.args.ways.now in
+    let ways : List LeafWay = c.args.ways.now in
     let i = c.ways.way-index in
     let leaf = c.args.leaf in
     let none = way_to (record { 0 = 0 }) (record { 0 = 0 }) in
-    let way : Way = get_or ways i none in
+    let way : LeafWay = get_or ways i none in
     let rests = c.ways.rests.items in
     let next = one_more_taken ways i none c.ways-test.true in
     elim c.if-eq.branch [

@@ -5,7 +5,7 @@ use Rattle.rng_pattern_table.specs.views.Trees.{attribute_found}
 use Rattle.rng_model.specs.matching.GrammarReading.{reading_of}
 use Rattle.rng_pattern_derivatives.specs.plain.Kinds.{takes_kind}
 use Rattle.rng_pattern_derivatives.specs.declared.way.Kind.TheVariants as kinds
-use Rattle.rng_pattern_derivatives.proofs.Rows.{decides_holds}
+use Rattle.rng_pattern_derivatives.proofs.GrammarRows.{decides_holds}
 use Rattle.rng_pattern_derivatives.proofs.leaves.attribute_takes.Goals as goal
 
 pub returns-in-Some-Attribute : goal.returns-in-Some-Attribute

@@ -3,7 +3,7 @@ use Rattle.rng_model.specs.simple.Tree.{s_leaf}
 use Rattle.rng_model.specs.names.NameViews.{class_of, name_of}
 use Rattle.rng_model.specs.matching.GrammarReading.{reading_of}
 use Rattle.rng_pattern_derivatives.specs.plain.Kinds.{takes_kind}
-use Rattle.rng_pattern_derivatives.proofs.Rows.{class_there, decides_holds, no_class_there}
+use Rattle.rng_pattern_derivatives.proofs.GrammarRows.{class_there, decides_holds, no_class_there}
 use Rattle.rng_pattern_derivatives.proofs.leaves.element_takes.Goals as goal
 
 pub returns-in-Some : goal.returns-in-Some

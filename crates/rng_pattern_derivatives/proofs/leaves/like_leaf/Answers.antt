@@ -3,7 +3,7 @@ use Rattle.std.proofs.lemmas.Option.{slice_get-get_or}
 use Rattle.rng_model.specs.declared.simple.ElementId.{ElementId}
 use Rattle.rng_pattern_table.proofs.Choices.{if_ok}
 use Rattle.rng_pattern_derivatives.specs.plain.Takers.{AreCandidates}
-use Rattle.rng_pattern_derivatives.proofs.Nodes.{is_over}
+use Rattle.rng_pattern_derivatives.proofs.PatternNodes.{is_over}
 use Rattle.rng_pattern_derivatives.proofs.leaves.like_leaf.Goals as goal
 
 pub returns-in-Some-clause-leaf : goal.returns-in-Some-clause-leaf

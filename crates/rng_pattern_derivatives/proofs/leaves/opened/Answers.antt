@@ -1,5 +1,5 @@
 use Rattle.std.proofs.Common.{arith}
-use Rattle.rng_pattern_derivatives.proofs.Nodes.{is_over, parts_there}
+use Rattle.rng_pattern_derivatives.proofs.PatternNodes.{is_over, parts_there}
 use Rattle.rng_pattern_derivatives.proofs.leaves.opened.Goals as goal
 
 pub facts-requires : goal.facts-requires

@@ -4,7 +4,7 @@ use Rattle.rng_pattern_table.specs.views.Trees.{tree_of}
 use Rattle.rng_pattern_table.proofs.Choices.{if_ok}
 use Rattle.rng_model.specs.simple.Tree.{s_empty}
 use Rattle.rng_pattern_derivatives.specs.plain.Kinds.{rest_of_leaf}
-use Rattle.rng_pattern_derivatives.proofs.Nodes.{is_over, rest_is_empty}
+use Rattle.rng_pattern_derivatives.proofs.PatternNodes.{is_over, rest_is_empty}
 use Rattle.rng_pattern_derivatives.proofs.leaves.rest_of_leaf.Goals as goal
 
 pub returns-in-Text-clause-tree : goal.returns-in-Text-clause-tree

@@ -1,7 +1,7 @@
 use Rattle.std.proofs.Common.{refl, ◌∙◌, sym, ap, slice_get}
 use Rattle.rng_model.specs.matching.GrammarReading.{reading_of}
 use Rattle.rng_pattern_derivatives.specs.plain.Kinds.{takes_kind}
-use Rattle.rng_pattern_derivatives.proofs.Nodes.{found_string, is_over, other_compound, string_kind, takes_nothing}
+use Rattle.rng_pattern_derivatives.proofs.PatternNodes.{found_string, is_over, other_compound, string_kind, takes_nothing}
 use Rattle.rng_pattern_derivatives.proofs.leaves.takes_kind.Goals as goal
 
 pub returns-in-Text : goal.returns-in-Text

@@ -4,11 +4,11 @@ use Rattle.rng_pattern_table.proofs.Trees.{Longer-length, tree_stays}
 use Rattle.rng_pattern_derivatives.specs.plain.Alike.{AreLikeLeaves}
 use Rattle.rng_model.specs.matching.GrammarReading.{reading_of}
 use Rattle.rng_pattern_derivatives.specs.plain.Ways.{AreKept, AreWays, AreWaysOf, ways_by}
-use Rattle.rng_pattern_derivatives.specs.declared.way.Way as numbered
+use Rattle.rng_pattern_derivatives.specs.declared.way.LeafWay as numbered
 use Rattle.rng_pattern_derivatives.proofs.AttributeTakers.{candidates_longer}
 use Rattle.rng_pattern_derivatives.proofs.LikeLeaves.{like_kept, like_law, like_way}
 use Rattle.rng_pattern_derivatives.proofs.WaysOfLeaves.{no_law}
-use Rattle.rng_pattern_derivatives.proofs.Adding.{one_inside}
+use Rattle.rng_pattern_derivatives.proofs.AddedWays.{one_inside}
 use Rattle.rng_pattern_derivatives.proofs.leaves.ways_of_leaf.Goals as goal
 
 pub returns-then-not-takes_kind-clause-ways : goal.returns-then-not-takes_kind-clause-ways
@@ -30,7 +30,7 @@ returns-clause-ways c =
     let new = c.like_leaf.new.table in
     let p = tree_of t old c.args.number.0 in
     let q = tree_of t new c.in_ok-leaf.leaf.0 in
-    let way : numbered.Way = record { leaf = c.in_ok-leaf.leaf; rest = c.in_ok-rest.rest } in
+    let way : numbered.LeafWay = record { leaf = c.in_ok-leaf.leaf; rest = c.in_ok-rest.rest } in
     let e : c.push.new.self.items ≡ way ∷ [] = c.in_ok-push.ensures.ok ∙ ap (λ ws. ws ++ way ∷ []) c.new-ways.ensures.items in
     let rest = c.in_ok-rest.ensures.tree in
     let is : ways_by (tree_of t new) (way ∷ []) ≡ like_way p q ∷ [] =

@@ -5,7 +5,7 @@ use Rattle.rng_pattern_table.specs.declared.pattern.PatternNumber.{PatternNumber
 use Rattle.rng_pattern_table.proofs.KnownFacts.{of_members, one_within}
 use Rattle.rng_pattern_derivatives.specs.plain.Takers.{HasAttribute, IsSpanOf}
 use Rattle.rng_pattern_derivatives.proofs.AttributeTakers.{other_none}
-use Rattle.rng_pattern_derivatives.proofs.Nodes.{is_over, parts_there}
+use Rattle.rng_pattern_derivatives.proofs.PatternNodes.{is_over, parts_there}
 use Rattle.rng_pattern_derivatives.proofs.spans.span_of.Goals as goal
 
 pub span_of_members-requires : goal.span_of_members-requires

@@ -1,5 +1,5 @@
 use Rattle.rng_model.specs.names.NameViews.{name_of}
-use Rattle.rng_pattern_derivatives.proofs.Starts.{no_body_more, one_body_more}
+use Rattle.rng_pattern_derivatives.proofs.StartBodies.{no_body_more, one_body_more}
 use Rattle.rng_pattern_derivatives.proofs.starting.add_starts.Goals as goal
 
 pub ways-preserved-in_default : goal.ways-preserved-in_default

@@ -7,9 +7,9 @@ use Rattle.rng_pattern_table.specs.views.Trees.{tree_of}
 use Rattle.rng_pattern_table.specs.declared.pattern.PatternNumber.{PatternNumber}
 use Rattle.rng_model.specs.matching.GrammarReading.{reading_of}
 use Rattle.rng_pattern_derivatives.specs.plain.Starting.{IsRestrictedBodyNamed}
-use Rattle.rng_pattern_derivatives.proofs.Nodes.{is_over}
-use Rattle.rng_pattern_derivatives.proofs.Rows.{body_there, no_class_there}
-use Rattle.rng_pattern_derivatives.proofs.Starts.{body_inside, leaf_not_started, leaf_started, other_not_started}
+use Rattle.rng_pattern_derivatives.proofs.PatternNodes.{is_over}
+use Rattle.rng_pattern_derivatives.proofs.GrammarRows.{body_there, no_class_there}
+use Rattle.rng_pattern_derivatives.proofs.StartBodies.{body_inside, leaf_not_started, leaf_started, other_not_started}
 use Rattle.rng_pattern_derivatives.proofs.starting.body.Goals as goal
 
 pub returns-in_default : goal.returns-in_default

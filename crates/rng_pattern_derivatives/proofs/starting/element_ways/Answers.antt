@@ -3,7 +3,7 @@ use Rattle.rng_model.specs.names.NameViews.{name_of}
 use Rattle.rng_pattern_table.proofs.Choices.{if_ok}
 use Rattle.rng_pattern_derivatives.specs.views.KnownWays.{IsElementKind}
 use Rattle.rng_pattern_derivatives.specs.declared.way.Kind.TheVariants as kinds
-use Rattle.rng_pattern_derivatives.proofs.Closings.{both_ok}
+use Rattle.rng_pattern_derivatives.proofs.ClosedTags.{both_ok}
 use Rattle.rng_pattern_derivatives.proofs.KnownWays.{by_key_changed, same_elements}
 use Rattle.rng_pattern_derivatives.proofs.ElementTakers.{element_takers}
 use Rattle.rng_pattern_derivatives.proofs.starting.element_ways.Goals as goal

@@ -8,11 +8,11 @@ use Rattle.rng_pattern_derivatives.specs.plain.Ways.{AreInside}
 use Rattle.rng_pattern_derivatives.specs.views.KnownWays.{IsAttributeKind}
 use Rattle.rng_pattern_derivatives.specs.declared.way.Kind.TheVariants as kinds
 use Rattle.rng_pattern_derivatives.specs.declared.way.Place.TheVariants as places
-use Rattle.rng_pattern_derivatives.specs.declared.way.Way as numbered
+use Rattle.rng_pattern_derivatives.specs.declared.way.LeafWay as numbered
 use Rattle.rng_pattern_derivatives.proofs.AttributeTakers.{spans_longer}
 use Rattle.rng_pattern_derivatives.proofs.KnownRests.{rests_longer}
 use Rattle.rng_pattern_derivatives.proofs.KnownWays.{by_key_longer, element_kept, element_law, known_longer}
-use Rattle.rng_pattern_derivatives.proofs.Starts.{ready_longer, starts_made}
+use Rattle.rng_pattern_derivatives.proofs.StartBodies.{ready_longer, starts_made}
 use Rattle.rng_pattern_derivatives.proofs.starting.start.Goals as goal
 
 pub element_ways-requires-clause-takers : goal.element_ways-requires-clause-takers
@@ -39,7 +39,7 @@ returns-clause-starts c =
     starts_made t new c.args.numbers.now p q c.in_ok-ways.ways.items c.add_starts.new.starts.items
     (element_law t new q p c.in_ok-ways.ways.items told.0 told.1 told.2)
     (λ o. element_kept t new q p c.in_ok-ways.ways.items told.0 told.1 told.2 places.Content o)
-    (subst (λ (ws : List numbered.Way). AreBodies t new c.args.numbers.now q ws c.add_starts.new.starts.items)
+    (subst (λ (ws : List numbered.LeafWay). AreBodies t new c.args.numbers.now q ws c.add_starts.new.starts.items)
     c.as_slice-2.ensures (subst (λ q. AreBodies t new c.args.numbers.now q c.as_slice-2.result.now c.add_starts.new.starts.items) c.name-name.ensures.name
     c.in_ok-add_starts.ensures.starts))
 

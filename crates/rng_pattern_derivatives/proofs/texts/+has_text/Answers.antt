@@ -6,7 +6,7 @@ use Rattle.rng_model.specs.declared.datatype.DatatypeValue.{DatatypeValue}
 use Rattle.rng_deriv_laws.specs.plain.Derivatives.{is_excepted}
 use Rattle.rng_pattern_derivatives.specs.views.Datatypes.{type_at}
 use Rattle.rng_model.specs.matching.GrammarReading.{reading_of}
-use Rattle.rng_pattern_derivatives.proofs.KnownTypes.{allowed_there, equal_there}
+use Rattle.rng_pattern_derivatives.proofs.KnownDatatypes.{allowed_there, equal_there}
 use Rattle.rng_pattern_derivatives.proofs.texts.+has_text.Goals as goal
 
 pub has_text-returns-in-Data-clause-text : goal.has_text-returns-in-Data-clause-text

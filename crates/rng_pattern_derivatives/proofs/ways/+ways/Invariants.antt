@@ -1,6 +1,6 @@
 use Rattle.std.proofs.Common.{◌+◌, ◌*◌, map, take}
 use Rattle.rng_model.specs.simple.Tree.{group, s_joined}
-use Rattle.rng_deriv_laws.proofs.FreeForms.{choice_all}
+use Rattle.rng_deriv_laws.proofs.SameWays.{choice_all}
 use Rattle.rng_pattern_table.specs.views.PatternTable.{Longer}
 use Rattle.rng_pattern_table.specs.views.Trees.{choice_over, tree_of}
 use Rattle.rng_pattern_derivatives.specs.plain.Kinds.{connector_of, weight}

@@ -1,7 +1,7 @@
 use Rattle.std.proofs.Common.{[], ◌∷◌, true, get_or, set, subst, sym, arith}
 use Rattle.std.proofs.lemmas.List.{map_more}
 use Rattle.rng_pattern_table.specs.plain.Selecting.{Marks}
-use Rattle.rng_pattern_table.proofs.Marking.{one_marked, then_marked}
+use Rattle.rng_pattern_table.proofs.MarkedNumbers.{one_marked, then_marked}
 use Rattle.rng_pattern_table.proofs.selecting.mark_all.Goals as goal
 
 pub loop-number-preserved : goal.loop-number-preserved

@@ -1,6 +1,6 @@
 use Rattle.std.proofs.Common.{◌≡◌, ◌∙◌, ◌++◌, ℕ, List, ap, arith}
 use Rattle.rng_print.proofs.ClassTexts.{choice_written}
-use Rattle.rng_print.proofs.Lookups.{on_ok}
+use Rattle.rng_print.proofs.ListLookups.{on_ok}
 use Rattle.rng_print.proofs.name_class.+write_class.Goals as goal
 
 -- what was written, and then what is written behind it

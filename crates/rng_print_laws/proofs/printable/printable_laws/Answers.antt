@@ -1,6 +1,6 @@
-use Rattle.rng_print_laws.proofs.Components.{loaded_spelled, files_printable}
-use Rattle.rng_print_laws.proofs.FileTrees.{schema_file_spelled}
-use Rattle.rng_print_laws.proofs.Forms.{grammar_printable}
+use Rattle.rng_print_laws.proofs.WellSpelledComponents.{loaded_spelled, files_printable}
+use Rattle.rng_print_laws.proofs.WellSpelledFileTrees.{schema_file_spelled}
+use Rattle.rng_print_laws.proofs.PrintableForms.{grammar_printable}
 use Rattle.rng_print_laws.proofs.printable.printable_laws.Goals as goal
 
 pub returns-clause-file : goal.returns-clause-file

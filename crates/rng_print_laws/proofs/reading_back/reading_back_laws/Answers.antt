@@ -1,4 +1,4 @@
-use Rattle.rng_print_laws.proofs.Datatypes.{known_named}
+use Rattle.rng_print_laws.proofs.NamedDatatypes.{known_named}
 use Rattle.rng_print_laws.proofs.ReadsBack.{printed_reads_back}
 use Rattle.rng_print_laws.proofs.reading_back.reading_back_laws.Goals as goal
 

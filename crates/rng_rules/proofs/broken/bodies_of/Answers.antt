@@ -1,5 +1,5 @@
 use Rattle.std.proofs.Common.{◌≡◌, ◌∷◌, ◌++◌, [], length, slice_get, Some, sym, ◌∙◌, ap, arith}
-use Rattle.rng_rules.proofs.Bodies.{bodies_more}
+use Rattle.rng_rules.proofs.GrammarBodies.{bodies_more}
 use Rattle.rng_rules.proofs.broken.bodies_of.Goals as goal
 
 pub elements-preserved : goal.elements-preserved

@@ -1,7 +1,7 @@
 use Rattle.std.proofs.Common.{◌∙◌, ap}
 use Rattle.rng_rules.specs.plain.Broken.{either_broken, start_broken}
 use Rattle.rng_rules.specs.plain.Facts.{facts_of}
-use Rattle.rng_rules.proofs.Bodies.{parts_more}
+use Rattle.rng_rules.proofs.GrammarBodies.{parts_more}
 use Rattle.rng_rules.proofs.FactsOver.{fact_at}
 use Rattle.rng_rules.proofs.broken.broken_by_parts.Goals as goal
 

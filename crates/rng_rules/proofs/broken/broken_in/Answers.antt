@@ -2,7 +2,7 @@ use Rattle.std.proofs.Common.{length, map, sym, ◌∙◌, ap, subst}
 use Rattle.rng_model.specs.simple.Table.{tree_at}
 use Rattle.rng_rules.specs.plain.Broken.{parts_broken}
 use Rattle.rng_rules.specs.plain.Facts.{HasFacts, facts_of}
-use Rattle.rng_rules.proofs.Bodies.{all_parts, bodies_within}
+use Rattle.rng_rules.proofs.GrammarBodies.{all_parts, bodies_within}
 use Rattle.rng_rules.proofs.broken.broken_in.Goals as goal
 
 pub broken_by_parts-requires-clause-bodies : goal.broken_by_parts-requires-clause-bodies

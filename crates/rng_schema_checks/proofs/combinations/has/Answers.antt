@@ -1,5 +1,5 @@
 use Rattle.std.proofs.Common.{◌∙◌}
-use Rattle.rng_schema_checks.proofs.KeptNames.{is_kept}
+use Rattle.rng_schema_checks.proofs.NameSets.{is_kept}
 use Rattle.rng_schema_checks.proofs.combinations.has.Goals as goal
 
 pub returns : goal.returns

@@ -1,7 +1,7 @@
 use Rattle.std.proofs.Common.{◌∙◌, ap, map, not, sym}
 use Rattle.std.proofs.lemmas.Bool.{not-true}
 use Rattle.rng_schema_checks.specs.plain.GrammarTests.{has, seen_name}
-use Rattle.rng_schema_checks.proofs.KeptNames.{is_kept, new_goes_last, one_more_kept}
+use Rattle.rng_schema_checks.proofs.NameSets.{is_kept, new_goes_last, one_more_kept}
 use Rattle.rng_schema_checks.proofs.combinations.note.Goals as goal
 
 pub returns-clause-new : goal.returns-clause-new

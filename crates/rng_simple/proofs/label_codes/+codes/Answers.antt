@@ -2,7 +2,7 @@ use Rattle.std.proofs.Common.{◌≡◌, ◌∷◌, ◌++◌, [], ap, sym, ◌�
 use Rattle.std.proofs.lemmas.List.{drop_all, drop_more}
 use Rattle.rng_model.specs.names.Names.{classes_of, some_of}
 use Rattle.rng_model.specs.names.NameViews.{class_of}
-use Rattle.rng_graph.proofs.Parts.{first_and_rest}
+use Rattle.rng_graph.proofs.ListParts.{first_and_rest}
 use Rattle.rng_simple.specs.plain.LabelCodes.{any_but, class_code, more_code, ns_but, part_of}
 use Rattle.rng_simple.proofs.LabelCodes.{any_except_code, ends, goes_on, ns_except_code, put_after, starts}
 use Rattle.rng_simple.proofs.label_codes.+codes.Goals as goal

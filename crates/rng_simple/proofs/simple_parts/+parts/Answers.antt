@@ -3,7 +3,7 @@ use Rattle.std.proofs.lemmas.Result.{IfOk-weaker}
 use Rattle.rng_model.specs.datatypes.DatatypeViews.{datatype_of}
 use Rattle.rng_model.specs.names.NameViews.{class_of}
 use Rattle.rng_graph.specs.views.GraphView.{graph_pattern_of}
-use Rattle.rng_graph.proofs.Views.{attribute_view, list_view, data_except_view, mixed_view, optional_view, zero_or_more_view, one_or_more_view}
+use Rattle.rng_graph.proofs.GraphPatternKinds.{attribute_view, list_view, data_except_view, mixed_view, optional_view, zero_or_more_view, one_or_more_view}
 use Rattle.rng_simple.specs.plain.GrammarBy.{spot_simple}
 use Rattle.rng_simple.specs.views.Joining.{connector_of}
 use Rattle.rng_simple.specs.plain.SimpleOf.{some_of, join}

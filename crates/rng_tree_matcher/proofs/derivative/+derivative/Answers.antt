@@ -8,10 +8,10 @@ use Rattle.rng_model.specs.names.Names.{In}
 use Rattle.rng_model.specs.names.NameViews.{class_of, name_of}
 use Rattle.rng_model.specs.simple.Table.{AreChildrenBelow, grammar_of}
 use Rattle.rng_model.specs.simple.Tree.{s_leaf, s_empty, s_not_allowed}
-use Rattle.rng_tree_matcher.proofs.Follows.{Longer-length, Longer-refl, bottom_below, AreFirstSides-pop, AreFirstSides-empty, IsFirstSide-longer, Longer-trans}
-use Rattle.rng_tree_matcher.proofs.Follows.{Knows-longer, Knows-insert, AreCopied-longer}
-use Rattle.rng_tree_matcher.proofs.Steps.{choice_step, first_step, group_step, attribute_step, leaf_step, content_from, attribute_from, group_second}
-use Rattle.rng_tree_matcher.proofs.Derivable.{entry_derivable}
+use Rattle.rng_tree_matcher.proofs.GrowingTables.{Longer-length, Longer-refl, bottom_below, AreFirstSides-pop, AreFirstSides-empty, IsFirstSide-longer, Longer-trans}
+use Rattle.rng_tree_matcher.proofs.GrowingTables.{Knows-longer, Knows-insert, AreCopied-longer}
+use Rattle.rng_tree_matcher.proofs.DerivativeSteps.{choice_step, first_step, group_step, attribute_step, leaf_step, content_from, attribute_from, group_second}
+use Rattle.rng_tree_matcher.proofs.DerivableKinds.{entry_derivable}
 use Rattle.rng_tree_matcher.proofs.LeafDerivative.{left_none, left_text, left_empty_if, text_kept, text_left, not_text, not_attribute, not_node, found_left}
 use Rattle.rng_tree_matcher.proofs.LeafDerivative.{element_kept, other_leaf, IsNode, leaf_left, attribute_answer, text_answer}
 use Rattle.rng_tree_matcher.proofs.derivative.+derivative.Goals as goal

@@ -11,7 +11,7 @@ use Rattle.rng_tree_matcher.specs.plain.Content.{AnswersNodes, StandForItems}
 use Rattle.rng_model.specs.matching.WellFormed.{AreWellFormed}
 use Rattle.rng_tree_matcher.specs.declared.pattern_table.TableEntry.{TableEntry}
 use Rattle.rng_tree_matcher.specs.declared.derivative.Symbol.{Symbol}
-use Rattle.rng_tree_matcher.proofs.Follows.{AreCopied-longer, Longer-trans}
+use Rattle.rng_tree_matcher.proofs.GrowingTables.{AreCopied-longer, Longer-trans}
 use Rattle.rng_tree_matcher.proofs.Children.{all_children, element_answer, child_in, child_out, child_well_formed, parts_of}
 use Rattle.rng_tree_matcher.proofs.valid.+symbol_of.Goals as goal
 use Rattle.rng_tree_matcher.proofs.valid.+symbol_of.Goals.{then-not-is_dropped+in_ok-symbol_of-in-Element+in_ok-push-in-Element, else-not-is_dropped}

@@ -6,7 +6,7 @@ use Rattle.rng_model.specs.documents.DocumentViews.{attribute_of}
 use Rattle.rng_model.specs.names.NameViews.{name_of}
 use Rattle.rng_tree_matcher.specs.plain.Named.{has_number}
 use Rattle.rng_tree_matcher.specs.plain.Content.{TakesNode}
-use Rattle.rng_tree_matcher.proofs.Follows.{AreCopied-longer, Longer-trans}
+use Rattle.rng_tree_matcher.proofs.GrowingTables.{AreCopied-longer, Longer-trans}
 use Rattle.rng_tree_matcher.proofs.Candidates.{candidate_in, candidate_out}
 use Rattle.rng_tree_matcher.proofs.DerivativeSequence.{taken_more}
 use Rattle.rng_tree_matcher.proofs.valid.add_elements.Goals as goal

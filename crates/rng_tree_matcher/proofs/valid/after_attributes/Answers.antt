@@ -1,7 +1,7 @@
 use Rattle.std.proofs.Common.{arith, length, map, ◌<◌, ◌≤◌}
 use Rattle.std.proofs.lemmas.List.{length-map}
 use Rattle.rng_model.specs.documents.DocumentViews.{attribute_of}
-use Rattle.rng_tree_matcher.proofs.Follows.{AreCopied-longer, Longer-trans}
+use Rattle.rng_tree_matcher.proofs.GrowingTables.{AreCopied-longer, Longer-trans}
 use Rattle.rng_tree_matcher.proofs.DerivativeSequence.{attribute_turn, attributes_end, mapped_at}
 use Rattle.rng_tree_matcher.proofs.valid.after_attributes.Goals as goal
 

@@ -6,7 +6,7 @@ use Rattle.rng_model.specs.documents.DocumentViews.{attribute_of}
 use Rattle.rng_model.specs.names.NameViews.{name_of}
 use Rattle.rng_tree_matcher.specs.plain.Named.{has_number, listed_under}
 use Rattle.rng_tree_matcher.specs.plain.Content.{TakesNode}
-use Rattle.rng_tree_matcher.proofs.Follows.{AreCopied-longer}
+use Rattle.rng_tree_matcher.proofs.GrowingTables.{AreCopied-longer}
 use Rattle.rng_tree_matcher.proofs.Candidates.{both_found, is_candidate}
 use Rattle.rng_tree_matcher.proofs.valid.elements_of.Goals as goal
 

@@ -2,7 +2,7 @@ use Rattle.std.proofs.Common.{subst}
 use Rattle.rng_model.specs.documents.DocumentViews.{item_of}
 use Rattle.rng_model.specs.declared.simple.PatternId.{PatternId}
 use Rattle.rng_tree_matcher.specs.plain.Derivative.{IsAfter}
-use Rattle.rng_tree_matcher.proofs.Follows.{AreCopied-longer}
+use Rattle.rng_tree_matcher.proofs.GrowingTables.{AreCopied-longer}
 use Rattle.rng_tree_matcher.proofs.Children.{root_answer}
 use Rattle.rng_tree_matcher.proofs.valid.is_valid.Goals as goal
 

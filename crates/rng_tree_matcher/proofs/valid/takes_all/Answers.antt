@@ -1,6 +1,6 @@
 use Rattle.std.proofs.Common.{arith, sym, ap, ◌∙◌, length, ◌≡◌, ◌<◌, slice_get, Some}
 use Rattle.std.proofs.lemmas.Option.{slice_get-get_or}
-use Rattle.rng_tree_matcher.proofs.Follows.{AreCopied-longer, Longer-trans}
+use Rattle.rng_tree_matcher.proofs.GrowingTables.{AreCopied-longer, Longer-trans}
 use Rattle.rng_tree_matcher.proofs.DerivativeSequence.{symbol_turn, symbols_end}
 use Rattle.rng_tree_matcher.proofs.valid.takes_all.Goals as goal
 

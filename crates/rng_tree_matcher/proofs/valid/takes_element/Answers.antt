@@ -1,6 +1,6 @@
 use Rattle.std.proofs.Common.{sym, refl}
 use Rattle.std.proofs.lemmas.Result.{IfOk-weaker}
-use Rattle.rng_tree_matcher.proofs.Follows.{AreCopied-longer}
+use Rattle.rng_tree_matcher.proofs.GrowingTables.{AreCopied-longer}
 use Rattle.rng_tree_matcher.proofs.Content.{node_answer}
 use Rattle.rng_tree_matcher.proofs.valid.takes_element.Goals as goal
 

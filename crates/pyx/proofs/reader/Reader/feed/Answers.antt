@@ -1,10 +1,10 @@
 use Rattle.std.proofs.Common.{◌≤◌, length, ap, refl, arith, rules}
 use Rattle.pyx.specs.plain.Pieces.{weight}
-use Rattle.pyx.specs.views.Standing.{Kept}
+use Rattle.pyx.specs.views.ReaderAfterPiece.{Kept}
 use Rattle.pyx.specs.views.View.{progress_of}
 use Rattle.rng_model.specs.documents.Handing.{Hands}
-use Rattle.pyx.proofs.Standing.{fed_ok, fed_err, fed_stuck}
-use Rattle.pyx.proofs.Finishing.{is_fault_after}
+use Rattle.pyx.proofs.ReaderAfterPiece.{fed_ok, fed_err, fed_stuck}
+use Rattle.pyx.proofs.ReaderOutcome.{is_fault_after}
 use Rattle.pyx.proofs.PieceCounts.{read_counts}
 use Rattle.pyx.proofs.reader.Reader.feed.Goals as goal
 

@@ -1,8 +1,8 @@
 use Rattle.std.proofs.Common.{ap, rules}
-use Rattle.pyx.specs.views.Standing.{Kept}
+use Rattle.pyx.specs.views.ReaderAfterPiece.{Kept}
 use Rattle.pyx.specs.views.View.{progress_of}
 use Rattle.rng_model.specs.documents.Handing.{Hands}
-use Rattle.pyx.proofs.Finishing.{finishes, finishes_stuck}
+use Rattle.pyx.proofs.ReaderOutcome.{finishes, finishes_stuck}
 use Rattle.pyx.proofs.reader.Reader.finish.Goals as goal
 
 pub returns-in-Some-clause-document : goal.returns-in-Some-clause-document

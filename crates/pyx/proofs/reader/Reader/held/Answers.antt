@@ -1,6 +1,6 @@
 use Rattle.std.proofs.Common.{ap, sym, subst, rules}
 use Rattle.pyx.specs.views.HeldCalls.{IsHeld}
-use Rattle.pyx.specs.views.Standing.{Kept}
+use Rattle.pyx.specs.views.ReaderAfterPiece.{Kept}
 use Rattle.pyx.specs.views.View.{progress_of}
 use Rattle.pyx.proofs.HeldBytes.{is_held, none_held}
 use Rattle.pyx.proofs.reader.Reader.held.Goals as goal

@@ -3,7 +3,7 @@ use Rattle.std.proofs.lemmas.Result.{err_from_is_err_and}
 use Rattle.std.proofs.lemmas.List.{map_push}
 use Rattle.rnc_syntax.specs.views.SyntaxView.{class_of}
 use Rattle.rnc_syntax.proofs.Lexemes.{length_of_lexemes}
-use Rattle.rnc_syntax.proofs.Items.{goes_on, stops, is_done}
+use Rattle.rnc_syntax.proofs.ReadItems.{goes_on, stops, is_done}
 use Rattle.rnc_syntax.proofs.reading.Reader.+classes.Goals as goal
 
 pub more_classes-returns-in_err-next-clause-reads : goal.more_classes-returns-in_err-next-clause-reads

@@ -4,7 +4,7 @@ use Rattle.rnc_syntax.specs.plain.Reading.{lexemes_in}
 use Rattle.rnc_syntax.specs.plain.Combinators.{follow, many, with_front}
 use Rattle.rnc_syntax.specs.plain.Productions.{basic_with, inside_at}
 use Rattle.rnc_syntax.specs.views.SyntaxView.{class_of}
-use Rattle.rnc_syntax.proofs.Items.{Goes}
+use Rattle.rnc_syntax.proofs.ReadItems.{Goes}
 use Rattle.rnc_syntax.proofs.reading.Reader.+classes.Given as goal
 
 abbrev pub decreases-inner_class : goal.decreases-inner_class

@@ -4,7 +4,7 @@ use Rattle.std.proofs.lemmas.List.{map_push}
 use Rattle.rnc_syntax.specs.views.SyntaxView.{pattern_of, component_of}
 use Rattle.rnc_syntax.proofs.FirstTokens.{component_starts, component_stops}
 use Rattle.rnc_syntax.proofs.Lexemes.{length_of_lexemes}
-use Rattle.rnc_syntax.proofs.Items.{goes_on, stops, is_done}
+use Rattle.rnc_syntax.proofs.ReadItems.{goes_on, stops, is_done}
 use Rattle.rnc_syntax.proofs.reading.Reader.+patterns.Goals as goal
 
 pub more-returns-in_err-next-clause-reads : goal.more-returns-in_err-next-clause-reads

@@ -3,7 +3,7 @@ use Rattle.rnc_syntax.specs.plain.Reading.{lexemes_in}
 use Rattle.rnc_syntax.specs.plain.Combinators.{follow, many, with_front}
 use Rattle.rnc_syntax.specs.plain.Productions.{particle_with, component_front, component_with, components_with, inside_at}
 use Rattle.rnc_syntax.specs.views.SyntaxView.{pattern_of, component_of, setting_of}
-use Rattle.rnc_syntax.proofs.Items.{Goes}
+use Rattle.rnc_syntax.proofs.ReadItems.{Goes}
 use Rattle.rnc_syntax.proofs.reading.Reader.+patterns.Given as goal
 
 abbrev pub decreases-inner_pattern : goal.decreases-inner_pattern

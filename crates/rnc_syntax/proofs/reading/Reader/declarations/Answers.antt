@@ -4,7 +4,7 @@ use Rattle.std.proofs.lemmas.List.{map_push}
 use Rattle.rnc_syntax.specs.views.SyntaxView.{declaration_of}
 use Rattle.rnc_syntax.proofs.FirstTokens.{declaration_starts, declaration_stops}
 use Rattle.rnc_syntax.proofs.Lexemes.{length_of_lexemes}
-use Rattle.rnc_syntax.proofs.Items.{goes_on, stops, is_done}
+use Rattle.rnc_syntax.proofs.ReadItems.{goes_on, stops, is_done}
 use Rattle.rnc_syntax.proofs.reading.Reader.declarations.Goals as goal
 
 pub returns-in_err-next-clause-reads : goal.returns-in_err-next-clause-reads

@@ -2,7 +2,7 @@ use Rattle.std.proofs.Common.{map, length, ◌≤◌}
 use Rattle.rnc_syntax.specs.plain.Reading.{lexemes_in}
 use Rattle.rnc_syntax.specs.plain.Productions.{declaration_front, declaration_at, declarations_at}
 use Rattle.rnc_syntax.specs.views.SyntaxView.{declaration_of}
-use Rattle.rnc_syntax.proofs.Items.{Goes}
+use Rattle.rnc_syntax.proofs.ReadItems.{Goes}
 use Rattle.rnc_syntax.proofs.reading.Reader.declarations.Given as goal
 
 abbrev pub invariant-loop-self : goal.invariant-loop-self

@@ -2,7 +2,7 @@ use Rattle.std.proofs.Common.{◌≡◌, ◌++◌, map, ◌∷◌, [], sym, refl
 use Rattle.std.proofs.lemmas.Result.{err_from_is_err_and}
 use Rattle.std.proofs.lemmas.List.{map_push}
 use Rattle.rnc_syntax.proofs.Lexemes.{length_of_lexemes}
-use Rattle.rnc_syntax.proofs.Items.{goes_on, stops, is_done}
+use Rattle.rnc_syntax.proofs.ReadItems.{goes_on, stops, is_done}
 use Rattle.rnc_syntax.proofs.reading.Reader.more_segments.Goals as goal
 
 pub returns-in_err-next-clause-reads : goal.returns-in_err-next-clause-reads

@@ -2,7 +2,7 @@ use Rattle.std.proofs.Common.{map, length, ◌≤◌}
 use Rattle.rnc_model.specs.declared.token.Sign.TheVariants.{Tilde}
 use Rattle.rnc_syntax.specs.plain.Reading.{lexemes_in}
 use Rattle.rnc_syntax.specs.plain.Combinators.{follow, many, segment_at, with_front}
-use Rattle.rnc_syntax.proofs.Items.{Goes}
+use Rattle.rnc_syntax.proofs.ReadItems.{Goes}
 use Rattle.rnc_syntax.proofs.reading.Reader.more_segments.Given as goal
 
 abbrev pub invariant-loop-after : goal.invariant-loop-after

@@ -3,7 +3,7 @@ use Rattle.rnc_syntax.specs.plain.Reading.{lexemes_in}
 use Rattle.rnc_syntax.specs.plain.Combinators.{many}
 use Rattle.rnc_syntax.specs.plain.Productions.{annotated_parameter_at, parameter_front}
 use Rattle.rnc_syntax.specs.views.SyntaxView.{parameter_of}
-use Rattle.rnc_syntax.proofs.Items.{Goes}
+use Rattle.rnc_syntax.proofs.ReadItems.{Goes}
 use Rattle.rnc_syntax.proofs.reading.Reader.parameter_list.Given as goal
 
 abbrev pub invariant-loop-self : goal.invariant-loop-self

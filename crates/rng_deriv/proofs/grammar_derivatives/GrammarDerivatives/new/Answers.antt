@@ -1,8 +1,8 @@
 use Rattle.std.proofs.Common.{◌∙◌, ap, slice_index_or}
 use Rattle.rng_model.specs.declared.simple.PatternId.{PatternId}
 use Rattle.rng_pattern_table.specs.declared.pattern.PatternNumber.{PatternNumber}
-use Rattle.rng_deriv.proofs.Memo.{none_kept}
-use Rattle.rng_deriv.proofs.Served.{served_first, start_inside, start_same}
+use Rattle.rng_deriv.proofs.KeptStarts.{none_kept}
+use Rattle.rng_deriv.proofs.ServedTables.{served_first, start_inside, start_same}
 use Rattle.rng_deriv.proofs.grammar_derivatives.GrammarDerivatives.new.Goals as goal
 
 pub invariant_of-result : goal.invariant_of-result

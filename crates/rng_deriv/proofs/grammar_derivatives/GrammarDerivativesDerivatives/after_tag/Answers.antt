@@ -1,7 +1,7 @@
 use Rattle.std.proofs.Common.{map}
 use Rattle.rng_model.specs.documents.DocumentViews.{attribute_of}
-use Rattle.rng_deriv.proofs.Memo.{serves_longer}
-use Rattle.rng_deriv.proofs.Served.{below_there, seen_there, tag_added, there_served}
+use Rattle.rng_deriv.proofs.KeptStarts.{serves_longer}
+use Rattle.rng_deriv.proofs.ServedTables.{below_there, seen_there, tag_added, there_served}
 use Rattle.rng_deriv.proofs.grammar_derivatives.GrammarDerivativesDerivatives.after_tag.Goals as goal
 
 pub after_tag-requires-clause-inside : goal.after_tag-requires-clause-inside

@@ -1,5 +1,5 @@
-use Rattle.rng_deriv.proofs.Memo.{serves_longer}
-use Rattle.rng_deriv.proofs.Served.{below_there, seen_there, text_added, there_served}
+use Rattle.rng_deriv.proofs.KeptStarts.{serves_longer}
+use Rattle.rng_deriv.proofs.ServedTables.{below_there, seen_there, text_added, there_served}
 use Rattle.rng_deriv.proofs.grammar_derivatives.GrammarDerivativesDerivatives.after_text.Goals as goal
 
 pub after_text-requires-clause-inside : goal.after_text-requires-clause-inside

@@ -1,7 +1,7 @@
 use Rattle.rng_model.specs.matching.GrammarReading.{reading_of}
 use Rattle.rng_pattern_derivatives.proofs.KnownWays.{all_longer}
-use Rattle.rng_deriv.proofs.Memo.{serves_longer}
-use Rattle.rng_deriv.proofs.Served.{all_below_there, choice_added, seen_there, there_served}
+use Rattle.rng_deriv.proofs.KeptStarts.{serves_longer}
+use Rattle.rng_deriv.proofs.ServedTables.{all_below_there, choice_added, seen_there, there_served}
 use Rattle.rng_deriv.proofs.grammar_derivatives.GrammarDerivativesDerivatives.choice.Goals as goal
 
 pub choice-requires : goal.choice-requires

@@ -1,4 +1,4 @@
-use Rattle.rng_deriv.proofs.Served.{below_there, none_there}
+use Rattle.rng_deriv.proofs.ServedTables.{below_there, none_there}
 use Rattle.rng_deriv.proofs.grammar_derivatives.GrammarDerivativesDerivatives.is_not_allowed.Goals as goal
 
 pub is_not_allowed-requires : goal.is_not_allowed-requires

@@ -1,4 +1,4 @@
-use Rattle.rng_deriv.proofs.Served.{below_there, none_there}
+use Rattle.rng_deriv.proofs.ServedTables.{below_there, none_there}
 use Rattle.rng_deriv.proofs.grammar_derivatives.GrammarDerivativesDerivatives.is_nullable.Goals as goal
 
 pub facts-requires : goal.facts-requires

@@ -1,9 +1,9 @@
 use Rattle.std.proofs.Common.{List, subst}
 use Rattle.rng_pattern_table.specs.declared.pattern.PatternNumber.{PatternNumber}
 use Rattle.rng_deriv.specs.views.PatternRenewal.{AreSameTrees}
-use Rattle.rng_deriv.proofs.Memo.{none_kept}
+use Rattle.rng_deriv.proofs.KeptStarts.{none_kept}
 use Rattle.rng_deriv.proofs.PatternRenewal.{held_renewed, served_renewed}
-use Rattle.rng_deriv.proofs.Served.{all_below_there, seen_there, there_served}
+use Rattle.rng_deriv.proofs.ServedTables.{all_below_there, seen_there, there_served}
 use Rattle.rng_deriv.proofs.grammar_derivatives.GrammarDerivativesDerivatives.renew.Goals as goal
 
 pub renewed-requires-clause-held : goal.renewed-requires-clause-held

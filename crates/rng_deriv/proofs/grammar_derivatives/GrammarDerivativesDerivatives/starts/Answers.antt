@@ -9,14 +9,14 @@ use Rattle.rng_pattern_table.proofs.Trees.{Longer-trans}
 use Rattle.rng_model.specs.matching.GrammarReading.{reading_of}
 use Rattle.rng_pattern_derivatives.specs.plain.Ways.{ways_by}
 use Rattle.rng_pattern_derivatives.specs.plain.Starting.{AreStarts}
-use Rattle.rng_pattern_derivatives.specs.declared.way.Way as numbered
+use Rattle.rng_pattern_derivatives.specs.declared.way.LeafWay as numbered
 use Rattle.rng_deriv.specs.views.Numbers.{AddsStarts, IsInside}
 use Rattle.rng_deriv.specs.views.Numbers as table
 use Rattle.rng_deriv.specs.views.Starts.{OpensLike}
 use Rattle.rng_deriv.specs.declared.start_memo.StartKey.{StartKey}
 use Rattle.rng_pattern_derivatives.proofs.KnownWays.{all_longer}
-use Rattle.rng_deriv.proofs.Memo.{for_each_name, found_added, is_answer, serves_more}
-use Rattle.rng_deriv.proofs.Served.{below_there, seen_there, starts_added, there_served}
+use Rattle.rng_deriv.proofs.KeptStarts.{for_each_name, found_added, is_answer, serves_more}
+use Rattle.rng_deriv.proofs.ServedTables.{below_there, seen_there, starts_added, there_served}
 use Rattle.rng_deriv.proofs.grammar_derivatives.GrammarDerivativesDerivatives.starts.Goals as goal
 
 pub returns-in-Some-clause-starts : goal.returns-in-Some-clause-starts
@@ -58,7 +58,7 @@ invariant_of-self-2 c =
     c.in_ok-ways-2.ensures.longer c.in_ok-starts.ensures.longer served.0
     (subst (λ (ns : List PatternNumber). AreStarts t middle ns (tree_of t old c.args.pattern.0) q c.in_ok-ways-2.ways.items)
     c.as_slice-numbers.ensures.value c.in_ok-ways-2.ensures.starts)
-    (subst (λ (ws : List numbered.Way). OpensLike t new (ways_by (tree_of t middle) ws) c.in_ok-starts.starts.items) c.as_slice.ensures
+    (subst (λ (ws : List numbered.LeafWay). OpensLike t new (ways_by (tree_of t middle) ws) c.in_ok-starts.starts.items) c.as_slice.ensures
     (c.in_ok-starts.ensures.ways t))
     inside in
     let Adds = AddsStarts (reading_of t) q (trees t old) (trees t new) (table.tree_of (trees t old) c.args.pattern) in
@@ -85,7 +85,7 @@ returns-clause-starts c =
     c.in_ok-ways-2.ways.items c.in_ok-starts.starts.items c.in_ok-ways-2.ensures.longer c.in_ok-starts.ensures.longer served.0
     (subst (λ (ns : List PatternNumber). AreStarts t middle ns (tree_of t old c.args.pattern.0) q c.in_ok-ways-2.ways.items)
     c.as_slice-numbers.ensures.value c.in_ok-ways-2.ensures.starts)
-    (subst (λ (ws : List numbered.Way). OpensLike t new (ways_by (tree_of t middle) ws) c.in_ok-starts.starts.items) c.as_slice.ensures
+    (subst (λ (ws : List numbered.LeafWay). OpensLike t new (ways_by (tree_of t middle) ws) c.in_ok-starts.starts.items) c.as_slice.ensures
     (c.in_ok-starts.ensures.ways t))
     c.requires)
 

@@ -7,7 +7,7 @@ use Rattle.rng_load.specs.plain.PlainReading.{gather_at, gather_one_at}
 use Rattle.rng_load.specs.views.ReadPatterns.{files_in}
 use Rattle.rng_load.proofs.GatherIncluded.{file_gathered}
 use Rattle.rng_load.proofs.GatherOneByOne.{all_gathered, goes_on}
-use Rattle.rng_load.proofs.LeftToGather.{falls_to_component, falls_to_grammar}
+use Rattle.rng_load.proofs.GatheringSizes.{falls_to_component, falls_to_grammar}
 use Rattle.rng_load.proofs.reading_patterns.TreeReader.+gathering.Goals as goal
 
 pub gather_all-gather_child-requires : goal.gather_all-gather_child-requires

@@ -4,7 +4,7 @@ use Rattle.rnc_grammar.specs.views.View.{component_of}
 use Rattle.rng_load.specs.views.GatheredComponents.{gathered_of}
 use Rattle.rng_load.specs.views.ReadPatterns.{files_in}
 use Rattle.rng_load.proofs.GatherOneByOne.{AreGathered}
-use Rattle.rng_load.proofs.LeftToRead.{left_in}
+use Rattle.rng_load.proofs.ReadingSizes.{left_in}
 use Rattle.rng_load.proofs.TreeSizes.{size_of_component, size_of_components}
 use Rattle.rng_load.proofs.reading_patterns.TreeReader.+gathering.Given as goal
 

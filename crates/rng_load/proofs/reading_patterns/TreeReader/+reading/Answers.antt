@@ -6,7 +6,7 @@ use Rattle.rnc_grammar.specs.declared.file_tree.Pattern.TheVariants as trees
 use Rattle.rnc_grammar.specs.views.View.{file_of, pattern_of}
 use Rattle.rng_load.specs.views.ReadPatterns.{connector_of, files_in, nested_of}
 use Rattle.rng_load.specs.plain.PlainReading.{read_at}
-use Rattle.rng_load.proofs.LeftToRead.{falls_to_file, falls_to_member}
+use Rattle.rng_load.proofs.ReadingSizes.{falls_to_file, falls_to_member}
 use Rattle.rng_load.proofs.ReadDatatypes.{plain_read, except_read}
 use Rattle.rng_load.proofs.ReadMentioned.{external_schema, file_read}
 use Rattle.rng_load.proofs.ReadOneByOne.{all_nested, all_patterns, goes_on}

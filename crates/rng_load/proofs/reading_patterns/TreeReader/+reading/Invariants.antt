@@ -3,7 +3,7 @@ use Rattle.rng_model.specs.views.SchemaView.{schema_pattern_of}
 use Rattle.rnc_model.specs.declarations.FileTree.{patterns_of}
 use Rattle.rnc_grammar.specs.views.View.{pattern_of}
 use Rattle.rng_load.specs.views.ReadPatterns.{files_in, nested_of}
-use Rattle.rng_load.proofs.LeftToRead.{left_in}
+use Rattle.rng_load.proofs.ReadingSizes.{left_in}
 use Rattle.rng_load.proofs.ReadOneByOne.{AreRead}
 use Rattle.rng_load.proofs.TreeSizes.{size, size_of_patterns}
 use Rattle.rng_load.proofs.reading_patterns.TreeReader.+reading.Given as goal

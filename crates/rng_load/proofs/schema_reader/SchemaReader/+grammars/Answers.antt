@@ -6,9 +6,9 @@ use Rattle.rnc_grammar.specs.views.View.{file_of}
 use Rattle.rng_load.specs.views.FilesView.{taken_files_of}
 use Rattle.rng_load.specs.views.PlacedGrammars.{grammars_of}
 use Rattle.rng_load.specs.views.ReadPatterns.{files_in, nested_of}
-use Rattle.rng_load.proofs.AllFound.{IsAdding, ends, goes_on, nearer, nested_there}
-use Rattle.rng_load.proofs.SchemaRead.{put_first}
-use Rattle.rng_load.proofs.TurnsTaken.{taken_among, taken_last}
+use Rattle.rng_load.proofs.FoundGrammars.{IsAdding, ends, goes_on, nearer, nested_there}
+use Rattle.rng_load.proofs.ReaderEnds.{put_first}
+use Rattle.rng_load.proofs.LoopItems.{taken_among, taken_last}
 use Rattle.rng_load.proofs.schema_reader.SchemaReader.+grammars.Goals as goal
 
 pub add-loop-grammar-init : goal.add-loop-grammar-init

@@ -4,7 +4,7 @@ use Rattle.rnc_grammar.specs.views.View.{file_of}
 use Rattle.rng_load.specs.views.FilesView.{taken_files_of}
 use Rattle.rng_load.specs.views.PlacedGrammars.{grammars_of}
 use Rattle.rng_load.specs.views.ReadPatterns.{files_in, nested_of}
-use Rattle.rng_load.proofs.AllFound.{IsAdding}
+use Rattle.rng_load.proofs.FoundGrammars.{IsAdding}
 use Rattle.rng_load.proofs.PlacesWithin.{longest}
 use Rattle.rng_load.proofs.schema_reader.SchemaReader.+grammars.Given as goal
 

@@ -5,7 +5,7 @@ use Rattle.rng_load.specs.views.GatheredComponents.{gathered_of}
 use Rattle.rnc_model.specs.loading.MentionPaths.{path_limit}
 use Rattle.rng_load.specs.plain.PlainReading.{gathered_as, read_at}
 use Rattle.rng_load.specs.views.ReadPatterns.{files_in}
-use Rattle.rng_load.proofs.SchemaRead.{only_start}
+use Rattle.rng_load.proofs.ReaderEnds.{only_start}
 use Rattle.rng_load.proofs.schema_reader.SchemaReader.start.Goals as goal
 
 pub returns : goal.returns

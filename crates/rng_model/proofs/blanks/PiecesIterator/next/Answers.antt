@@ -1,5 +1,5 @@
 use Rattle.std.proofs.Common.{rules}
-use Rattle.rng_model.proofs.Runs.{some_piece, no_piece, fewer_pieces}
+use Rattle.rng_model.proofs.BlankRuns.{some_piece, no_piece, fewer_pieces}
 use Rattle.rng_model.proofs.blanks.PiecesIterator.next.Goals as goal
 
 pub returns-then-is_empty-clause-steps : goal.returns-then-is_empty-clause-steps

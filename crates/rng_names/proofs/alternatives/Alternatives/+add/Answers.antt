@@ -5,7 +5,7 @@ use Rattle.rng_model.specs.names.Names.{some_of}
 use Rattle.rng_model.specs.names.NameViews.{class_of}
 use Rattle.rng_names.specs.views.Alternatives.{Adds, has_alternative}
 use Rattle.rng_names.proofs.HeldByAlternatives.{adds_choice, adds_excepted}
-use Rattle.rng_names.proofs.Views.{any_except_is, choice_is, ns_except_is}
+use Rattle.rng_names.proofs.NameViews.{any_except_is, choice_is, ns_except_is}
 use Rattle.rng_names.proofs.alternatives.Alternatives.+add.Goals as goal
 
 pub returns-after-members : goal.returns-after-members

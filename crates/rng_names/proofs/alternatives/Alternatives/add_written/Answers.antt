@@ -1,4 +1,4 @@
-use Rattle.rng_names.proofs.Keys.{one_more_key}
+use Rattle.rng_names.proofs.AlternativeTables.{one_more_key}
 use Rattle.rng_names.proofs.alternatives.Alternatives.add_written.Goals as goal
 
 pub returns-clause-written : goal.returns-clause-written

@@ -8,8 +8,8 @@ use Rattle.rng_names.specs.views.GrammarClasses.{seen_class}
 use Rattle.rng_names.specs.plain.Keys.{AreKeys}
 use Rattle.rng_names.specs.views.KeyTables.{IsTold, ServesAll, keys_in}
 use Rattle.rng_names.specs.plain.WrittenNames.{Knows, written_in}
-use Rattle.rng_names.proofs.Growing.{still_known}
-use Rattle.rng_names.proofs.Serving.{are_keys, serves_all}
+use Rattle.rng_names.proofs.CollectedNames.{still_known}
+use Rattle.rng_names.proofs.ServingKeys.{are_keys, serves_all}
 use Rattle.rng_names.proofs.key_tables.Tables.of_classes.Goals as goal
 
 pub returns : goal.returns

@@ -3,8 +3,8 @@ use Rattle.std.specs.Map.{keys_of, lookup}
 use Rattle.std.specs.Str.{bytes_eq}
 use Rattle.rng_names.specs.views.KeyTables.{AddsOthers, keys_in}
 use Rattle.rng_names.specs.plain.WrittenNames.{written_in}
-use Rattle.rng_names.proofs.Growing.{seen_at}
-use Rattle.rng_names.proofs.Telling.{IsToldOf, all_told, measured_most, one_told}
+use Rattle.rng_names.proofs.CollectedNames.{seen_at}
+use Rattle.rng_names.proofs.NamespaceKeys.{IsToldOf, all_told, measured_most, one_told}
 use Rattle.rng_names.proofs.key_tables.Tables.of_written.Goals as goal
 
 pub namespaces-preserved : goal.namespaces-preserved

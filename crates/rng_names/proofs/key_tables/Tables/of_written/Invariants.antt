@@ -1,7 +1,7 @@
 use Rattle.std.proofs.Common.{map, string_bytes}
 use Rattle.rng_names.specs.views.KeyTables.{keys_in}
 use Rattle.rng_names.specs.plain.WrittenNames.{written_in}
-use Rattle.rng_names.proofs.Telling.{IsToldOf}
+use Rattle.rng_names.proofs.NamespaceKeys.{IsToldOf}
 use Rattle.rng_names.proofs.key_tables.Tables.of_written.Given as goal
 
 -- the namespaces so far have keys for their other names

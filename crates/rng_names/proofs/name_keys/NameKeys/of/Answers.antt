@@ -1,7 +1,7 @@
 use Rattle.std.proofs.Common.{◌≡◌, ◌∙◌, ap, subst, map}
 use Rattle.rng_names.specs.views.GrammarClasses.{attribute_class, element_class, seen_class}
 use Rattle.rng_names.specs.views.KeyTables.{ServesAll, keys_in}
-use Rattle.rng_names.proofs.Serving.{all_served}
+use Rattle.rng_names.proofs.ServingKeys.{all_served}
 use Rattle.rng_names.proofs.name_keys.NameKeys.of.Goals as goal
 
 pub returns : goal.returns

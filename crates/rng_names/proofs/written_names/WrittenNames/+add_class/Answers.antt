@@ -2,9 +2,9 @@ use Rattle.std.proofs.Common.{◌≡◌, refl, sym, subst, map, Some, string_byt
 use Rattle.std.proofs.lemmas.Result.{on_ok_weaker}
 use Rattle.rng_model.specs.names.Names.{some_of}
 use Rattle.rng_model.specs.names.NameViews.{class_of}
-use Rattle.rng_names.proofs.Views.{choice_is, ns_except_is}
+use Rattle.rng_names.proofs.NameViews.{choice_is, ns_except_is}
 use Rattle.rng_names.specs.plain.WrittenNames.{IsMeasured, Knows, written_in}
-use Rattle.rng_names.proofs.Growing.{all_members, both_ok, grows_on, knows_members, knows_ns_except, one_added, seen_at}
+use Rattle.rng_names.proofs.CollectedNames.{all_members, both_ok, grows_on, knows_members, knows_ns_except, one_added, seen_at}
 use Rattle.rng_names.proofs.written_names.WrittenNames.+add_class.Goals as goal
 
 pub members-preserved : goal.members-preserved

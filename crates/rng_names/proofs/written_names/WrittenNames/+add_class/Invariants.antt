@@ -1,7 +1,7 @@
 use Rattle.std.proofs.Common.{map, Some}
 use Rattle.rng_model.specs.names.NameViews.{class_of}
 use Rattle.rng_names.specs.plain.WrittenNames.{written_in}
-use Rattle.rng_names.proofs.Growing.{AreAdded}
+use Rattle.rng_names.proofs.CollectedNames.{AreAdded}
 use Rattle.rng_names.proofs.written_names.WrittenNames.+add_class.Given as goal
 
 -- what is written in the members so far is collected

@@ -3,7 +3,7 @@ use Rattle.std.proofs.lemmas.List.{length-map}
 use Rattle.rng_model.specs.names.NameViews.{class_of}
 use Rattle.rng_names.specs.views.GrammarClasses.{seen_class}
 use Rattle.rng_names.specs.plain.WrittenNames.{written_in}
-use Rattle.rng_names.proofs.Growing.{all_added, one_added, one_passed_over, seen_at}
+use Rattle.rng_names.proofs.CollectedNames.{all_added, one_added, one_passed_over, seen_at}
 use Rattle.rng_names.proofs.written_names.WrittenNames.add_classes.Goals as goal
 
 pub classes-preserved-in_default : goal.classes-preserved-in_default

@@ -1,7 +1,7 @@
 use Rattle.std.proofs.Common.{map}
 use Rattle.rng_names.specs.views.GrammarClasses.{seen_class}
 use Rattle.rng_names.specs.plain.WrittenNames.{written_in}
-use Rattle.rng_names.proofs.Growing.{AreAdded}
+use Rattle.rng_names.proofs.CollectedNames.{AreAdded}
 use Rattle.rng_names.proofs.written_names.WrittenNames.add_classes.Given as goal
 
 -- what is written in the classes so far is collected

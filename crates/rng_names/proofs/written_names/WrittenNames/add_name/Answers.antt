@@ -1,7 +1,7 @@
 use Rattle.std.proofs.Common.{◌≡◌, subst, refl, length, Some, slice_get, rules}
 use Rattle.rng_model.specs.names.NameViews.{name_of}
 use Rattle.rng_names.specs.plain.WrittenNames.{IsMeasured, written_in}
-use Rattle.rng_names.proofs.Growing.{grows_on, knows_name, less_measured, name_put}
+use Rattle.rng_names.proofs.CollectedNames.{grows_on, knows_name, less_measured, name_put}
 use Rattle.rng_names.proofs.written_names.WrittenNames.add_name.Goals as goal
 
 pub returns-clause-grows : goal.returns-clause-grows

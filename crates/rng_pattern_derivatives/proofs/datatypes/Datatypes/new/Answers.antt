@@ -1,5 +1,5 @@
 use Rattle.std.proofs.Common.{sym}
-use Rattle.rng_pattern_derivatives.proofs.KnownTypes.{all_kept, one_more_kept}
+use Rattle.rng_pattern_derivatives.proofs.KnownDatatypes.{all_kept, one_more_kept}
 use Rattle.rng_pattern_derivatives.proofs.datatypes.Datatypes.new.Goals as goal
 
 pub patterns-preserved : goal.patterns-preserved

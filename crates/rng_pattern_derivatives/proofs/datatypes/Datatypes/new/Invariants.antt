@@ -1,4 +1,4 @@
-use Rattle.rng_pattern_derivatives.proofs.KnownTypes.{AreKeptBelow}
+use Rattle.rng_pattern_derivatives.proofs.KnownDatatypes.{AreKeptBelow}
 use Rattle.rng_pattern_derivatives.proofs.datatypes.Datatypes.new.Given as goal
 
 abbrev pub invariant-patterns : goal.invariant-patterns

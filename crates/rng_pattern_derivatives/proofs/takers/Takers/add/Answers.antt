@@ -3,7 +3,7 @@ use Rattle.rng_names.specs.plain.Keys.{key_of}
 use Rattle.rng_model.specs.names.NameViews.{name_of}
 use Rattle.rng_names.specs.plain.Holding.{holds}
 use Rattle.rng_names.proofs.Holding.{same_name-Decides}
-use Rattle.rng_names.proofs.Views.{name_class_is}
+use Rattle.rng_names.proofs.NameViews.{name_class_is}
 use Rattle.rng_pattern_table.specs.plain.Facts.{IsWithin, joined_spans, one_span}
 use Rattle.rng_pattern_table.specs.declared.pattern.Span.{Span}
 use Rattle.rng_pattern_table.proofs.KnownFacts.{joined_second, one_within}

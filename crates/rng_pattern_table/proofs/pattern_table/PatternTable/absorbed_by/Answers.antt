@@ -2,7 +2,7 @@ use Rattle.std.proofs.Common.{◌≡◌, Some, ap, arith, subst, sym, true, ◌�
 use Rattle.rng_deriv_laws.specs.plain.Derivatives.{is_nullable}
 use Rattle.rng_deriv_laws.specs.plain.Taking.{Takes}
 use Rattle.rng_deriv_laws.specs.plain.Taking as taking
-use Rattle.rng_deriv_laws.proofs.Same.{choice_absorbs_second}
+use Rattle.rng_deriv_laws.proofs.SamePatterns.{choice_absorbs_second}
 use Rattle.rng_pattern_table.specs.views.Node.{node_of}
 use Rattle.rng_pattern_table.specs.views.Trees.{tree_of}
 use Rattle.rng_pattern_table.specs.declared.pattern.Facts.{Facts}

@@ -6,8 +6,8 @@ use Rattle.rng_pattern_table.specs.views.Node.{Node, node_of}
 use Rattle.rng_pattern_table.specs.views.PatternTable.{ArePartsBelow, IsNew, Longer, facts_of, nodes_of}
 use Rattle.rng_pattern_table.specs.plain.Reduced.{AreReduced}
 use Rattle.rng_pattern_table.specs.views.Trees.{tree_of, tree_over}
-use Rattle.rng_pattern_table.proofs.Putting.{IsPut, goes_put, table_kept}
-use Rattle.rng_pattern_table.proofs.Rows.{goes_last, nodes_more}
+use Rattle.rng_pattern_table.proofs.PutPatterns.{IsPut, goes_put, table_kept}
+use Rattle.rng_pattern_table.proofs.TableRows.{goes_last, nodes_more}
 use Rattle.rng_pattern_table.proofs.pattern_table.PatternTable.add.Goals as goal
 
 pub invariant_of-self-in_err-keep_unit : goal.invariant_of-self-in_err-keep_unit

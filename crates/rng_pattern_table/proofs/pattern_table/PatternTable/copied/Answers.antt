@@ -9,7 +9,7 @@ use Rattle.rng_pattern_table.specs.plain.Reduced.{AreReduced}
 use Rattle.rng_pattern_table.specs.plain.Selecting.{AreCopied, IsMarked, given_for, node_at, renumbered}
 use Rattle.rng_pattern_table.specs.views.Trees.{tree_of}
 use Rattle.rng_pattern_table.specs.declared.pattern.PatternNumber.{PatternNumber}
-use Rattle.rng_pattern_table.proofs.Copying.{copy_below, copy_new, copy_reduced, one_copied, passed_over}
+use Rattle.rng_pattern_table.proofs.CopiedPatterns.{copy_below, copy_new, copy_reduced, one_copied, passed_over}
 use Rattle.rng_pattern_table.proofs.pattern_table.PatternTable.copied.Goals as goal
 
 pub rows-preserved-then-not-marks-number : goal.rows-preserved-then-not-marks-number

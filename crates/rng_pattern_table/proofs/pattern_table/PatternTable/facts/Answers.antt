@@ -5,7 +5,7 @@ use Rattle.rng_pattern_table.specs.views.Trees.{tree_of}
 use Rattle.rng_pattern_table.specs.declared.pattern.Facts.{Facts}
 use Rattle.rng_deriv_laws.proofs.Nullable.{nullable_exact}
 use Rattle.rng_pattern_table.proofs.KnownFacts.{elements_within}
-use Rattle.rng_pattern_table.proofs.Rows.{facts_there}
+use Rattle.rng_pattern_table.proofs.TableRows.{facts_there}
 use Rattle.rng_pattern_table.proofs.Subsequences.{loses_first}
 use Rattle.rng_pattern_table.proofs.pattern_table.PatternTable.facts.Goals as goal
 

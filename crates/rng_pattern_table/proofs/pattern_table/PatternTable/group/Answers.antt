@@ -1,7 +1,7 @@
 use Rattle.std.proofs.Common.{subst, sym}
 use Rattle.rng_model.specs.simple.Tree.{group, s_joined}
 use Rattle.rng_deriv_laws.specs.plain.Taking.{Same}
-use Rattle.rng_deriv_laws.proofs.Same.{group_of-same}
+use Rattle.rng_deriv_laws.proofs.SamePatterns.{group_of-same}
 use Rattle.rng_pattern_table.specs.views.Trees.{tree_of}
 use Rattle.rng_pattern_table.proofs.pattern_table.PatternTable.group.Goals as goal
 

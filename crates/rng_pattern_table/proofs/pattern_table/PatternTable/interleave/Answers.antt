@@ -1,7 +1,7 @@
 use Rattle.std.proofs.Common.{subst, sym}
 use Rattle.rng_model.specs.simple.Tree.{interleave, s_joined}
 use Rattle.rng_deriv_laws.specs.plain.Taking.{Same}
-use Rattle.rng_deriv_laws.proofs.Same.{interleave_of-same}
+use Rattle.rng_deriv_laws.proofs.SamePatterns.{interleave_of-same}
 use Rattle.rng_pattern_table.specs.views.Trees.{tree_of}
 use Rattle.rng_pattern_table.proofs.pattern_table.PatternTable.interleave.Goals as goal
 

@@ -3,7 +3,7 @@ use Rattle.rng_pattern_table.specs.views.Node.{node_of}
 use Rattle.rng_pattern_table.specs.plain.Selecting.{Marks, parts_of}
 use Rattle.rng_pattern_table.specs.declared.pattern.PatternNumber.{PatternNumber}
 use Rattle.rng_pattern_table.proofs.KnownFacts.{of_members}
-use Rattle.rng_pattern_table.proofs.Marking.{no_parts, nothing_marked, parts_inside, parts_marked, parts_of_two}
+use Rattle.rng_pattern_table.proofs.MarkedNumbers.{no_parts, nothing_marked, parts_inside, parts_marked, parts_of_two}
 use Rattle.rng_pattern_table.proofs.pattern_table.PatternTable.mark_parts.Goals as goal
 
 pub mark_all-requires : goal.mark_all-requires

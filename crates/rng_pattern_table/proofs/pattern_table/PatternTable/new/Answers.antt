@@ -1,4 +1,4 @@
-use Rattle.rng_pattern_table.proofs.Rows.{nothing_kept}
+use Rattle.rng_pattern_table.proofs.TableRows.{nothing_kept}
 use Rattle.rng_pattern_table.proofs.Units.{no_units}
 use Rattle.rng_pattern_table.proofs.pattern_table.PatternTable.new.Goals as goal
 

@@ -5,7 +5,7 @@ use Rattle.rng_pattern_table.specs.views.Node.{Node, node_of}
 use Rattle.rng_pattern_table.specs.views.PatternTable.{Adds, ArePartsBelow, Longer, facts_of, nodes_of}
 use Rattle.rng_pattern_table.specs.plain.Reduced.{AreReduced}
 use Rattle.rng_pattern_table.specs.views.Trees.{tree_of, tree_over}
-use Rattle.rng_pattern_table.proofs.Putting.{put_is, table_kept}
+use Rattle.rng_pattern_table.proofs.PutPatterns.{put_is, table_kept}
 use Rattle.rng_pattern_table.proofs.pattern_table.PatternTable.number_of.Goals as goal
 
 pub invariant_of-self-in_err-keep_unit : goal.invariant_of-self-in_err-keep_unit

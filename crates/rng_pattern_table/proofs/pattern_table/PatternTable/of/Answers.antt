@@ -8,7 +8,7 @@ use Rattle.rng_pattern_table.specs.views.Taking.{taken_over, tree_by}
 use Rattle.rng_pattern_table.specs.views.Trees.{tree_of}
 use Rattle.rng_pattern_table.specs.declared.pattern.PatternNumber.{PatternNumber}
 use Rattle.rng_pattern_table.specs.plain.Kept.{IsMadeOver}
-use Rattle.rng_pattern_table.proofs.Keeping.{one_kept, restricted_alike}
+use Rattle.rng_pattern_table.proofs.KeptRestrictions.{one_kept, restricted_alike}
 use Rattle.rng_pattern_table.proofs.Taking.{one_taken, past_end}
 use Rattle.rng_pattern_table.proofs.pattern_table.PatternTable.of.Goals as goal
 

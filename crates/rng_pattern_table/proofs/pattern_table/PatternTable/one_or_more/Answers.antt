@@ -1,6 +1,6 @@
 use Rattle.std.proofs.Common.{sym, ◌∙◌}
 use Rattle.rng_pattern_table.specs.views.Trees.{tree_of}
-use Rattle.rng_deriv_laws.proofs.Same.{empty_repeated}
+use Rattle.rng_deriv_laws.proofs.SamePatterns.{empty_repeated}
 use Rattle.rng_pattern_table.proofs.pattern_table.PatternTable.one_or_more.Goals as goal
 
 pub returns-then-is_empty-clause-matches : goal.returns-then-is_empty-clause-matches

@@ -4,7 +4,7 @@ use Rattle.std.specs.List.{Contains, filter}
 use Rattle.std.proofs.lemmas.Fn.{filter_same}
 use Rattle.rng_pattern_table.specs.views.Choices.{IsAbsorbedBy}
 use Rattle.rng_pattern_table.specs.declared.pattern.PatternNumber.{PatternNumber}
-use Rattle.rng_pattern_table.proofs.Absorbing.{left_or_absorbed, left_takes}
+use Rattle.rng_pattern_table.proofs.AbsorbedAlternatives.{left_or_absorbed, left_takes}
 use Rattle.rng_pattern_table.proofs.pattern_table.PatternTable.remove_absorbed.Goals as goal
 
 pub returns-clause-takes : goal.returns-clause-takes

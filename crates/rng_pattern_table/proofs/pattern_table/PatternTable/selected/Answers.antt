@@ -1,8 +1,8 @@
 use Rattle.std.proofs.Common.{◌≡◌, Bool, List, map, subst}
 use Rattle.rng_pattern_table.specs.plain.Selecting.{AreCopied, given_for}
 use Rattle.rng_pattern_table.specs.declared.pattern.PatternNumber.{PatternNumber}
-use Rattle.rng_pattern_table.proofs.Copying.{selected_inside, selected_same}
-use Rattle.rng_pattern_table.proofs.Selected.{restricted_selected, taken_selected}
+use Rattle.rng_pattern_table.proofs.CopiedPatterns.{selected_inside, selected_same}
+use Rattle.rng_pattern_table.proofs.SelectedNumbers.{restricted_selected, taken_selected}
 use Rattle.rng_pattern_table.proofs.pattern_table.PatternTable.selected.Goals as goal
 
 pub returns-clause-inside : goal.returns-clause-inside

@@ -2,7 +2,7 @@ use Rattle.std.proofs.Common.{◌≡◌, ◌+◌, ◌-◌, arith, sym, ◌∙◌
 use Rattle.std.proofs.lemmas.List.Elements.{All-weaker}
 use Rattle.rng_pattern_table.specs.plain.Selecting.{AreClosedFrom, IsMarked}
 use Rattle.rng_pattern_table.proofs.KnownFacts.{of_members}
-use Rattle.rng_pattern_table.proofs.Marking.{closed_at_end, closed_more}
+use Rattle.rng_pattern_table.proofs.MarkedNumbers.{closed_at_end, closed_more}
 use Rattle.rng_pattern_table.proofs.pattern_table.PatternTable.with_parts.Goals as goal
 
 pub rows-init : goal.rows-init

@@ -1,6 +1,6 @@
 use Rattle.std.proofs.Common.{refl}
 use Rattle.rng_print.proofs.ItemNumbers.{pattern_new, pattern_there}
-use Rattle.rng_print.proofs.Lookups.{is_new, is_old}
+use Rattle.rng_print.proofs.ListLookups.{is_new, is_old}
 use Rattle.rng_print.proofs.items.Items.add_pattern.Goals as goal
 
 pub returns-in_ok-push-clause-indexed : goal.returns-in_ok-push-clause-indexed

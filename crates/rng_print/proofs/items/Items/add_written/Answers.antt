@@ -1,5 +1,5 @@
 use Rattle.rng_print.proofs.ItemNumbers.{items_with, seen_one}
-use Rattle.rng_print.proofs.Lookups.{both_ok, on_ok}
+use Rattle.rng_print.proofs.ListLookups.{both_ok, on_ok}
 use Rattle.rng_print.proofs.items.Items.add_written.Goals as goal
 
 pub returns-in-Some-clause-added : goal.returns-in-Some-clause-added

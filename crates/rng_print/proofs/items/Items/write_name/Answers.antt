@@ -1,7 +1,7 @@
 use Rattle.std.proofs.Common.{◌≡◌, ◌∙◌, ◌++◌, ap, sym, subst, codes}
 use Rattle.std.specs.Prelude.{OnOk, ◌==◌, decimal}
 use Rattle.rng_print.specs.views.Items.{numbered_name}
-use Rattle.rng_print.proofs.Lookups.{number_is}
+use Rattle.rng_print.proofs.ListLookups.{number_is}
 use Rattle.rng_print.proofs.items.Items.write_name.Goals as goal
 
 pub returns-in-Element : goal.returns-in-Element

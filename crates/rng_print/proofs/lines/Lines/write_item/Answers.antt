@@ -5,7 +5,7 @@ use Rattle.rncv_model.specs.printed.PrintedText.{element_text, item_text}
 use Rattle.rng_print.specs.views.Prefixes.{namespaces_seen}
 use Rattle.rng_print.proofs.ItemTables.{element_is}
 use Rattle.rng_print.proofs.LineTexts.{behind}
-use Rattle.rng_print.proofs.Lookups.{on_ok}
+use Rattle.rng_print.proofs.ListLookups.{on_ok}
 use Rattle.rng_print.proofs.lines.Lines.write_item.Goals as goal
 
 pub returns-in_ok-extend_from_slice-in-Element : goal.returns-in_ok-extend_from_slice-in-Element

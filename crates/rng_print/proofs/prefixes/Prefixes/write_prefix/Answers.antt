@@ -1,7 +1,7 @@
 use Rattle.std.proofs.Common.{◌≡◌, ◌∙◌, ◌++◌, ap, subst, codes}
 use Rattle.std.specs.Prelude.{OnOk, decimal}
 use Rattle.std.specs.Str.{bytes_eq}
-use Rattle.rng_print.proofs.Lookups.{number_is}
+use Rattle.rng_print.proofs.ListLookups.{number_is}
 use Rattle.rng_print.proofs.Namespaces.{place_seen}
 use Rattle.rng_print.proofs.prefixes.Prefixes.write_prefix.Goals as goal
 

@@ -6,7 +6,7 @@ use Rattle.rng_model.specs.views.SchemaView.{place_of}
 use Rattle.rng_load.specs.views.PlacedGrammars.{schema_of}
 use Rattle.rng_schema_checks.specs.plain.ClauseTests.{is_broken_at}
 use Rattle.rng_schema_checks.proofs.AllPlaces.{any_mapped}
-use Rattle.rng_schema_checks.proofs.AmongTests.{false_is_no_truth}
+use Rattle.rng_schema_checks.proofs.ListTests.{false_is_no_truth}
 use Rattle.rng_schema_checks.proofs.BrokenPlaces.{judged}
 use Rattle.rng_schema_checks.proofs.checking.Judge.breaks.Goals as goal
 

@@ -1,7 +1,7 @@
 use Rattle.std.proofs.Common.{ap, ◌∙◌}
 use Rattle.rng_tree_matcher.specs.views.PatternTable.{tree_over, tree_of}
 use Rattle.rng_tree_matcher.proofs.Acceptance.{group_first_empty, group_second_empty}
-use Rattle.rng_tree_matcher.proofs.Follows.{Longer-refl}
+use Rattle.rng_tree_matcher.proofs.GrowingTables.{Longer-refl}
 use Rattle.rng_tree_matcher.proofs.pattern_table.PatternTable.group.Goals as goal
 
 pub returns-in-Empty : goal.returns-in-Empty

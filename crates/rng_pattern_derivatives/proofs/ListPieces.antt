@@ -1,0 +1,110 @@
+-- Strings that are asked as a whole: the pieces of a list, one after the other, and the value of an attribute.
+use Rattle.std.proofs.Common.{◌≡◌, ◌∙◌, ℕ, ◌<◌, ◌≤◌, ◌+◌, ◌↔◌, inl, inr, List, [], ◌∷◌, drop, get_or, length, map, slice_index_or, refl, sym, subst}
+use Rattle.std.proofs.Common.{Bool, true, false, ◌&&◌, ◌||◌, Bor}
+use Rattle.std.proofs.lemmas.List.{drop_all, drop_more}
+use Rattle.rng_model.specs.simple.Tree.{Simple}
+use Rattle.rng_model.specs.matching.Document.{Item, a_text, no_texts, text_and}
+use Rattle.rng_model.specs.simple.Table.{Table, tree_at}
+use Rattle.rng_model.specs.datatypes.Texts.{is_blank}
+use Rattle.rng_model.specs.declared.simple.PatternId.{PatternId}
+use Rattle.rng_model.specs.matching.Reading.{Reading}
+use Rattle.rng_deriv_laws.specs.plain.Taking.{Takes, WeaklyTakes, Same}
+use Rattle.rng_deriv_laws.specs.plain.Taking as t
+use Rattle.rng_deriv_laws.specs.plain.Restricted.{IsRestricted, MayBeListed}
+use Rattle.rng_deriv_laws.specs.plain.Blanks.{IsBare, strings_alone}
+use Rattle.rng_deriv_laws.proofs.Texts.{all_texts, no_lists}
+use Rattle.rng_deriv_laws.proofs.ListFacts.{both, either_left, either_right, in_both, in_either}
+use Rattle.rng_pattern_table.specs.views.Node.{Node}
+use Rattle.rng_pattern_table.specs.views.Taking.{tree_by}
+use Rattle.rng_pattern_table.specs.views.Trees.{tree_of}
+use Rattle.rng_pattern_table.specs.declared.pattern.PatternNumber.{PatternNumber}
+use Rattle.rng_pattern_derivatives.specs.plain.After.{IsLeft}
+use Rattle.rng_pattern_derivatives.specs.plain.Kinds.{Obeys}
+use Rattle.rng_model.specs.matching.GrammarReading.{reading_of}
+use Rattle.rng_pattern_derivatives.specs.plain.Starting.{IsReady}
+use Rattle.rng_pattern_derivatives.specs.declared.way.First.TheVariants as firsts
+use Rattle.rng_pattern_derivatives.specs.declared.way.Place.TheVariants as places
+
+-- ---- the pieces of a list
+
+abbrev pub bytes_in : List (Bor (List ℕ)) → List (List ℕ)
+bytes_in ss = map (λ (s : Bor (List ℕ)). s.now) ss
+
+abbrev pub texts_in : List (Bor (List ℕ)) → List Item
+texts_in ss = map a_text (bytes_in ss)
+
+pub one_piece_more : (t : Table) (old new : List Node) (rest next : PatternNumber) (whole : Simple ℕ) (ss : List (Bor (List ℕ))) (i : ℕ) (d : Bor (List ℕ))
+    → i < length ss → IsLeft t old new (firsts.Text places.List (get_or ss i d)) rest next → Obeys places.List (tree_of t old rest.0)
+    → (Takes (reading_of t) (tree_of t old rest.0) [] (texts_in (drop i ss)) ↔ Takes (reading_of t) whole [] (texts_in ss))
+    → Takes (reading_of t) (tree_of t new next.0) [] (texts_in (drop (i + 1) ss)) ↔ Takes (reading_of t) whole [] (texts_in ss)
+one_piece_more t old new rest next whole ss i d within left o was =
+    let cut = drop_more ss i d within in
+    let law = left.law o (texts_in (drop (i + 1) ss)) (strings_alone (all_texts (bytes_in (get_or ss i d ∷ drop (i + 1) ss)))) in
+    let At : List (Bor (List ℕ)) → Type 0 = λ l. Takes (reading_of t) (tree_of t old rest.0) [] (texts_in l) in
+    (λ h. was.0 (subst At (sym cut) (law.0 h)), λ d. law.1 (subst At cut (was.1 d)))
+
+pub list_told : (t : Table) (old new : List Node) (numbers : List PatternNumber) (body : PatternId) (rest : PatternNumber) (ss : List (Bor (List ℕ))) (i : ℕ)
+    (bytes : List (List ℕ)) (b : Bool) → IsReady t old numbers → body.0 < length numbers → length ss ≤ i → bytes_in ss ≡ bytes
+    → (Obeys places.List (tree_by t old numbers body)
+    → Takes (reading_of t) (tree_of t new rest.0) [] (texts_in (drop i ss)) ↔ Takes (reading_of t) (tree_by t old numbers body) [] (texts_in ss))
+    → ((b ≡ true) ↔ Takes (reading_of t) (tree_of t new rest.0) [] []) → MayBeListed (tree_at t.patterns body)
+    → (b ≡ true) ↔ Takes (reading_of t) (tree_at t.patterns body) [] (map a_text bytes)
+list_told t old new numbers body rest ss i bytes b ready inside past are takes nullable o =
+    let law = takes (ready.kept places.List body inside (no_lists (tree_at t.patterns body) o)) in
+    let same = ready.taken.same body.0 inside (reading_of t) in
+    let Rest : List (Bor (List ℕ)) → Type 0 = λ l. Takes (reading_of t) (tree_of t new rest.0) [] (texts_in l) in
+    let Whole : List (List ℕ) → Type 0 = λ l. Takes (reading_of t) (tree_at t.patterns body) [] (map a_text l) in
+    let none = drop_all i ss past in (
+      λ h. subst Whole are (same.to [] (texts_in ss) (law.0 (subst Rest (sym none) (nullable.0 h)))),
+      λ d. nullable.1 (subst Rest none (law.1 (same.back [] (texts_in ss) (subst Whole (sym are) d)))),
+    )
+
+-- ---- the value of an attribute
+
+pub either_true : (a x : Bool) → a ≡ true → a ≡ a || x
+either_true true x e = refl
+either_true false x e = absurd (cc)
+
+pub either_blank : (a b x : Bool) → a ≡ false → b ≡ true → x ≡ a || (b && x)
+either_blank true b x e d = absurd (cc)
+either_blank false true x e d = refl
+either_blank false false x e d = absurd (cc)
+
+pub either_none : (a b x : Bool) → a ≡ false → b ≡ false → b ≡ a || (b && x)
+either_none true b x e d = absurd (cc)
+either_none false true x e d = absurd (cc)
+either_none false false x e d = refl
+
+module _ (g : Reading) (p q rest : Simple ℕ) (s : List ℕ) (same : Same g q p)
+    (law : (ns : List Item) → IsBare (a_text s ∷ ns) → Takes g rest [] ns ↔ Takes g q [] (a_text s ∷ ns))
+    (ends empty blank : Bool) (ends_is : (ends ≡ true) ↔ Takes g rest [] []) (empty_is : (empty ≡ true) ↔ Takes g q [] []) (blank_is : blank ≡ is_blank s)
+  where
+    own : Takes g rest [] [] ↔ Takes g q [] (a_text s ∷ [])
+    own = law [] (strings_alone (text_and no_texts))
+
+    weakly_in : WeaklyTakes g p [] (a_text s ∷ []) → ends || (empty && blank) ≡ true
+    weakly_in (t.as_is d) = either_left ends (empty && blank) (ends_is.1 (own.1 (same.back [] _ d)))
+    weakly_in (t.blank_text d e) = either_right ends (empty && blank) (both empty blank (empty_is.1 (same.back [] [] d)) (blank_is ∙ e))
+
+    weakly_out : ends || (empty && blank) ≡ true → WeaklyTakes g p [] (a_text s ∷ [])
+    weakly_out e = elim (in_either ends (empty && blank) e) [
+      | inl h ↦ t.as_is (same.to [] _ (own.0 (ends_is.0 h)))
+      | inr h ↦ let b = in_both empty blank h in t.blank_text (same.to [] [] (empty_is.0 b.0)) (sym blank_is ∙ b.1)
+    ]
+
+    pub weakly_told : (b : Bool) → b ≡ ends || (empty && blank) → (b ≡ true) ↔ WeaklyTakes g p [] (a_text s ∷ [])
+    weakly_told b e = (λ h. weakly_out (sym e ∙ h), λ w. e ∙ weakly_in w)
+
+pub value_told : (t : Table) (old new : List Node) (numbers : List PatternNumber) (body : PatternId) (number rest : PatternNumber) (s : Bor (List ℕ))
+    (ends empty blank b : Bool) → IsReady t old numbers → body.0 < length numbers → number ≡ slice_index_or numbers body.0 (record { 0 = 0 })
+    → IsLeft t old new (firsts.Text places.Content s) number rest → ((ends ≡ true) ↔ Takes (reading_of t) (tree_of t new rest.0) [] [])
+    → ((empty ≡ true) ↔ Takes (reading_of t) (tree_of t old number.0) [] []) → blank ≡ is_blank s.now → b ≡ ends || (empty && blank)
+    → IsRestricted (tree_at t.patterns body) → (b ≡ true) ↔ WeaklyTakes (reading_of t) (tree_at t.patterns body) [] (a_text s.now ∷ [])
+value_told t old new numbers body number rest s ends empty blank b ready inside is left ends_is empty_is blank_is b_is o =
+    let g = reading_of t in
+    let Alike : PatternNumber → Type 0 = λ n. Same g (tree_of t old n.0) (tree_at t.patterns body) in
+    let Kept : PatternNumber → Type 0 = λ n. IsRestricted (tree_of t old n.0) in
+    let same = subst Alike (sym is) (ready.taken.same body.0 inside g) in
+    let kept = subst Kept (sym is) (ready.kept places.Content body inside o) in
+    weakly_told g (tree_at t.patterns body) (tree_of t old number.0) (tree_of t new rest.0) s.now same (left.law kept) ends empty blank ends_is empty_is
+    blank_is b b_is
