@@ -8,7 +8,7 @@ use Rattle.rnc_text.specs.declared.scanning.Class.TheVariants as classes
 use Rattle.rnc_model.specs.declared.token.Sign.{Sign}
 use Rattle.rnc_model.specs.characters.Characters.{numbers_of}
 use Rattle.rnc_model.specs.tokens.Tokens as spec
-use Rattle.rnc_model.specs.tokens.Tokens.{Piece, gap, token, characters_in, IsPiece, IsNcname, IsUpToThree, is_blank, is_in_line, is_in_segment, is_quote, word_kind}
+use Rattle.rnc_model.specs.tokens.Tokens.{Piece, gap, token, characters_in, IsPiece, IsNcname, IsUpToThree, is_blank_character, is_in_line, is_in_segment, is_quote, word_kind}
 use Rattle.rnc_model.specs.tokens.Tokens.{sign_of, sign_table, look_up, three}
 use Rattle.rnc_text.specs.plain.CutSteps.{Found, front, after, first_of, behind, behind_two, until_three, begins_ncname, starts_ncname, local_at, star_at, colon_at}
 use Rattle.rnc_text.specs.plain.CutSteps.{name_at, quoted_at, segment_with, segment_at, triple_with, triple_in, triple_at, or_else, signed, long_sign, sign_at}
@@ -148,7 +148,7 @@ by_front : (c : ℕ) (cs : List Character) (q : Piece) (end : List Character) �
 by_front c cs q end f =
     elim (chosen (starts_ncname c) _ _ _ f) [
       | inl h ↦ name_front c cs q end h.0 h.1
-      | inr h1 ↦ elim (chosen (is_blank (Ordinary c)) _ _ _ h1.1) [
+      | inr h1 ↦ elim (chosen (is_blank_character (Ordinary c)) _ _ _ h1.1) [
         | inl h ↦ as_found (Ordinary c ∷ cs) _ q _ end (record { is = spec.blank h.0; parts = refl }) h.1
         | inr h2 ↦ elim (chosen (eqb c 0x23) _ _ _ h2.1) [
           | inl h ↦ let e = eqb-true c 0x23 h.0 in

@@ -16,7 +16,7 @@ use Rattle.rnc_model.specs.declared.token.TokenKind.{TokenKind}
 use Rattle.rnc_model.specs.declared.token.TokenKind.TheVariants as kinds
 use Rattle.rnc_model.specs.characters.Characters.{number_of, numbers_of}
 use Rattle.rnc_model.specs.tokens.Tokens as spec
-use Rattle.rnc_model.specs.tokens.Tokens.{Piece, gap, token, characters_in, IsPiece, IsNcname, IsUpToThree, is_blank, is_in_line, is_in_segment, is_quote, word_kind}
+use Rattle.rnc_model.specs.tokens.Tokens.{Piece, gap, token, characters_in, IsPiece, IsNcname, IsUpToThree, is_blank_character, is_in_line, is_in_segment, is_quote, word_kind}
 use Rattle.rnc_model.specs.tokens.Tokens.{sign_of, sign_table, look_up, three}
 use Rattle.rnc_text.specs.plain.CutSteps.{Found, is_in, front, after, first_of, behind, behind_two, until_three, begins_ncname, starts_ncname, local_at, star_at}
 use Rattle.rnc_text.specs.plain.CutSteps.{colon_at, name_at, segment_at, triple_with, triple_in, triple_at, or_else, signed, long_sign, piece_of}
@@ -152,7 +152,7 @@ quoted_covers name rest h =
 
 -- ---- gaps
 
-blank_covers : (c : Character) (rest : List Character) → is_blank c ≡ true → Covered (gap (c ∷ [])) (piece_of (c ∷ rest))
+blank_covers : (c : Character) (rest : List Character) → is_blank_character c ≡ true → Covered (gap (c ∷ [])) (piece_of (c ∷ rest))
 blank_covers LineEnd rest h = exact _ rest _ (piece_line _ rest refl)
 blank_covers (Ordinary c) rest h = exact _ rest _ (piece_blank c _ rest refl (either (or_cases (eqb c 0x20) (eqb c 0x9) h)))
   where

@@ -2,7 +2,7 @@
 use Rattle.std.proofs.Common.{◌≡◌, List, ℕ, Option, Some, Result, Ok, Err, IfOk, sym, subst, ap, ◌∙◌}
 use Rattle.std.proofs.Math.Path.{fun_ext}
 use Rattle.rng_model.specs.schema.Schema.{Schema}
-use Rattle.rnc_model.specs.loading.Loading.{TakenFiles, FilesVerdict, are_taken, IsTheFilesVerdict, tree_in}
+use Rattle.rnc_model.specs.loading.Loading.{TakenFiles, FilesVerdict, are_taken, FilesHaveOnlyVerdict, tree_in}
 use Rattle.rnc_model.specs.loading.LoadedSchema.{AreSchema}
 use Rattle.rnc_model.specs.loading.Places.{IsSchemaOf}
 use Rattle.rnc_model.specs.loading.SchemaFile.{Name, NamedFile}
@@ -38,7 +38,7 @@ judges_none command main read s verdict a e none = judges_none_of command main r
 
 -- the answer by the schema that was loaded is the one for its files
 pub loaded_answer : {E : Type 0} (command : Command) (files : List NamedFile) (main : Name) (read : TakenFiles) (s : Schema) (old new : Option (List ℕ))
-    → IsTheFilesVerdict files main (are_taken read) → AreSchema read main s → (r : Result declared.Answer E)
+    → FilesHaveOnlyVerdict files main (are_taken read) → AreSchema read main s → (r : Result declared.Answer E)
     → IfOk r (λ a. IsAnswerBy command s old new (answer_of a)) → IfOk r (λ a. IsAnswer command files main old new (answer_of a))
 loaded_answer command files main read s old new v a (Ok x) is = record { verdict = are_taken read; is_verdict = v; follows = (s, a, is) }
 loaded_answer command files main read s old new v a (Err e) is = tt

@@ -3,7 +3,7 @@ ghost use Rattle.std.specs.Prelude.{◌≡◌, ◌-◌, ◌^◌, ◌<◌, Some, 
 ghost use Rattle.rng_model.specs.devices.Device.{device_inner, device_failures, device_flushed};
 ghost use Rattle.rncv_run.specs.views.AnswerView.{answer_of, refusal_of};
 ghost use Rattle.rnc_model.specs.loading.Files.{named_files};
-ghost use Rattle.rnc_model.specs.loading.Loading.{FilesVerdict, IsTheFilesVerdict};
+ghost use Rattle.rnc_model.specs.loading.Loading.{FilesVerdict, FilesHaveOnlyVerdict};
 ghost use Rattle.rng_load.specs.views.PlacedGrammars.{schema_of};
 ghost use Rattle.rng_model.specs.schema.Schema.{IsWellPlaced};
 ghost use Rattle.rncv_model.specs.answers.Run.{IsAnswer, IsAnswerBy, JudgesDocuments, JudgesNone, WritesAnswer, WrittenAfter, main_name};
@@ -56,7 +56,7 @@ pub fn run<R: Read, W: Write>(
     ensures flushed { OnOk result (device_flushed output.new ≡ true) }
 
     // Where no document is judged by the files, none is read.
-    ensures unread { (verdict : FilesVerdict) → IsTheFilesVerdict (named_files files.now) (main_name files.now) verdict → JudgesNone command (main_name files.now) verdict → input.new ≡ input.old }
+    ensures unread { (verdict : FilesVerdict) → FilesHaveOnlyVerdict (named_files files.now) (main_name files.now) verdict → JudgesNone command (main_name files.now) verdict → input.new ≡ input.old }
 
     // A fault of a device is answered only where that device counted one.
     ensures read { IsErrOf result RunFault.Read → device_failures input.old < device_failures input.new }
@@ -102,7 +102,7 @@ fn answer_for<R: Read>(
 ) -> Result<Answer, JudgeFault>
     requires { device_failures input.old < 2 ^ 64 - 1 }
     ensures calm { OnOk result (device_failures input.new ≡ device_failures input.old) }
-    ensures unread { (verdict : FilesVerdict) → IsTheFilesVerdict (named_files files.now) main.now verdict → JudgesNone command main.now verdict → input.new ≡ input.old }
+    ensures unread { (verdict : FilesVerdict) → FilesHaveOnlyVerdict (named_files files.now) main.now verdict → JudgesNone command main.now verdict → input.new ≡ input.old }
     ensures read { IsErrOf result JudgeFault.Read → device_failures input.old < device_failures input.new }
     ensures memory { IsErrOf result JudgeFault.Memory → device_failures input.new ≡ device_failures input.old }
     ensures answer { IfOk result (λ answer. IsAnswer command (named_files files.now) main.now (R.remaining (device_inner input.old)) (R.remaining (device_inner input.new)) (answer_of answer)) }

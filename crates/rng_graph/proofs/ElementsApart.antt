@@ -14,7 +14,7 @@ use Rattle.rng_model.specs.schema.Schema.{Schema, Component, Definition, same_na
 use Rattle.rng_model.specs.schema.Unfolding.{Leaf}
 use Rattle.rng_model.proofs.Unfolding.{some_is}
 use Rattle.rng_graph.specs.views.ComponentTable.{components_at}
-use Rattle.rng_graph.specs.plain.Graph.{AreApart, same_definition, same_leaf}
+use Rattle.rng_graph.specs.plain.Graph.{ArePairwiseApart, same_definition, same_leaf}
 use Rattle.rng_graph.specs.plain.ResolvedElements.{with_elements, with_all_elements, with_named_elements, with_elements_of, elements_of}
 use Rattle.rng_graph.proofs.Graphs.{contains_found, found_contained}
 use Rattle.rng_graph.proofs.ResolvedPatterns.{none_there}
@@ -65,7 +65,7 @@ not_one l m q two =
     let both = and_parts (bytes_eq l.place m.place) (bytes_eq l.position m.position) q in
     two ((bytes_eq-Decides l.place m.place).0 both.0) ((bytes_eq-Decides l.position m.position).0 both.1)
 
-leaves_apart : (ls : List Leaf) → AllApart ls → AreApart same_leaf ls
+leaves_apart : (ls : List Leaf) → AllApart ls → ArePairwiseApart same_leaf ls
 leaves_apart [] none_apart i j x y e f q = absurd (let h = slice_get_within [] i x e in omega arith)
 leaves_apart (l ∷ ls) (more_apart a more) zero zero x y e f q = refl
 leaves_apart (l ∷ ls) (more_apart a more) zero (suc j) x y e f q =
@@ -273,17 +273,17 @@ one_definition s d e l m a b p q =
     let names = same_names d.name e.name b.component.name (ap (λ c. same_name d.name c.name) (sym component) ∙ a.named) b.named in
     rw ((bytes_eq-Decides d.place e.place).1 places, names) refl
 
-definitions_two : (s : Schema) (d : Definition) (ds : List Definition) → AreApart same_definition (d ∷ ds) → (l m : Leaf) → InDefinition s d l
+definitions_two : (s : Schema) (d : Definition) (ds : List Definition) → ArePairwiseApart same_definition (d ∷ ds) → (l m : Leaf) → InDefinition s d l
     → InOneOf s ds m → AreTwo l m
 definitions_two s d ds apart l m a b p q =
     let at = found_contained ds b.definition b.among in
     let zero_is : 0 ≡ suc at.0 = apart 0 (suc at.0) d b.definition refl at.1 (one_definition s d b.definition l m a b.inside p q) in
     omega (arith, zero_is)
 
-rest_apart : (d : Definition) (ds : List Definition) → AreApart same_definition (d ∷ ds) → AreApart same_definition ds
+rest_apart : (d : Definition) (ds : List Definition) → ArePairwiseApart same_definition (d ∷ ds) → ArePairwiseApart same_definition ds
 rest_apart d ds apart i j x y e f q = let h : suc i ≡ suc j = apart (suc i) (suc j) x y e f q in omega (arith, h)
 
-definitions_bring : (s : Schema) (ds : List Definition) (ls : List Leaf) → AreApart same_definition ds
+definitions_bring : (s : Schema) (ds : List Definition) (ls : List Leaf) → ArePairwiseApart same_definition ds
     → Brought (InOneOf s ds) ls (fold (with_elements_of s) ls ds)
 definitions_bring s [] ls apart = none_brought
 definitions_bring s (d ∷ ds) ls apart =
@@ -292,7 +292,7 @@ definitions_bring s (d ∷ ds) ls apart =
     (definitions_two s d ds apart) (named_bring d.place d.name 0 (components_at s d.place) ls)
     (definitions_bring s ds (with_elements_of s ls d) (rest_apart d ds apart))
 
-pub elements_apart : (s : Schema) (ds : List Definition) → AreApart same_definition ds → AreApart same_leaf (elements_of s ds)
+pub elements_apart : (s : Schema) (ds : List Definition) → ArePairwiseApart same_definition ds → ArePairwiseApart same_leaf (elements_of s ds)
 elements_apart s ds apart =
     let b = definitions_bring s ds [] apart in
-    subst (AreApart same_leaf) (sym b.is) (leaves_apart b.more b.apart)
+    subst (ArePairwiseApart same_leaf) (sym b.is) (leaves_apart b.more b.apart)

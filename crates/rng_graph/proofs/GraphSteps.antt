@@ -13,7 +13,7 @@ use Rattle.rng_model.specs.schema.Schema.{Schema, Component, Definition, main_st
 use Rattle.rng_model.specs.schema.Unfolding.{Leaf, content_of, to_definition}
 use Rattle.rng_model.proofs.Unfolding.{some_is}
 use Rattle.rng_graph.specs.views.ComponentTable.{given, IsTable, Table, components_of, schema_components}
-use Rattle.rng_graph.specs.plain.Graph.{Spot, IsResolved, IsGraphOf, AreApart, same_definition, same_leaf, number_of}
+use Rattle.rng_graph.specs.plain.Graph.{Spot, IsResolved, IsGraphOf, ArePairwiseApart, same_definition, same_leaf, number_of}
 use Rattle.rng_graph.specs.plain.Met.{met_start}
 use Rattle.rng_graph.specs.plain.ReadySchema.{IsReady}
 use Rattle.rng_graph.specs.plain.ResolvedElements.{elements_of, with_elements_of}
@@ -55,7 +55,7 @@ module _ (s : Schema) (ready : IsReady s) where
       each = λ k m e f g. absurd (let h = slice_get_within [] k m f in omega arith);
       met_definitions = λ d c. met_start (ap to_definition (only_one d (subst (λ ds. Contains ds d) ds c)));
       met_elements = λ m c. absurd (none_there c);
-      apart = subst (AreApart same_definition) (sym ds) one_apart;
+      apart = subst (ArePairwiseApart same_definition) (sym ds) one_apart;
     };
     each = λ j d r e f. absurd (let h = slice_get_within [] j r f in omega arith);
   }
@@ -63,7 +63,7 @@ module _ (s : Schema) (ready : IsReady s) where
       only_one : (d : Definition) → Contains (main_start s ∷ []) d → d ≡ main_start s
       only_one d c = elim (Contains-push_cases [] (main_start s) d c) [ inl z ↦ absurd (none_there z) | inr z ↦ sym z ]
 
-      one_apart : AreApart same_definition (main_start s ∷ [])
+      one_apart : ArePairwiseApart same_definition (main_start s ∷ [])
       one_apart i j x y e f q = let a = slice_get_within (main_start s ∷ []) i x e in let b = slice_get_within (main_start s ∷ []) j y f in omega arith
 
   pub goes_on : (v : Numbering) (bodies : List (Tree Spot)) (d : Definition) → IsGraphSoFar s v bodies → slice_get v.definitions (length bodies) ≡ Some d
@@ -103,7 +103,7 @@ module _ (s : Schema) (ready : IsReady s) where
 
   -- once all have a body
   pub whole : (v : Numbering) (bodies : List (Tree Spot)) → IsGraphSoFar s v bodies → length v.definitions ≤ length bodies
-      → AreApart same_leaf (elements_of s v.definitions)
+      → ArePairwiseApart same_leaf (elements_of s v.definitions)
       → IsGraphOf s v.definitions (elements_of s v.definitions) (record { bodies = bodies; contents = map (λ e. e.1) v.elements })
   whole v bodies is all apart =
       let elements : elements_so_far s (length bodies) v ≡ elements_of s v.definitions = ap (elements_of s) (take_all (length bodies) v.definitions all) in
@@ -147,7 +147,7 @@ stands_at : {A : Type 0} {x : A} {xs : List A} → Among x xs → (k : ℕ) × (
 stands_at here = (0, refl)
 stands_at (there i) = let k = stands_at i in (suc k.0, k.1)
 
-none_twice : (ds : List Definition) → AreApart same_definition ds → ¬ (HasTwice ds)
+none_twice : (ds : List Definition) → ArePairwiseApart same_definition ds → ¬ (HasTwice ds)
 none_twice [] apart t = elim t [ ]
 none_twice (d ∷ ds) apart (at_first a) = let k = stands_at a in let e = apart 0 (suc k.0) d d refl k.1 (definition_same d) in omega (arith, e)
 none_twice (d ∷ ds) apart (later t) =

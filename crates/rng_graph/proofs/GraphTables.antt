@@ -14,7 +14,7 @@ use Rattle.rng_model.specs.schema.Unfolding.{Leaf, Aim, to_definition, aim}
 use Rattle.rng_graph.specs.plain.Met.{IsSettled, IsOrder, none_yet, and_then, Leads, directly, further}
 use Rattle.rng_graph.specs.plain.DepthWith.{depth_with, of_aim, depth_at, IsFilled}
 use Rattle.rng_graph.specs.plain.Graph.{Spot, at_element, at_definition, Graph, element_aim, definition_aim, aim_at, IsSpotBelow, IsResolved, same_definition}
-use Rattle.rng_graph.specs.plain.Graph.{same_leaf, AreApart, IsGraphOf, Mentions, IsOrderBy, no_numbers, and_number, LeadsBy, by_one, by_more, of_spot, spot_depth}
+use Rattle.rng_graph.specs.plain.Graph.{same_leaf, ArePairwiseApart, IsGraphOf, Mentions, IsOrderBy, no_numbers, and_number, LeadsBy, by_one, by_more, of_spot, spot_depth}
 use Rattle.rng_graph.specs.plain.Graph.{IsFilledBy, first_with, no_definition, definition_at, number_of, leaf_number}
 use Rattle.rng_model.proofs.Unfolding.{some_is}
 use Rattle.rng_graph.proofs.LoopsOrOrder.{no_more}
@@ -79,10 +79,10 @@ pub leaf_same : (l : Leaf) → same_leaf l l ≡ true
 leaf_same l = rw (bytes_same l.place) (bytes_same l.position)
 
 -- the number of what stands somewhere
-pub number_is : (ds : List Definition) → AreApart same_definition ds → (j : ℕ) (d : Definition) → slice_get ds j ≡ Some d → number_of ds d ≡ j
+pub number_is : (ds : List Definition) → ArePairwiseApart same_definition ds → (j : ℕ) (d : Definition) → slice_get ds j ≡ Some d → number_of ds d ≡ j
 number_is ds apart j d e = first_is (same_definition d) ds j d e (definition_same d) (λ i y f q. sym (apart j i d y e f q))
 
-pub leaf_number_is : (ls : List Leaf) → AreApart same_leaf ls → (k : ℕ) (m : Leaf) → slice_get ls k ≡ Some m → leaf_number ls m ≡ k
+pub leaf_number_is : (ls : List Leaf) → ArePairwiseApart same_leaf ls → (k : ℕ) (m : Leaf) → slice_get ls k ≡ Some m → leaf_number ls m ≡ k
 leaf_number_is ls apart k m e = first_is (same_leaf m) ls k m e (leaf_same m) (λ i y f q. sym (apart k i m y e f q))
 
 -- ---- orders and loops

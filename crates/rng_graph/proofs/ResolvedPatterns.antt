@@ -17,7 +17,7 @@ use Rattle.rng_model.specs.schema.Schema.{Schema, Definition, same_name}
 use Rattle.rng_model.specs.simple.Leaves.{LeafIn, LeafAmong, all_renamed}
 use Rattle.rng_model.specs.simple.Leaves as at
 use Rattle.rng_model.specs.schema.Unfolding.{Leaf, content_of, to_element, to_definition, to_nothing, aim, outside}
-use Rattle.rng_graph.specs.plain.Graph.{Spot, IsSpotBelow, IsResolved, AreApart, aim_at, element_aim, definition_aim, same_definition, number_of}
+use Rattle.rng_graph.specs.plain.Graph.{Spot, IsSpotBelow, IsResolved, ArePairwiseApart, aim_at, element_aim, definition_aim, same_definition, number_of}
 use Rattle.rng_graph.specs.plain.Met.{Met, met_in_element}
 use Rattle.rng_graph.specs.plain.ResolvedElements.{with_elements, with_all_elements}
 use Rattle.rng_graph.specs.plain.Resolving.{Numbering, Resolved, resolve, resolve_all, looked_up, looked_up_outside, with_definition, with_element}
@@ -48,8 +48,8 @@ pub last_is : {A : Type 0} (xs : List A) (y : A) → slice_get (xs ++ y ∷ []) 
 last_is [] y = refl
 last_is (x ∷ xs) y = last_is xs y
 
-one_more_apart : (ds : List Definition) (d : Definition) → AreApart same_definition ds → ((e : Definition) → Contains ds e → same_definition d e ≡ true → ⊥)
-    → AreApart same_definition (ds ++ d ∷ [])
+one_more_apart : (ds : List Definition) (d : Definition) → ArePairwiseApart same_definition ds → ((e : Definition) → Contains ds e → same_definition d e ≡ true → ⊥)
+    → ArePairwiseApart same_definition (ds ++ d ∷ [])
 one_more_apart ds d apart n i j x y e f q = elim (at_end ds d x i e) [
   | inl a ↦ elim (at_end ds d y j f) [
     | inl b ↦ apart i j x y a b q
@@ -102,7 +102,7 @@ pub record IsThere (d : Definition) (ds new : List Definition) : Type 0 where
   pub is : new ≡ ds ++ more
   pub there : slice_get new (number_of ds d) ≡ Some d
   pub only : (e : Definition) → Contains more e → e ≡ d
-  pub apart : AreApart same_definition ds → AreApart same_definition new
+  pub apart : ArePairwiseApart same_definition ds → ArePairwiseApart same_definition new
 
 pub asked_for : (d : Definition) (ds : List Definition) → IsThere d ds (with_definition ds d)
 asked_for d ds = elim (asked d ds) [
@@ -112,7 +112,7 @@ asked_for d ds = elim (asked d ds) [
         is = same ∙ sym (append-nil ds);
         there = ap (λ es. slice_get es (number_of ds d)) same ∙ e;
         only = λ f c. absurd (none_there c);
-        apart = λ a. subst (AreApart same_definition) (sym same) a;
+        apart = λ a. subst (ArePairwiseApart same_definition) (sym same) a;
       }
   | is_new h e n ↦
       let same : with_definition ds d ≡ ds ++ d ∷ [] = ap (λ b. if b then ds else ds ++ d ∷ []) h in record {
@@ -120,7 +120,7 @@ asked_for d ds = elim (asked d ds) [
         is = same;
         there = ap₂ slice_get same e ∙ last_is ds d;
         only = λ f c. elim (Contains-push_cases [] d f c) [ inl z ↦ absurd (none_there z) | inr z ↦ sym z ];
-        apart = λ a. subst (AreApart same_definition) (sym same) (one_more_apart ds d a n);
+        apart = λ a. subst (ArePairwiseApart same_definition) (sym same) (one_more_apart ds d a n);
       }
 ]
 
@@ -133,7 +133,7 @@ pub record IsNumbering (s : Schema) (ls : List Leaf) (v : Numbering) : Type 0 wh
       → (e.0 ≡ m.class) × IsResolved s v.definitions ls m.place (content_of m) e.1
   pub met_definitions : (d : Definition) → Contains v.definitions d → Met s (to_definition d)
   pub met_elements : (m : Leaf) → Contains ls m → Met s (to_element m)
-  pub apart : AreApart same_definition v.definitions
+  pub apart : ArePairwiseApart same_definition v.definitions
 
 -- more has a number, and what had one has it still
 pub record IsMore (ls : List Leaf) (v : Numbering) (ls' : List Leaf) (v' : Numbering) : Type 0 where

@@ -19,8 +19,8 @@ use Rattle.rnc_model.specs.grammar.Sentence as parsing_sentence
 use Rattle.rnc_grammar.specs.views.ParsingFaults as parsing_faults
 use Rattle.rnc_grammar.specs.views.View.{file_of}
 use Rattle.rng_load.specs.views.FileFaults.{fault_of_text, fault_of_parse, verdict_of}
-use Rattle.rnc_model.specs.loading.SchemaFile.{AreTokensOf, BreaksClause, not_utf8, bad_characters, bad_tokens, no_sentence, too_deep, bad_declarations}
-use Rattle.rnc_model.specs.loading.SchemaFile.{IsSchemaFile, FileVerdict, breaks, has_tree, IsContentVerdict, IsTheContentVerdict}
+use Rattle.rnc_model.specs.loading.SchemaFile.{AreTokensOf, BreaksFileClause, not_utf8, bad_characters, bad_tokens, no_sentence, too_deep, bad_declarations}
+use Rattle.rnc_model.specs.loading.SchemaFile.{IsSchemaFile, FileVerdict, breaks, has_tree, ContentHasVerdict, ContentHasOnlyVerdict}
 
 -- ---- characters
 
@@ -32,13 +32,13 @@ pub record Decoded (bytes : List ℕ) (cs : List Character) : Type 0 where
 
 -- bytes that break a clause of characters break it alone
 text_breaks : (bytes : List ℕ) (k offset : ℕ) → BreaksTextAt bytes k offset → ((cs : List Character) → IsDecoded bytes cs → ⊥) →
-    ((j at : ℕ) → BreaksTextAt bytes j at → (k ≡ j) × (offset ≡ at)) → IsTheContentVerdict bytes (breaks k)
+    ((j at : ℕ) → BreaksTextAt bytes j at → (k ≡ j) × (offset ≡ at)) → ContentHasOnlyVerdict bytes (breaks k)
 text_breaks bytes k offset b none one = record { is = found b; only = only } where
-  found : BreaksTextAt bytes k offset → BreaksClause bytes k
+  found : BreaksTextAt bytes k offset → BreaksFileClause bytes k
   found (inl (e, b)) = not_utf8 offset b e
   found (inr (e, b)) = bad_characters offset b e
 
-  clause : (j : ℕ) → BreaksClause bytes j → k ≡ j
+  clause : (j : ℕ) → BreaksFileClause bytes j → k ≡ j
   clause j (not_utf8 at b e) = (one 3 at (inl (refl, b))).0 ∙ sym e
   clause j (bad_characters at b e) = (one 4 at (inr (refl, b))).0 ∙ sym e
   clause j (bad_tokens cs at d b e) = absurd (none cs d)
@@ -46,7 +46,7 @@ text_breaks bytes k offset b none one = record { is = found b; only = only } whe
   clause j (too_deep ts are b e) = absurd (none are.characters are.decoded)
   clause j (bad_declarations ts are b e) = absurd (none are.characters are.decoded)
 
-  only : (other : FileVerdict) → IsContentVerdict bytes other → breaks k ≡ other
+  only : (other : FileVerdict) → ContentHasVerdict bytes other → breaks k ≡ other
   only (breaks j) h = ap breaks (clause j h)
   only (has_tree t) h = absurd (none h.are.characters h.are.decoded)
 
@@ -54,7 +54,7 @@ text_breaks bytes k offset b none one = record { is = found b; only = only } whe
 pub text_fault : (bytes : List ℕ) (x : TextFault) → IfBroken (BreaksTextAt bytes) x →
     ((cs : List Character) → IsDecoded bytes cs → GivesOk {X = List Character} (λ t. t) (Err x) cs) →
     ((k offset : ℕ) → BreaksTextAt bytes k offset → GivesFault {X = List Character} (Err x) k offset) →
-    IfSome (verdict_of (Err (fault_of_text x))) (IsTheContentVerdict bytes)
+    IfSome (verdict_of (Err (fault_of_text x))) (ContentHasOnlyVerdict bytes)
 text_fault bytes texts.Memory b none one = tt
 text_fault bytes (texts.At k offset) b none one = text_breaks bytes k offset b none one
 
@@ -74,12 +74,12 @@ pub record Tokenized (cs : List Character) (ts : List Token) : Type 0 where
 
 -- characters that begin nothing at a offset break this clause alone
 tokens_break : (bytes : List ℕ) (cs : List Character) (k offset : ℕ) → Decoded bytes cs → k ≡ 5 → BreaksTokensAt cs offset →
-    ((ts : List Token) → HasTokens cs ts → ⊥) → IsTheContentVerdict bytes (breaks k)
+    ((ts : List Token) → HasTokens cs ts → ⊥) → ContentHasOnlyVerdict bytes (breaks k)
 tokens_break bytes cs k offset d five b none = record { is = bad_tokens cs offset d.is b five; only = only } where
   no_other : (other : List Character) (ts : List Token) → IsDecoded bytes other → HasTokens other ts → ⊥
   no_other other ts is has = none ts (subst (λ cs. HasTokens cs ts) (sym (d.one other is)) has)
 
-  clause : (j : ℕ) → BreaksClause bytes j → k ≡ j
+  clause : (j : ℕ) → BreaksFileClause bytes j → k ≡ j
   clause j (not_utf8 at b e) = absurd (d.sound 3 at (inl (refl, b)))
   clause j (bad_characters at b e) = absurd (d.sound 4 at (inr (refl, b)))
   clause j (bad_tokens cs at d b e) = five ∙ sym e
@@ -87,14 +87,14 @@ tokens_break bytes cs k offset d five b none = record { is = bad_tokens cs offse
   clause j (too_deep ts are b e) = absurd (no_other are.characters ts are.decoded are.are)
   clause j (bad_declarations ts are b e) = absurd (no_other are.characters ts are.decoded are.are)
 
-  only : (other : FileVerdict) → IsContentVerdict bytes other → breaks k ≡ other
+  only : (other : FileVerdict) → ContentHasVerdict bytes other → breaks k ≡ other
   only (breaks j) h = ap breaks (clause j h)
   only (has_tree t) h = absurd (no_other h.are.characters h.tokens h.are.decoded h.are.are)
 
 -- a fault of the tokens is a broken clause, unless memory ran out
 pub tokens_fault : {X : Type 0} (view : X → List Token) (bytes : List ℕ) (cs : List Character) (x : TextFault) → Decoded bytes cs →
     IfBroken (λ k offset. (k ≡ 5) × BreaksTokensAt cs offset) x → ((ts : List Token) → HasTokens cs ts → GivesOk view (Err x) ts) →
-    IfSome (verdict_of (Err (fault_of_text x))) (IsTheContentVerdict bytes)
+    IfSome (verdict_of (Err (fault_of_text x))) (ContentHasOnlyVerdict bytes)
 tokens_fault view bytes cs texts.Memory d b none = tt
 tokens_fault view bytes cs (texts.At k offset) d b none = tokens_break bytes cs k offset d b.0 b.1 none
 
@@ -116,14 +116,14 @@ pub data BreaksSentence (ts : List Lexeme) (k : ℕ) : Type 0 where
 pub record Lexed (bytes : List ℕ) (ts : List Token) : Type 0 where
   pub is : AreTokensOf bytes ts
   pub one : (other : List Token) → AreTokensOf bytes other → ts ≡ other
-  pub sound : (k : ℕ) → BreaksClause bytes k → BreaksSentence (lexemes ts) k
+  pub sound : (k : ℕ) → BreaksFileClause bytes k → BreaksSentence (lexemes ts) k
 
 pub lexed : (bytes : List ℕ) (cs : List Character) (ts : List Token) → Decoded bytes cs → Tokenized cs ts → Lexed bytes ts
 lexed bytes cs ts d t = record { is = record { characters = cs; decoded = d.is; are = t.is }; one = one; sound = sound } where
   one : (other : List Token) → AreTokensOf bytes other → ts ≡ other
   one other a = t.one other (subst (λ cs. HasTokens cs other) (sym (d.one a.characters a.decoded)) a.are)
 
-  sound : (k : ℕ) → BreaksClause bytes k → BreaksSentence (lexemes ts) k
+  sound : (k : ℕ) → BreaksFileClause bytes k → BreaksSentence (lexemes ts) k
   sound k (not_utf8 at b e) = absurd (d.sound 3 at (inl (refl, b)))
   sound k (bad_characters at b e) = absurd (d.sound 4 at (inr (refl, b)))
   sound k (bad_tokens other at is b e) = absurd (t.sound at (subst (λ cs. BreaksTokensAt cs at) (sym (d.one other is)) b))
@@ -144,10 +144,10 @@ tree_there : (bytes : List ℕ) (ts : List Token) (t : FileTree) → Lexed bytes
 tree_there bytes ts t l f = subst (λ ts. IsFileTree (lexemes ts) t) (sym (l.one f.tokens f.are)) f.tree
 
 -- a clause of the grammar that is the only one broken
-sentence_breaks : (bytes : List ℕ) (ts : List Token) (k : ℕ) → Lexed bytes ts → BreaksClause bytes k → ((j : ℕ) → BreaksSentence (lexemes ts) j → k ≡ j) →
-    ((t : FileTree) → IsFileTree (lexemes ts) t → ⊥) → IsTheContentVerdict bytes (breaks k)
+sentence_breaks : (bytes : List ℕ) (ts : List Token) (k : ℕ) → Lexed bytes ts → BreaksFileClause bytes k → ((j : ℕ) → BreaksSentence (lexemes ts) j → k ≡ j) →
+    ((t : FileTree) → IsFileTree (lexemes ts) t → ⊥) → ContentHasOnlyVerdict bytes (breaks k)
 sentence_breaks bytes ts k l b one none = record { is = b; only = only } where
-  only : (other : FileVerdict) → IsContentVerdict bytes other → breaks k ≡ other
+  only : (other : FileVerdict) → ContentHasVerdict bytes other → breaks k ≡ other
   only (breaks j) h = ap breaks (one j (l.sound j h))
   only (has_tree t) h = absurd (none t (tree_there bytes ts t l h))
 
@@ -179,7 +179,7 @@ no_tree_clause k t g = absurd (cc)
 -- a fault of the grammar is a broken clause, unless memory ran out
 pub parse_fault : (bytes : List ℕ) (ts : List Token) (x : ParseFault) → Lexed bytes ts → IsFaultOf (lexemes ts) x →
     ((t : FileTree) → IsFileTree (lexemes ts) t → answers.Gives parsing_faults.unless_memory file_of (Err x) (Ok t))
-    → IfSome (verdict_of (Err (fault_of_parse x))) (IsTheContentVerdict bytes)
+    → IfSome (verdict_of (Err (fault_of_parse x))) (ContentHasOnlyVerdict bytes)
 parse_fault bytes ts parses.Memory l b none = tt
 parse_fault bytes ts (parses.At k number) l b none =
     sentence_breaks bytes ts k l (no_sentence ts number l.is b.1 b.0) (grammar_only (lexemes ts) k number b.0 b.1) (λ t is. no_tree_at k number t (none t is))
@@ -192,7 +192,7 @@ parse_fault bytes ts (parses.Clause k) l (inr (e, b)) none =
 pub parsed : (bytes : List ℕ) (ts : List Token) (x : declared.FileTree) → Lexed bytes ts → IsFileTree (lexemes ts) (file_of x) →
     ((t : FileTree) → IsFileTree (lexemes ts) t → answers.Gives parsing_faults.unless_memory file_of (Ok x) (Ok t))
     → (BreaksDeclarations (lexemes ts) → answers.Gives parsing_faults.unless_memory file_of (Ok x) (Err (parses.Clause 8))) →
-    IsTheContentVerdict bytes (has_tree (file_of x))
+    ContentHasOnlyVerdict bytes (has_tree (file_of x))
 parsed bytes ts x l is one none = record { is = record { tokens = ts; are = l.is; tree = is }; only = only } where
   no_clause : (j : ℕ) → BreaksSentence (lexemes ts) j → ⊥
   no_clause j (grammar at b e) = not_stuck (lexemes ts) at b (is.file, is.sentence)
@@ -202,6 +202,6 @@ parsed bytes ts x l is one none = record { is = record { tokens = ts; are = l.is
   same : (t : FileTree) → IsFileTree (lexemes ts) t → file_of x ≡ t
   same t h = let e = one t h in cc
 
-  only : (other : FileVerdict) → IsContentVerdict bytes other → has_tree (file_of x) ≡ other
+  only : (other : FileVerdict) → ContentHasVerdict bytes other → has_tree (file_of x) ≡ other
   only (breaks j) h = absurd (no_clause j (l.sound j h))
   only (has_tree t) h = ap has_tree (same t (tree_there bytes ts t l h))

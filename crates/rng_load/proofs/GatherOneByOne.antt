@@ -4,11 +4,11 @@ use Rattle.std.proofs.Common.{length, drop, get_or, Option, append_assoc}
 use Rattle.std.proofs.lemmas.List.{append-nil, drop_all, drop_more, map-append}
 use Rattle.rnc_model.specs.declarations.FileTree as tree
 use Rattle.rnc_model.specs.declarations.FileTree.{FileTree, components_of}
-use Rattle.rnc_model.specs.loading.Places.{Way, Gathered}
+use Rattle.rnc_model.specs.loading.Places.{TreePath, Gathered}
 use Rattle.rng_load.specs.plain.PlainReading.{gather_at, gather_one_at, gather_with}
 
 -- the loop over these components: before it those were gathered, and after so many of them these
-module _ {E : Type 0} (files : List ℕ → Option FileTree) (levels : ℕ) (u : List ℕ) (x : Way) (view : E → tree.Component) (es : List E)
+module _ {E : Type 0} (files : List ℕ → Option FileTree) (levels : ℕ) (u : List ℕ) (x : TreePath) (view : E → tree.Component) (es : List E)
     (before : List Gathered) where
   abbrev pub AreGathered : ℕ → List Gathered → Type 0
   AreGathered n found = before ++ gather_at files levels u x 0 (components_of (map view es)) ≡ found

@@ -13,8 +13,8 @@ use Rattle.rng_load.specs.declared.fault.FileFault.TheVariants as faults
 use Rattle.rng_load.specs.views.FileFaults.{verdict_of}
 use Rattle.rng_model.specs.names.Lists.{Among, here, there, HasTwo, first_and, both_later}
 use Rattle.rnc_model.specs.loading.SchemaFile.{Name, NamedFile, FileVerdict, breaks, has_tree, IsMissing, IsHandedInTwice, IsHandedIn, BreaksLimit, BreaksOwn}
-use Rattle.rnc_model.specs.loading.SchemaFile.{missing, handed_in_twice, too_large, bad_content, BreaksClause, IsFileVerdict, IsTheFileVerdict}
-use Rattle.rnc_model.specs.loading.SchemaFile.{IsContentVerdict, IsTheContentVerdict}
+use Rattle.rnc_model.specs.loading.SchemaFile.{missing, handed_in_twice, too_large, bad_content, BreaksFileClause, FileHasVerdict, FileHasOnlyVerdict}
+use Rattle.rnc_model.specs.loading.SchemaFile.{ContentHasVerdict, ContentHasOnlyVerdict}
 use Rattle.rng_load.proofs.NameLists.{in_none, in_cons, in_left, in_right, in_more}
 
 module _ {A : Type 0} (P : A → A → Type 0) where
@@ -85,7 +85,7 @@ module _ (files : List NamedFile) (main f : Name) where
   not_there (inl m) h = m _ h.there refl
   not_there (inr two) h = h.once two
 
-  pub not_one : IsMissing files f ⊎ IsHandedInTwice files f → IsTheFileVerdict files main f (breaks 1)
+  pub not_one : IsMissing files f ⊎ IsHandedInTwice files f → FileHasOnlyVerdict files main f (breaks 1)
   not_one n = record { is = is n; only = only } where
     is : IsMissing files f ⊎ IsHandedInTwice files f → BreaksOwn files main f 1
     is (inl m) = missing m refl
@@ -97,12 +97,12 @@ module _ (files : List NamedFile) (main f : Name) where
     clause k (too_large h l e) = absurd (not_there n h)
     clause k (bad_content h s b) = absurd (not_there n h)
 
-    only : (other : FileVerdict) → IsFileVerdict files main f other → breaks 1 ≡ other
+    only : (other : FileVerdict) → FileHasVerdict files main f other → breaks 1 ≡ other
     only (breaks k) b = ap breaks (clause k b)
     only (has_tree t) b = absurd (not_there n b.handed_in)
 
   module _ (bytes : List ℕ) (h : IsHandedIn files f bytes) where
-    pub is_too_large : BreaksLimit files main f bytes → IsTheFileVerdict files main f (breaks 2)
+    pub is_too_large : BreaksLimit files main f bytes → FileHasOnlyVerdict files main f (breaks 2)
     is_too_large l = record { is = too_large h l refl; only = only } where
       large : {other : List ℕ} → IsHandedIn files f other → BreaksLimit files main f other
       large i = subst (BreaksLimit files main f) (one_file h i) l
@@ -113,13 +113,13 @@ module _ (files : List NamedFile) (main f : Name) where
       clause k (too_large i l e) = sym e
       clause k (bad_content i s b) = absurd (s (large i))
 
-      only : (other : FileVerdict) → IsFileVerdict files main f other → breaks 2 ≡ other
+      only : (other : FileVerdict) → FileHasVerdict files main f other → breaks 2 ≡ other
       only (breaks k) b = ap breaks (clause k b)
       only (has_tree t) b = absurd (b.small (large b.handed_in))
 
-    pub is_content : ¬ (BreaksLimit files main f bytes) → (v : FileVerdict) → IsTheContentVerdict bytes v → IsTheFileVerdict files main f v
+    pub is_content : ¬ (BreaksLimit files main f bytes) → (v : FileVerdict) → ContentHasOnlyVerdict bytes v → FileHasOnlyVerdict files main f v
     is_content small v c = record { is = is v c.is; only = only } where
-      is : (v : FileVerdict) → IsContentVerdict bytes v → IsFileVerdict files main f v
+      is : (v : FileVerdict) → ContentHasVerdict bytes v → FileHasVerdict files main f v
       is (breaks k) b = bad_content h small b
       is (has_tree t) b = record { bytes = bytes; handed_in = h; small = small; is = b }
 
@@ -127,11 +127,11 @@ module _ (files : List NamedFile) (main f : Name) where
       clause k (missing m e) = absurd (not_there (inl m) h)
       clause k (handed_in_twice t e) = absurd (not_there (inr t) h)
       clause k (too_large i l e) = absurd (small (subst (BreaksLimit files main f) (one_file i h) l))
-      clause k (bad_content i s b) = c.only (breaks k) (subst (λ bs. BreaksClause bs k) (one_file i h) b)
+      clause k (bad_content i s b) = c.only (breaks k) (subst (λ bs. BreaksFileClause bs k) (one_file i h) b)
 
-      only : (other : FileVerdict) → IsFileVerdict files main f other → v ≡ other
+      only : (other : FileVerdict) → FileHasVerdict files main f other → v ≡ other
       only (breaks k) b = clause k b
-      only (has_tree t) b = c.only (has_tree t) (subst (λ bs. IsContentVerdict bs (has_tree t)) (one_file b.handed_in h) b.is)
+      only (has_tree t) b = c.only (has_tree t) (subst (λ bs. ContentHasVerdict bs (has_tree t)) (one_file b.handed_in h) b.is)
 
 -- ---- a turn of the loop that looks for a file
 
@@ -183,7 +183,7 @@ is_not f t = cc
 -- ---- what a file that is handed in answers
 
 pub all_small : (files : List NamedFile) (main f bytes : List ℕ) → IsHandedIn files f bytes → ¬ (BreaksLimit files main f bytes) →
-    (r : Result declared.FileTree FileFault) → IfSome (verdict_of r) (IsTheContentVerdict bytes) → IfSome (verdict_of r) (IsTheFileVerdict files main f)
+    (r : Result declared.FileTree FileFault) → IfSome (verdict_of r) (ContentHasOnlyVerdict bytes) → IfSome (verdict_of r) (FileHasOnlyVerdict files main f)
 all_small files main f bytes h s (Ok t) c = is_content files main f bytes h s _ c
 all_small files main f bytes h s (Err (faults.Clause k)) c = is_content files main f bytes h s _ c
 all_small files main f bytes h s (Err faults.Memory) c = tt

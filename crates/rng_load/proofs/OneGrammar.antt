@@ -6,7 +6,7 @@ use Rattle.rng_model.specs.names.Lists.{Among}
 use Rattle.rng_model.specs.schema.Patterns.{Place}
 use Rattle.rnc_model.specs.declarations.FileTree as tree
 use Rattle.rnc_model.specs.declarations.FileTree.{FileTree}
-use Rattle.rnc_model.specs.loading.Places.{Way, Gathered, Gathers, main_grammar, HasGrammar, main_is, nested_is}
+use Rattle.rnc_model.specs.loading.Places.{TreePath, Gathered, Gathers, main_grammar, HasGrammar, main_is, nested_is}
 use Rattle.rng_load.proofs.OneSchema.{one_gathering}
 use Rattle.rng_load.specs.plain.FoundGrammars.{nested_in}
 use Rattle.rng_load.proofs.PlacesApart.{longer, same_entry, in_nested, gathered_children}
@@ -30,12 +30,12 @@ module _ (files : List ℕ → Option FileTree) (main : FileTree) where
       one_gathering files a (subst (λ w. Gathers files w x 0 cs more) (sym f) (subst (λ z. Gathers files v z 0 cs more) (sym e)
       (subst (λ is. Gathers files v y 0 is more) (sym g) b)))
 
-  further_up : (f g : Way) (i : ℕ) (z : Way) → (f ++ g ++ i ∷ []) ++ z ≡ f ++ (g ++ i ∷ z)
+  further_up : (f g : TreePath) (i : ℕ) (z : TreePath) → (f ++ g ++ i ∷ []) ++ z ≡ f ++ (g ++ i ∷ z)
   further_up f g i z = append_assoc (f ++ g) (i ∷ []) z ∙ append_assoc f g (i ∷ z)
 
   -- a way leads on from one grammar of each depth
   pub one_at_depth : {x y : Place} {o p : Option Place} {u v : List ℕ} {cs ds : tree.Components} (h : HasGrammar files main x o u cs)
-      → (k : HasGrammar files main y p v ds) → depth h ≡ depth k → (f g : Way) → f ++ x ≡ g ++ y → AreOne x y o p u v cs ds
+      → (k : HasGrammar files main y p v ds) → depth h ≡ depth k → (f g : TreePath) → f ++ x ≡ g ++ y → AreOne x y o p u v cs ds
   one_at_depth (main_is d) (main_is e) l f g w = record { place = refl; outer = refl; uri = refl; components = d ∙ sym e }
   one_at_depth (main_is d) (nested_is k e i j) l f g w = absurd (omega (arith, l))
   one_at_depth (nested_is h d i j) (main_is e) l f g w = absurd (omega (arith, l))
@@ -56,11 +56,11 @@ module _ (files : List ℕ → Option FileTree) (main : FileTree) where
     pub components : tree.Components
     pub there : HasGrammar files main place outer uri components
     pub deep : depth there ≡ k
-    pub way : Way
+    pub way : TreePath
     pub child : ℕ
     pub leads : x ≡ way ++ child ∷ place
 
-  further : (y x : Place) (f : Way) (i k : ℕ) → y ≡ f ++ i ∷ x → Around x k → Around y k
+  further : (y x : Place) (f : TreePath) (i k : ℕ) → y ≡ f ++ i ∷ x → Around x k → Around y k
   further y x f i k e r = record {
     place = r.place;
     outer = r.outer;

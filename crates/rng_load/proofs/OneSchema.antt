@@ -5,7 +5,7 @@ use Rattle.rng_model.specs.schema.Patterns as pattern
 use Rattle.rng_model.specs.schema.Schema.{Schema, Component}
 use Rattle.rnc_model.specs.declarations.FileTree as tree
 use Rattle.rnc_model.specs.declarations.FileTree.{FileTree, grammar_file, pattern_file, grammar_of}
-use Rattle.rnc_model.specs.loading.Places.{Way, Nested, Gathered, is_overridden, uri_in, class_in, datatype_in, HasGrammar, IsSchemaOf}
+use Rattle.rnc_model.specs.loading.Places.{TreePath, Nested, Gathered, is_overridden, uri_in, class_in, datatype_in, HasGrammar, IsSchemaOf}
 use Rattle.rnc_model.specs.loading.Places.{Reads, element_is, attribute_is, list_is, mixed_is, optional_is, zero_or_more_is, one_or_more_is, ref_is, parent_ref_is}
 use Rattle.rnc_model.specs.loading.Places.{empty_is, text_is, not_allowed_is, value_is, data_is, except_is, grammar_is, pattern_file_is, grammar_file_is, joined_is}
 use Rattle.rnc_model.specs.loading.Places.{ReadAll, none_are, more_are, Gathers, nothing, a_start, a_define, a_div, an_include}
@@ -25,7 +25,7 @@ same_included e f i j = cc
 module _ (files : List ℕ → Option FileTree) where
   mutual
     -- a pattern is read in one way
-    pub one_pattern : {u : List ℕ} {x : Way} {a : tree.Pattern} {p q : Pattern} {gs hs : List Nested} → Reads files u x a p gs → Reads files u x a q hs
+    pub one_pattern : {u : List ℕ} {x : TreePath} {a : tree.Pattern} {p q : Pattern} {gs hs : List Nested} → Reads files u x a p gs → Reads files u x a q hs
         → (p ≡ q) × (gs ≡ hs)
     one_pattern (element_is d) (element_is {u} {c = c} e) = let i = one_pattern d e in (ap (pattern.element (class_in u c)) i.0, i.1)
     one_pattern (attribute_is d) (attribute_is {u} {c = c} e) = let i = one_pattern d e in (ap (pattern.attribute (class_in u c)) i.0, i.1)
@@ -53,7 +53,7 @@ module _ (files : List ℕ → Option FileTree) where
     one_pattern (joined_is d) (joined_is {k = k} e) = let i = all_one d e in (ap (members k) i.0, i.1)
 
     -- patterns are read in one way
-    pub all_one : {u : List ℕ} {x : Way} {n : ℕ} {all : tree.Patterns} {ps qs : List Pattern} {gs hs : List Nested} → ReadAll files u x n all ps gs
+    pub all_one : {u : List ℕ} {x : TreePath} {n : ℕ} {all : tree.Patterns} {ps qs : List Pattern} {gs hs : List Nested} → ReadAll files u x n all ps gs
         → ReadAll files u x n all qs hs → (ps ≡ qs) × (gs ≡ hs)
     all_one none_are none_are = (refl, refl)
     all_one (more_are d ds p) (more_are e es q) =
@@ -62,7 +62,7 @@ module _ (files : List ℕ → Option FileTree) where
         (ap₂ (λ p ps. p ∷ ps) i.0 j.0, p ∙ ap₂ (λ a b. a ++ b) i.1 j.1 ∙ sym q)
 
   -- components are gathered in one way
-  pub one_gathering : {u : List ℕ} {x : Way} {n : ℕ} {cs : tree.Components} {all more : List Gathered} → Gathers files u x n cs all
+  pub one_gathering : {u : List ℕ} {x : TreePath} {n : ℕ} {cs : tree.Components} {all more : List Gathered} → Gathers files u x n cs all
       → Gathers files u x n cs more → all ≡ more
   one_gathering nothing nothing = refl
   one_gathering (a_start d ds) (a_start {m = m} e es) =

@@ -7,7 +7,7 @@ use Rattle.rng_model.specs.schema.Patterns.{Pattern}
 use Rattle.rnc_model.specs.declarations.FileTree as tree
 use Rattle.rnc_model.specs.declarations.FileTree.{FileTree}
 use Rattle.rng_load.specs.plain.FoundGrammars.{nested_in}
-use Rattle.rnc_model.specs.loading.Places.{Way, Nested, Gathered, is_overridden}
+use Rattle.rnc_model.specs.loading.Places.{TreePath, Nested, Gathered, is_overridden}
 use Rattle.rnc_model.specs.loading.Places.{Reads, element_is, attribute_is, list_is, mixed_is, optional_is, zero_or_more_is, one_or_more_is, ref_is, parent_ref_is}
 use Rattle.rnc_model.specs.loading.Places.{empty_is, text_is, not_allowed_is, value_is, data_is, except_is, grammar_is, pattern_file_is, grammar_file_is, joined_is}
 use Rattle.rnc_model.specs.loading.Places.{ReadAll, none_are, more_are, Gathers, nothing, a_start, a_define, a_div, an_include}
@@ -16,21 +16,21 @@ use Rattle.rng_load.proofs.NameLists.{in_none, in_cons, in_either, in_left, in_r
 -- ---- ways
 
 -- a way is not one that leads on from it
-pub longer : (x f : Way) (i : ℕ) → x ≡ f ++ i ∷ x → ⊥
+pub longer : (x f : TreePath) (i : ℕ) → x ≡ f ++ i ∷ x → ⊥
 longer x f i e = omega (arith, ap length e, length-append f (i ∷ x))
 
 -- ways that lead on from children of one place, and are one, lead on from one child
-pub one_child : (f g x : Way) (i j : ℕ) → f ++ i ∷ x ≡ g ++ j ∷ x → i ≡ j
+pub one_child : (f g x : TreePath) (i j : ℕ) → f ++ i ∷ x ≡ g ++ j ∷ x → i ≡ j
 one_child [] [] x i j e = cc
 one_child [] (c ∷ g) x i j e = let t : x ≡ g ++ j ∷ x = cc in absurd (longer x g j t)
 one_child (c ∷ f) [] x i j e = let t : f ++ i ∷ x ≡ x = cc in absurd (longer x f i (sym t))
 one_child (c ∷ f) (d ∷ g) x i j e = one_child f g x i j cc
 
 -- no way leads on from both
-abbrev pub Apart : Way → Way → Type 0
-Apart x y = (f g : Way) → f ++ x ≡ g ++ y → ⊥
+abbrev pub Apart : TreePath → TreePath → Type 0
+Apart x y = (f g : TreePath) → f ++ x ≡ g ++ y → ⊥
 
-children_apart : {y z : Way} (f g x : Way) {i j : ℕ} → y ≡ f ++ i ∷ x → z ≡ g ++ j ∷ x → i < j → Apart y z
+children_apart : {y z : TreePath} (f g x : TreePath) {i j : ℕ} → y ≡ f ++ i ∷ x → z ≡ g ++ j ∷ x → i < j → Apart y z
 children_apart f g x {i} {j} d e l h k w =
     let on = append_assoc h f (i ∷ x) ∙ ap (λ v. h ++ v) (sym d) in
     let s : (h ++ f) ++ i ∷ x ≡ (k ++ g) ++ j ∷ x = on ∙ w ∙ ap (λ v. k ++ v) e ∙ sym (append_assoc k g (j ∷ x)) in
@@ -44,7 +44,7 @@ pub data AllApart : List Nested → Type 0 where
   more_apart : {n : Nested} {ns : List Nested} → ((m : Nested) → Among m ns → Apart n.place m.place) → AllApart ns → AllApart (n ∷ ns)
 
 -- the places from which a way leads on are one
-pub same_entry : {ns : List Nested} {n m : Nested} (f g : Way) → AllApart ns → Among n ns → Among m ns → f ++ n.place ≡ g ++ m.place → n ≡ m
+pub same_entry : {ns : List Nested} {n m : Nested} (f g : TreePath) → AllApart ns → Among n ns → Among m ns → f ++ n.place ≡ g ++ m.place → n ≡ m
 same_entry f g none_apart i j e = absurd (in_none i)
 same_entry f g (more_apart a more) here here e = refl
 same_entry {m = m} f g (more_apart a more) here (there j) e = absurd (a m j f g e)
@@ -69,19 +69,19 @@ across_apart {m = m} (here {xs = ns}) j (more_apart a more) = a m (in_right ns j
 across_apart (there i) j (more_apart a more) = across_apart i j more
 
 -- all their places lead on from this one, or are it, and they are apart
-pub record Inside (x : Way) (ns : List Nested) : Type 0 where
-  pub leads : (n : Nested) → Among n ns → (f : Way) × (n.place ≡ f ++ x)
+pub record Inside (x : TreePath) (ns : List Nested) : Type 0 where
+  pub leads : (n : Nested) → Among n ns → (f : TreePath) × (n.place ≡ f ++ x)
   pub apart : AllApart ns
 
 -- all their places lead on from children of this one from the number k on, or are such, and they are apart
-pub record Children (x : Way) (k : ℕ) (ns : List Nested) : Type 0 where
-  pub leads : (n : Nested) → Among n ns → (f : Way) × (i : ℕ) × (k ≤ i) × (n.place ≡ f ++ i ∷ x)
+pub record Children (x : TreePath) (k : ℕ) (ns : List Nested) : Type 0 where
+  pub leads : (n : Nested) → Among n ns → (f : TreePath) × (i : ℕ) × (k ≤ i) × (n.place ≡ f ++ i ∷ x)
   pub apart : AllApart ns
 
-nowhere : (x : Way) → Inside x []
+nowhere : (x : TreePath) → Inside x []
 nowhere x = record { leads = λ n i. absurd (in_none i); apart = none_apart }
 
-no_children : (x : Way) (k : ℕ) → Children x k []
+no_children : (x : TreePath) (k : ℕ) → Children x k []
 no_children x k = record { leads = λ n i. absurd (in_none i); apart = none_apart }
 
 itself : (n : Nested) → Inside n.place (n ∷ [])
@@ -90,19 +90,19 @@ itself n = record {
   apart = more_apart (λ m i. absurd (in_none i)) none_apart;
 }
 
-inside_of : {x : Way} {k : ℕ} {ns : List Nested} → Children x k ns → Inside x ns
+inside_of : {x : TreePath} {k : ℕ} {ns : List Nested} → Children x k ns → Inside x ns
 inside_of {x} c = record {
   leads = λ n i. let l = c.leads n i in (l.0 ++ l.1 ∷ [], l.3 ∙ sym (append_assoc l.0 (l.1 ∷ []) x));
   apart = c.apart;
 }
 
-first_child : {x : Way} {k : ℕ} {ns : List Nested} → Inside (k ∷ x) ns → Children x k ns
+first_child : {x : TreePath} {k : ℕ} {ns : List Nested} → Inside (k ∷ x) ns → Children x k ns
 first_child {k = k} c = record {
   leads = λ n i. let l = c.leads n i in (l.0, k, omega arith, l.1);
   apart = c.apart;
 }
 
-more_children : {x : Way} {k : ℕ} {ns ms : List Nested} → Inside (k ∷ x) ns → Children x (k + 1) ms → Children x k (ns ++ ms)
+more_children : {x : TreePath} {k : ℕ} {ns ms : List Nested} → Inside (k ∷ x) ns → Children x (k + 1) ms → Children x k (ns ++ ms)
 more_children {x} {k} {ns} {ms} a b = record {
   leads = λ n i. elim (in_either ns i) [ inl j ↦ (first_child a).leads n j | inr j ↦ let l = b.leads n j in (l.0, l.1, omega (arith, l.2), l.3) ];
   apart = both_apart a.apart b.apart (λ n m i j. let h = a.leads n i in let l = b.leads m j in children_apart h.0 l.0 x h.1 l.3 (omega (arith, l.2)));
@@ -140,7 +140,7 @@ module _ (test : Gathered → Bool) where
   filter_apart [] a = a
   filter_apart (g ∷ gs) a = kept_apart (test g) g gs a (filter_apart gs (right_apart g.nested (nested_in gs) a))
 
-  filter_inside : {x : Way} (gs : List Gathered) → Inside x (nested_in gs) → Inside x (nested_in (filter test gs))
+  filter_inside : {x : TreePath} (gs : List Gathered) → Inside x (nested_in gs) → Inside x (nested_in (filter test gs))
   filter_inside gs a = record { leads = λ n i. a.leads n (in_filter gs i); apart = filter_apart gs a.apart }
 
 -- ---- what is read and gathered
@@ -148,7 +148,7 @@ module _ (test : Gathered → Bool) where
 module _ (files : List ℕ → Option FileTree) where
   mutual
     -- the grammars that are nested in a pattern stand at its place or further on
-    pub nested_inside : {u : List ℕ} {x : Way} {a : tree.Pattern} {p : Pattern} {gs : List Nested} → Reads files u x a p gs → Inside x gs
+    pub nested_inside : {u : List ℕ} {x : TreePath} {a : tree.Pattern} {p : Pattern} {gs : List Nested} → Reads files u x a p gs → Inside x gs
     nested_inside (element_is d) = inside_of (first_child (nested_inside d))
     nested_inside (attribute_is d) = inside_of (first_child (nested_inside d))
     nested_inside (list_is d) = inside_of (first_child (nested_inside d))
@@ -170,13 +170,13 @@ module _ (files : List ℕ → Option FileTree) where
     nested_inside (joined_is d) = inside_of (nested_children d)
 
     -- those that are nested in these patterns stand at their places or further on
-    pub nested_children : {u : List ℕ} {x : Way} {k : ℕ} {all : tree.Patterns} {ps : List Pattern} {gs : List Nested} → ReadAll files u x k all ps gs
+    pub nested_children : {u : List ℕ} {x : TreePath} {k : ℕ} {all : tree.Patterns} {ps : List Pattern} {gs : List Nested} → ReadAll files u x k all ps gs
         → Children x k gs
     nested_children none_are = no_children _ _
     nested_children (more_are {u} {x} {n = k} d ds e) = subst (Children x k) (sym e) (more_children (nested_inside d) (nested_children ds))
 
   -- the grammars that are nested in the components of a grammar stand at its children or further on
-  pub gathered_children : {u : List ℕ} {x : Way} {k : ℕ} {cs : tree.Components} {all : List Gathered} → Gathers files u x k cs all
+  pub gathered_children : {u : List ℕ} {x : TreePath} {k : ℕ} {cs : tree.Components} {all : List Gathered} → Gathers files u x k cs all
       → Children x k (nested_in all)
   gathered_children nothing = no_children _ _
   gathered_children (a_start d ds) = more_children (nested_inside d) (gathered_children ds)

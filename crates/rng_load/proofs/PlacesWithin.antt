@@ -11,7 +11,7 @@ use Rattle.rnc_model.specs.loading.Mentions.{external_file, included_file, menti
 use Rattle.rnc_model.specs.loading.Loading.{TakenFiles, tree_in, hrefs_in, BreaksIncludes}
 use Rattle.rnc_model.specs.loading.MentionPaths.{BreaksMentions, path_limit}
 use Rattle.rnc_model.specs.loading.SchemaFile.{Name}
-use Rattle.rnc_model.specs.loading.Places.{Way, Nested, Gathered, is_overridden, uri_in, main_grammar, HasGrammar, main_is, nested_is}
+use Rattle.rnc_model.specs.loading.Places.{TreePath, Nested, Gathered, is_overridden, uri_in, main_grammar, HasGrammar, main_is, nested_is}
 use Rattle.rnc_model.specs.loading.Places.{Reads, element_is, attribute_is, list_is, mixed_is, optional_is, zero_or_more_is, one_or_more_is, ref_is, parent_ref_is}
 use Rattle.rnc_model.specs.loading.Places.{empty_is, text_is, not_allowed_is, value_is, data_is, except_is, grammar_is, pattern_file_is, grammar_file_is, joined_is}
 use Rattle.rnc_model.specs.loading.Places.{ReadAll, none_are, more_are, Gathers, nothing, a_start, a_define, a_div, an_include}
@@ -61,7 +61,7 @@ module _ (files : List ℕ → Option FileTree) (largest : ℕ) (fits : (f : Nam
 
   mutual
     -- the grammars that are nested in a readable pattern
-    pub nested_within : {u : List ℕ} {x : Way} {a : tree.Pattern} {p : Pattern} {gs : List Nested} → Reads files u x a p gs → (n : ℕ)
+    pub nested_within : {u : List ℕ} {x : TreePath} {a : tree.Pattern} {p : Pattern} {gs : List Nested} → Reads files u x a p gs → (n : ℕ)
         → IsReadable files n a → AllWithin (left_to_read largest n (size a) + length x) gs
     nested_within (element_is d) n r = all_more (nested_within d n r) (omega arith)
     nested_within (attribute_is d) n r = all_more (nested_within d n r) (omega arith)
@@ -91,7 +91,7 @@ module _ (files : List ℕ → Option FileTree) (largest : ℕ) (fits : (f : Nam
         (record { levels = file.less; readable = file.all; bound = omega (arith, l) })
     nested_within (joined_is d) n r = all_more (all_nested_within d n r) (omega arith)
 
-    all_nested_within : {u : List ℕ} {x : Way} {k : ℕ} {all : tree.Patterns} {ps : List Pattern} {gs : List Nested} → ReadAll files u x k all ps gs
+    all_nested_within : {u : List ℕ} {x : TreePath} {k : ℕ} {all : tree.Patterns} {ps : List Pattern} {gs : List Nested} → ReadAll files u x k all ps gs
         → (n : ℕ) → AreFollowed files n (mentions_of_patterns all) → AllWithin (left_to_read largest n (size_of_patterns all) + length x) gs
     all_nested_within none_are n r = none_within _
     all_nested_within (more_are {x = x} {a = a} {all} {gs = gs} {hs} d ds e) n r =
@@ -101,7 +101,7 @@ module _ (files : List ℕ → Option FileTree) (largest : ℕ) (fits : (f : Nam
         (both_within gs hs (all_more one (omega arith)) (all_more rest (omega arith)))
 
   -- the grammars that are nested in readable components
-  pub gathered_within : {u : List ℕ} {x : Way} {k : ℕ} {cs : tree.Components} {all : List Gathered} → Gathers files u x k cs all → (n : ℕ)
+  pub gathered_within : {u : List ℕ} {x : TreePath} {k : ℕ} {cs : tree.Components} {all : List Gathered} → Gathers files u x k cs all → (n : ℕ)
       → AreReadable files n cs → AllWithin (left_to_read largest n (size_of_components cs) + length x) (nested_in all)
   gathered_within nothing n r = none_within _
   gathered_within (a_start {a = a} {cs} {gs = gs} {rest} d ds) n r =

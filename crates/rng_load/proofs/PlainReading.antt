@@ -12,7 +12,7 @@ use Rattle.rnc_model.specs.loading.MentionPaths.{BreaksMentions, path_limit}
 use Rattle.rnc_model.specs.loading.Loading.{hrefs_if, TakenFiles, tree_in, hrefs_in, grammar_if, BreaksIncludes, no_grammar}
 use Rattle.rnc_model.specs.loading.SchemaFile.{Name}
 use Rattle.rng_load.specs.plain.Counting.{IsLong, long_end, long_more}
-use Rattle.rnc_model.specs.loading.Places.{Way, Nested, Gathered, is_overridden, uri_in, grammar_or_start, main_grammar, HasGrammar, main_is, nested_is}
+use Rattle.rnc_model.specs.loading.Places.{TreePath, Nested, Gathered, is_overridden, uri_in, grammar_or_start, main_grammar, HasGrammar, main_is, nested_is}
 use Rattle.rnc_model.specs.loading.Places.{Reads, element_is, attribute_is, list_is, mixed_is, optional_is, zero_or_more_is, one_or_more_is, ref_is, parent_ref_is}
 use Rattle.rnc_model.specs.loading.Places.{empty_is, text_is, not_allowed_is, value_is, data_is, except_is, grammar_is, pattern_file_is, grammar_file_is, joined_is}
 use Rattle.rnc_model.specs.loading.Places.{ReadAll, none_are, more_are, Gathers, nothing, a_start, a_define, a_div, an_include}
@@ -46,21 +46,21 @@ module _ (files : List ℕ → Option FileTree) where
 
   -- the reader gives what is read of a pattern, if that is readable
   abbrev ReaderSound : ℕ → PatternReader → Type 0
-  ReaderSound n read = (u : List ℕ) (x : Way) (a : tree.Pattern) → IsReadable files n a → Reads files u x a (read u x a).0 (read u x a).1
+  ReaderSound n read = (u : List ℕ) (x : TreePath) (a : tree.Pattern) → IsReadable files n a → Reads files u x a (read u x a).0 (read u x a).1
 
   abbrev GathererSound : ℕ → Gatherer → Type 0
-  GathererSound n gather = (u : List ℕ) (x : Way) (k : ℕ) (cs : tree.Components) → AreReadable files n cs → Gathers files u x k cs (gather u x k cs)
+  GathererSound n gather = (u : List ℕ) (x : TreePath) (k : ℕ) (cs : tree.Components) → AreReadable files n cs → Gathers files u x k cs (gather u x k cs)
 
   -- and so for a mention that can be followed
   abbrev ExternalSound : ℕ → PatternReader → Type 0
-  ExternalSound n below = (m : tree.Mention) → IsFollowed files n (external_file m) → (u : List ℕ) (x : Way) →
+  ExternalSound n below = (m : tree.Mention) → IsFollowed files n (external_file m) → (u : List ℕ) (x : TreePath) →
       Reads files u x (tree.external m) (external_with below (uri_in u m.namespace) x (files m.href)).0
       (external_with below (uri_in u m.namespace) x (files m.href)).1
 
   -- the components of the file that is included
   abbrev IncludedAre : Gatherer → tree.Mention → Type 0
   IncludedAre below m = (t : FileTree) × (is : tree.Components) × (files m.href ≡ Some t) × (grammar_of t ≡ Some is)
-      × ((v : List ℕ) (x : Way) → Gathers files v (0 ∷ x) 0 is (included_with below v x (grammar_if (files m.href))))
+      × ((v : List ℕ) (x : TreePath) → Gathers files v (0 ∷ x) 0 is (included_with below v x (grammar_if (files m.href))))
 
   abbrev IncludeSound : ℕ → Gatherer → Type 0
   IncludeSound n below = (m : tree.Mention) (over : tree.Components) → IsFollowed files n (included_file m over) → IncludedAre below m
@@ -69,7 +69,7 @@ module _ (files : List ℕ → Option FileTree) where
     mutual
       unfolding read_with read_all_with
 
-      read_with_sound : (u : List ℕ) (x : Way) (a : tree.Pattern) → IsReadable files n a
+      read_with_sound : (u : List ℕ) (x : TreePath) (a : tree.Pattern) → IsReadable files n a
           → Reads files u x a (read_with files below u x a).0 (read_with files below u x a).1
       read_with_sound u x (tree.element c a) r = element_is (read_with_sound u (0 ∷ x) a r)
       read_with_sound u x (tree.attribute c a) r = attribute_is (read_with_sound u (0 ∷ x) a r)
@@ -90,7 +90,7 @@ module _ (files : List ℕ → Option FileTree) where
       read_with_sound u x (tree.grammar cs) r = grammar_is
       read_with_sound u x (tree.joined k all) r = joined_is (read_all_with_sound u x 0 all r)
 
-      read_all_with_sound : (u : List ℕ) (x : Way) (k : ℕ) (all : tree.Patterns) → AreFollowed files n (mentions_of_patterns all)
+      read_all_with_sound : (u : List ℕ) (x : TreePath) (k : ℕ) (all : tree.Patterns) → AreFollowed files n (mentions_of_patterns all)
           → ReadAll files u x k all (read_all_with files below u x k all).0 (read_all_with files below u x k all).1
       read_all_with_sound u x k tree.no_patterns r = none_are
       read_all_with_sound u x k (tree.pattern_and a all) r =
@@ -99,7 +99,7 @@ module _ (files : List ℕ → Option FileTree) where
           more_are (read_with_sound u (k ∷ x) a one) (read_all_with_sound u x (k + 1) all rest) refl
 
   module _ (n : ℕ) (read : PatternReader) (below : Gatherer) (read_sound : ReaderSound n read) (sound : IncludeSound n below) where
-    gather_with_sound : (u : List ℕ) (x : Way) (k : ℕ) (cs : tree.Components) → AreReadable files n cs
+    gather_with_sound : (u : List ℕ) (x : TreePath) (k : ℕ) (cs : tree.Components) → AreReadable files n cs
         → Gathers files u x k cs (gather_with files read below u x k cs)
     unfolding gather_with gather_one_with
     gather_with_sound u x k tree.no_components r = nothing
@@ -123,7 +123,7 @@ module _ (files : List ℕ → Option FileTree) where
         (gather_with_sound u x (k + 1) cs rest) refl
 
   external_of : (n : ℕ) (below : PatternReader) → ReaderSound n below → (m : tree.Mention) (t : FileTree) → files m.href ≡ Some t
-      → AreFollowed files n (mentions_of t) → (u : List ℕ) (x : Way) → Reads files u x (tree.external m)
+      → AreFollowed files n (mentions_of t) → (u : List ℕ) (x : TreePath) → Reads files u x (tree.external m)
       (external_with below (uri_in u m.namespace) x (Some t)).0 (external_with below (uri_in u m.namespace) x (Some t)).1
   unfolding external_with
   external_of n below sound m (pattern_file a) e all u x = pattern_file_is e (sound (uri_in u m.namespace) (0 ∷ x) a all)
@@ -139,12 +139,12 @@ module _ (files : List ℕ → Option FileTree) where
       (external_of n below (read_with_sound n (read_below files n) (external_sound n)) m f.0 f.1 f.3 u x)
 
   -- a readable pattern is what is read plainly of it
-  pub read_sound : (n : ℕ) (u : List ℕ) (x : Way) (a : tree.Pattern) → IsReadable files n a
+  pub read_sound : (n : ℕ) (u : List ℕ) (x : TreePath) (a : tree.Pattern) → IsReadable files n a
       → Reads files u x a (read_at files n u x a).0 (read_at files n u x a).1
   read_sound n = read_with_sound n (read_below files n) (external_sound n)
 
   -- readable patterns are what is read plainly of them
-  pub read_all_sound : (n : ℕ) (u : List ℕ) (x : Way) (k : ℕ) (all : tree.Patterns) → AreFollowed files n (mentions_of_patterns all)
+  pub read_all_sound : (n : ℕ) (u : List ℕ) (x : TreePath) (k : ℕ) (all : tree.Patterns) → AreFollowed files n (mentions_of_patterns all)
       → ReadAll files u x k all (read_all_at files n u x k all).0 (read_all_at files n u x k all).1
   read_all_sound n = read_all_with_sound n (read_below files n) (external_sound n)
 
@@ -164,7 +164,7 @@ module _ (files : List ℕ → Option FileTree) where
       (subst (AreFollowed files n) (sym (grammar_mentions f.0 f.2.0 f.2.1)) f.3)
 
   -- readable components give what is gathered plainly of them
-  pub gather_sound : (n : ℕ) (u : List ℕ) (x : Way) (k : ℕ) (cs : tree.Components) → AreReadable files n cs
+  pub gather_sound : (n : ℕ) (u : List ℕ) (x : TreePath) (k : ℕ) (cs : tree.Components) → AreReadable files n cs
       → Gathers files u x k cs (gather_at files n u x k cs)
   gather_sound n = gather_with_sound n (read_at files n) (gather_below files n) (read_sound n) (include_sound n)
 
@@ -222,7 +222,7 @@ module _ (files : List ℕ → Option FileTree) where
 
   mutual
     -- the grammars that are nested in a readable pattern are readable
-    pub nested_readable : {u : List ℕ} {x : Way} {a : tree.Pattern} {p : Pattern} {gs : List Nested} → Reads files u x a p gs → (n : ℕ)
+    pub nested_readable : {u : List ℕ} {x : TreePath} {a : tree.Pattern} {p : Pattern} {gs : List Nested} → Reads files u x a p gs → (n : ℕ)
         → IsReadable files n a → NestedReadable n gs
     nested_readable (element_is d) n r = nested_readable d n r
     nested_readable (attribute_is d) n r = nested_readable d n r
@@ -249,7 +249,7 @@ module _ (files : List ℕ → Option FileTree) where
         nested_more n file.less (g ∷ []) file.is (one_nested file.less g file.all)
     nested_readable (joined_is d) n r = all_nested_readable d n r
 
-    all_nested_readable : {u : List ℕ} {x : Way} {k : ℕ} {all : tree.Patterns} {ps : List Pattern} {gs : List Nested} → ReadAll files u x k all ps gs
+    all_nested_readable : {u : List ℕ} {x : TreePath} {k : ℕ} {all : tree.Patterns} {ps : List Pattern} {gs : List Nested} → ReadAll files u x k all ps gs
         → (n : ℕ) → AreFollowed files n (mentions_of_patterns all) → NestedReadable n gs
     all_nested_readable none_are n r = none_nested n
     all_nested_readable (more_are {a = a} {all} {gs = gs} {hs} d ds e) n r =
@@ -280,7 +280,7 @@ module _ (files : List ℕ → Option FileTree) where
   in_filtered test h (g ∷ gs) i = kept test (test g) g h gs (in_filtered test h gs) i
 
   -- the grammars that are nested in readable components are readable
-  pub gathered_readable : {u : List ℕ} {x : Way} {k : ℕ} {cs : tree.Components} {all : List Gathered} → Gathers files u x k cs all → (n : ℕ)
+  pub gathered_readable : {u : List ℕ} {x : TreePath} {k : ℕ} {cs : tree.Components} {all : List Gathered} → Gathers files u x k cs all → (n : ℕ)
       → AreReadable files n cs → GatheredReadable n all
   gathered_readable nothing n r = λ g i. absurd (in_none i)
   gathered_readable (a_start {a = a} {cs} {rest = rest} d ds) n r =

@@ -9,7 +9,7 @@ use Rattle.rnc_grammar.specs.declared.file_tree.Pattern.TheVariants as trees
 use Rattle.rnc_model.specs.declarations.FileTree as tree
 use Rattle.rnc_model.specs.declarations.FileTree.{FileTree}
 use Rattle.rnc_grammar.specs.views.View.{parameters_of, pattern_of, type_of}
-use Rattle.rnc_model.specs.loading.Places.{Way, datatype_in}
+use Rattle.rnc_model.specs.loading.Places.{TreePath, datatype_in}
 use Rattle.rng_load.specs.plain.PlainReading.{read_at, read_with}
 
 plain_tree : (d : Box Datatype Global) → pattern_of (trees.Data d None) ≡ tree.data_of (type_of d.value.type_name) (parameters_of d.value)
@@ -23,7 +23,7 @@ except_tree d b = search (rules, tree_lemmas)
 abbrev read_type : Datatype → tree_types.Datatype
 read_type d = datatype_in (type_of d.type_name) (parameters_of d)
 
-module _ (files : List ℕ → Option FileTree) (levels : ℕ) (u : List ℕ) (x : Way) (p : Pattern) (d : Box Datatype Global) (written : Datatype)
+module _ (files : List ℕ → Option FileTree) (levels : ℕ) (u : List ℕ) (x : TreePath) (p : Pattern) (d : Box Datatype Global) (written : Datatype)
     (same : written ≡ d.value) where
   pub plain_read : p ≡ trees.Data d None → pattern.data_of (datatype_in (type_of written.type_name) (parameters_of written))
       ≡ (read_at files levels u x (pattern_of p)).0

@@ -12,7 +12,7 @@ use Rattle.rnc_model.specs.loading.Loading.{TakenFiles, with_name, hrefs_of, fil
 use Rattle.rng_load.specs.views.LoadingFaults.{IsNamedTree, IsTheReading, verdict_of_reading}
 use Rattle.rng_load.specs.declared.fault.ReadingFault.{ReadingFault}
 use Rattle.rng_load.specs.declared.fault.ReadingFault.TheVariants as readings
-use Rattle.rnc_model.specs.loading.SchemaFile.{Name, NamedFile, breaks, has_tree, IsTheFileVerdict}
+use Rattle.rnc_model.specs.loading.SchemaFile.{Name, NamedFile, breaks, has_tree, FileHasOnlyVerdict}
 use Rattle.rng_load.proofs.NameSets.{entry_goes_last}
 use Rattle.rng_load.proofs.TakenFiles.{IsFirm, more_firm, firm_taken, fresh, few_taken, first_broken, first_of}
 
@@ -44,7 +44,7 @@ module _ (files : List NamedFile) (main : Name) (es : Entries) (names : List Nam
   abbrev at : slice_get names (length (entries_of es)) ≡ Some (string_bytes name)
   at = ap (slice_get names) (length_entries es) ∙ next
 
-  pub breaks_here : (clause : ℕ) (told : String Global) → string_bytes told ≡ string_bytes name → IsTheFileVerdict files main (string_bytes name)
+  pub breaks_here : (clause : ℕ) (told : String Global) → string_bytes told ≡ string_bytes name → FileHasOnlyVerdict files main (string_bytes name)
       (breaks clause)
       → IsTheReading files main (file_breaks (string_bytes told) clause)
   breaks_here clause told same v =
@@ -54,12 +54,12 @@ module _ (files : List NamedFile) (main : Name) (es : Entries) (names : List Nam
   -- a file without a tree ends the walk
   pub as_told : (f : Name) → f ≡ string_bytes name → (fault : ReadingFault) → IsNamedTree files main f (Err fault)
       → IfSome (verdict_of_reading fault) (IsTheReading files main)
-  as_told f e (readings.File clause told) t = breaks_here clause told (t.0 ∙ e) (subst (λ g. IsTheFileVerdict files main g (breaks clause)) e t.1)
+  as_told f e (readings.File clause told) t = breaks_here clause told (t.0 ∙ e) (subst (λ g. FileHasOnlyVerdict files main g (breaks clause)) e t.1)
   as_told f e readings.Memory t = tt
 
-  module _ (tree : declared.FileTree) (f : Name) (same : f ≡ string_bytes name) (told : IsTheFileVerdict files main f (has_tree (file_of tree))) where
-    abbrev v : IsTheFileVerdict files main (string_bytes name) (has_tree (file_of tree))
-    v = subst (λ g. IsTheFileVerdict files main g (has_tree (file_of tree))) same told
+  module _ (tree : declared.FileTree) (f : Name) (same : f ≡ string_bytes name) (told : FileHasOnlyVerdict files main f (has_tree (file_of tree))) where
+    abbrev v : FileHasOnlyVerdict files main (string_bytes name) (has_tree (file_of tree))
+    v = subst (λ g. FileHasOnlyVerdict files main g (has_tree (file_of tree))) same told
 
     abbrev new_name : ¬ (Among (string_bytes name) (map (λ e. string_bytes e.0) es))
     new_name = subst (λ ns. ¬ (Among (string_bytes name) ns)) (keys_same es) (fresh files main (firm_taken files main firm) at) where

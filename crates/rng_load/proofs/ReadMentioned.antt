@@ -6,14 +6,14 @@ use Rattle.rng_model.specs.schema.Patterns as pattern
 use Rattle.rng_model.specs.views.SchemaView.{schema_pattern_of}
 use Rattle.rnc_model.specs.declarations.FileTree as tree
 use Rattle.rnc_model.specs.declarations.FileTree.{FileTree, pattern_file}
-use Rattle.rnc_model.specs.loading.Places.{Way}
+use Rattle.rnc_model.specs.loading.Places.{TreePath}
 use Rattle.rng_load.specs.plain.PlainReading.{external_with, read_at, read_below, within}
 
 pub external_schema : (b : Box SchemaPattern Global) → schema_pattern_of (patterns.External b) ≡ pattern.external (schema_pattern_of b.value)
 external_schema b = search (rules, the_lemmas)
 
 module _ (files : List ℕ → Option FileTree) where
-  one_level_less : (levels : ℕ) (v : List ℕ) (x : Way) (a : tree.Pattern) → 0 < levels → read_below files levels v x a ≡ read_at files (levels - 1) v x a
+  one_level_less : (levels : ℕ) (v : List ℕ) (x : TreePath) (a : tree.Pattern) → 0 < levels → read_below files levels v x a ≡ read_at files (levels - 1) v x a
   unfolding read_below
   one_level_less zero v x a l = absurd (omega (arith, l))
   one_level_less (suc n) v x a l =
@@ -21,7 +21,7 @@ module _ (files : List ℕ → Option FileTree) where
       ap (λ k. read_at files k v x a) (sym e)
 
   -- it is read a level further down
-  pub file_read : (levels : ℕ) (u v : List ℕ) (x : Way) (o : Option FileTree) (a : tree.Pattern) → 0 < levels → Some (pattern_file a) ≡ o → u ≡ v
+  pub file_read : (levels : ℕ) (u v : List ℕ) (x : TreePath) (o : Option FileTree) (a : tree.Pattern) → 0 < levels → Some (pattern_file a) ≡ o → u ≡ v
       → external_with (read_below files levels) v x o ≡ within pattern.external (read_at files (levels - 1) u (0 ∷ x) a)
   unfolding external_with
   file_read levels u v x o a l is same =

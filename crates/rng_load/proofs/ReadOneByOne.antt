@@ -4,16 +4,16 @@ use Rattle.std.proofs.lemmas.List.{append-nil, drop_all, drop_more}
 use Rattle.rng_model.specs.schema.Patterns.{Pattern}
 use Rattle.rnc_model.specs.declarations.FileTree as tree
 use Rattle.rnc_model.specs.declarations.FileTree.{FileTree, patterns_of}
-use Rattle.rnc_model.specs.loading.Places.{Way, Nested}
+use Rattle.rnc_model.specs.loading.Places.{TreePath, Nested}
 use Rattle.rng_load.specs.plain.PlainReading.{read_at, read_all_at, read_all_with}
 
 -- the loop over these patterns: before it these grammars were found, and after so many patterns those; of the patterns so far these were read
-pub record AreRead (files : List ℕ → Option FileTree) (levels : ℕ) (u : List ℕ) (x : Way) (all : List tree.Pattern) (before : List Nested) (n : ℕ)
+pub record AreRead (files : List ℕ → Option FileTree) (levels : ℕ) (u : List ℕ) (x : TreePath) (all : List tree.Pattern) (before : List Nested) (n : ℕ)
     (rest : List tree.Pattern) (read : List Pattern) (found : List Nested) : Type 0 where
   pub patterns : (read_all_at files levels u x 0 (patterns_of all)).0 ≡ read ++ (read_all_at files levels u x n (patterns_of rest)).0
   pub nested : before ++ (read_all_at files levels u x 0 (patterns_of all)).1 ≡ found ++ (read_all_at files levels u x n (patterns_of rest)).1
 
-module _ {files : List ℕ → Option FileTree} {levels : ℕ} {u : List ℕ} {x : Way} {all : List tree.Pattern} {before : List Nested} where
+module _ {files : List ℕ → Option FileTree} {levels : ℕ} {u : List ℕ} {x : TreePath} {all : List tree.Pattern} {before : List Nested} where
   pub none_read : {read : List Pattern} → read ≡ [] → AreRead files levels u x all before 0 all read before
   none_read e = record { patterns = ap (λ ps. ps ++ (read_all_at files levels u x 0 (patterns_of all)).0) (sym e); nested = refl }
 

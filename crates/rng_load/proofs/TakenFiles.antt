@@ -9,7 +9,7 @@ use Rattle.rng_model.specs.names.Lists.{Among, here, there, HasTwice}
 use Rattle.rnc_model.specs.declarations.FileTree.{FileTree}
 use Rattle.rnc_model.specs.loading.Loading.{TakenFiles, with_name, hrefs_of, IsTaken, none_yet, one_more, AreTaken, IsFirstBroken, FilesVerdict, file_breaks}
 use Rattle.rnc_model.specs.loading.Loading.{together_break, are_taken}
-use Rattle.rnc_model.specs.loading.SchemaFile.{Name, NamedFile, HasTree, BreaksOwn, breaks, has_tree, IsTheFileVerdict}
+use Rattle.rnc_model.specs.loading.SchemaFile.{Name, NamedFile, HasTree, BreaksOwn, breaks, has_tree, FileHasOnlyVerdict}
 use Rattle.rng_load.specs.views.LoadingFaults.{IsReading, IsTheReading}
 use Rattle.rng_load.proofs.NameLists.{false_true, in_none, in_cons, in_left, in_right, in_either, none_twice, twice_or, differ_more, differ_front}
 use Rattle.rng_load.proofs.NameLists.{differ_parts, no_more, in_map, from_map, any_in, in_any}
@@ -155,7 +155,7 @@ module _ (files : List NamedFile) (main : Name) where
   pub data IsFirm : TakenFiles → List Name → Type 0 where
     none_firm : {read : TakenFiles} {names : List Name} → read ≡ [] → names ≡ main ∷ [] → IsFirm read names
     more_firm : {read all : TakenFiles} {names more : List Name} {f : Name} {t : FileTree} → IsFirm read names → slice_get names (length read) ≡ Some f →
-        IsTheFileVerdict files main f (has_tree t) → all ≡ read ++ (f, t) ∷ [] → more ≡ fold with_name names (hrefs_of t) → IsFirm all more
+        FileHasOnlyVerdict files main f (has_tree t) → all ≡ read ++ (f, t) ∷ [] → more ≡ fold with_name names (hrefs_of t) → IsFirm all more
 
   pub firm_taken : {read : TakenFiles} {names : List Name} → IsFirm read names → IsTaken files main read names
   firm_taken (none_firm r n) = none_yet r n
@@ -200,7 +200,7 @@ module _ (files : List NamedFile) (main : Name) where
     pub file : Name
     pub tree : FileTree
     pub next : slice_get names (length read) ≡ Some file
-    pub is : IsTheFileVerdict files main file (has_tree tree)
+    pub is : FileHasOnlyVerdict files main file (has_tree tree)
 
   pub firm_beginning : {read : TakenFiles} {names : List Name} → IsFirm read names → (k : ℕ) → k < length read → FirmBeginning k
   firm_beginning (none_firm r n) k l = let z = ap length r in absurd (omega (arith, l, z))
@@ -236,7 +236,7 @@ module _ (files : List NamedFile) (main : Name) where
     pub names : List Name
     pub firm : IsFirm before names
     pub next : slice_get names (length before) ≡ Some f
-    pub broken : IsTheFileVerdict files main f (breaks k)
+    pub broken : FileHasOnlyVerdict files main f (breaks k)
 
   pub record AreFirm (read : TakenFiles) : Type 0 where
     pub names : List Name
@@ -304,7 +304,7 @@ module _ (files : List NamedFile) (main : Name) where
   ]
 
   broken_not_read : {read other : TakenFiles} {names more : List Name} {f : Name} {k : ℕ} → IsFirm read names → slice_get names (length read) ≡ Some f →
-      IsTheFileVerdict files main f (breaks k) → IsTaken files main other more → length read < length other → ⊥
+      FileHasOnlyVerdict files main f (breaks k) → IsTaken files main other more → length read < length other → ⊥
   broken_not_read firm next v taken l =
       let n = goes_on_alike firm taken l in
       let ff = same_name (sym next ∙ n.2) in

@@ -10,7 +10,7 @@ use Rattle.rng_model.specs.schema.Schema.{Schema, Component, IsWrittenAt, IsWell
 use Rattle.rng_model.proofs.Unfolding.{some_is}
 use Rattle.rnc_model.specs.declarations.FileTree as tree
 use Rattle.rnc_model.specs.declarations.FileTree.{FileTree}
-use Rattle.rnc_model.specs.loading.Places.{Way, Nested, Gathered, is_overridden, HasGrammar, main_is, nested_is, IsSchemaOf}
+use Rattle.rnc_model.specs.loading.Places.{TreePath, Nested, Gathered, is_overridden, HasGrammar, main_is, nested_is, IsSchemaOf}
 use Rattle.rnc_model.specs.loading.Places.{Reads, element_is, attribute_is, list_is, mixed_is, optional_is, zero_or_more_is, one_or_more_is, ref_is, parent_ref_is}
 use Rattle.rnc_model.specs.loading.Places.{empty_is, text_is, not_allowed_is, value_is, data_is, except_is, grammar_is, pattern_file_is, grammar_file_is, joined_is}
 use Rattle.rnc_model.specs.loading.Places.{ReadAll, none_are, more_are, Gathers, nothing, a_start, a_define, a_div, an_include}
@@ -54,7 +54,7 @@ module _ (files : List ℕ → Option FileTree) {z : Place} where
   -- ---- a grammar that is written in a pattern is nested there
 
   mutual
-    nested_read : {u : List ℕ} {x : Way} {a : tree.Pattern} {p : Pattern} {gs : List Nested} → Reads files u x a p gs → IsWrittenIn (grammar z) p
+    nested_read : {u : List ℕ} {x : TreePath} {a : tree.Pattern} {p : Pattern} {gs : List Nested} → Reads files u x a p gs → IsWrittenIn (grammar z) p
         → IsNestedAt z gs
     nested_read (element_is d) (in_element w) = nested_read d w
     nested_read (attribute_is d) (in_attribute w) = nested_read d w
@@ -76,14 +76,14 @@ module _ (files : List ℕ → Option FileTree) {z : Place} where
     nested_read (grammar_file_is f) (in_external itself) = (_, here, refl)
     nested_read (joined_is {k = k} {ps = ps} d) w = nested_among d (among_members k ps w)
 
-    nested_among : {u : List ℕ} {x : Way} {n : ℕ} {all : tree.Patterns} {ps : List Pattern} {gs : List Nested} → ReadAll files u x n all ps gs
+    nested_among : {u : List ℕ} {x : TreePath} {n : ℕ} {all : tree.Patterns} {ps : List Pattern} {gs : List Nested} → ReadAll files u x n all ps gs
         → IsWrittenAmong (grammar z) (patterns_of ps) → IsNestedAt z gs
     nested_among none_are w = elim w [ ]
     nested_among (more_are {gs = gs} {hs} d ds e) (in_this w) = let i = nested_read d w in (i.0, subst (Among i.0) (sym e) (in_left i.1 hs), i.2)
     nested_among (more_are {gs = gs} {hs} d ds e) (in_later w) = let i = nested_among ds w in (i.0, subst (Among i.0) (sym e) (in_right gs i.1), i.2)
 
   -- so is one that is written in a component
-  nested_gathered : {u : List ℕ} {x : Way} {n : ℕ} {cs : tree.Components} {all : List Gathered} {g : Gathered} → Gathers files u x n cs all → Among g all
+  nested_gathered : {u : List ℕ} {x : TreePath} {n : ℕ} {cs : tree.Components} {all : List Gathered} {g : Gathered} → Gathers files u x n cs all → Among g all
       → IsWrittenIn (grammar z) g.component.pattern → IsNestedAt z g.nested
   nested_gathered nothing i w = absurd (in_none i)
   nested_gathered (a_start d ds) here w = nested_read d w

@@ -3,7 +3,7 @@ ghost use Rattle.std.specs.Prelude.{IfOk, IfSome};
 ghost use Rattle.rng_model.specs.schema.Schema.{IsWellPlaced};
 ghost use Rattle.rnc_model.specs.loading.Files.{named_files};
 ghost use Rattle.rng_load.specs.views.Loaded.{IsLoaded};
-ghost use Rattle.rnc_model.specs.loading.Loading.{IsTheFilesVerdict};
+ghost use Rattle.rnc_model.specs.loading.Loading.{FilesHaveOnlyVerdict};
 ghost use Rattle.rng_load.specs.views.LoadingFaults.{reading_of};
 ghost use Rattle.rng_load.specs.views.PlacedGrammars.{schema_of};
 
@@ -64,7 +64,7 @@ fn load_files(
     files: &[(String, Vec<u8>)],
     main: &str,
 ) -> Result<IndexMap<String, FileTree>, SchemaFault>
-    ensures { IfSome (reading_of result) (IsTheFilesVerdict (named_files files.now) main.now) }
+    ensures { IfSome (reading_of result) (FilesHaveOnlyVerdict (named_files files.now) main.now) }
 {
     let trees = match load_in_order(alloc, files, main) {
         Ok(trees) => trees,

@@ -2,7 +2,7 @@
 ghost use Rattle.std.specs.Prelude.{◌↔◌, ◌⊎◌, IfSome, IsTrue, MatchOption};
 ghost use Rattle.rng_load.specs.views.FileFaults.{verdict_of};
 ghost use Rattle.rnc_model.specs.loading.Files.{named_files};
-ghost use Rattle.rnc_model.specs.loading.SchemaFile.{IsHandedIn, IsHandedInTwice, IsMissing, IsTheContentVerdict, IsTheFileVerdict, BreaksLimit};
+ghost use Rattle.rnc_model.specs.loading.SchemaFile.{IsHandedIn, IsHandedInTwice, IsMissing, ContentHasOnlyVerdict, FileHasOnlyVerdict, BreaksLimit};
 
 use crate::fault::FileFault;
 use rnc_grammar::{FileTree, parse};
@@ -29,7 +29,7 @@ pub fn tree_of_file(
     main: &str,
     name: &str,
 ) -> Result<FileTree, FileFault>
-    ensures { IfSome (verdict_of result) (IsTheFileVerdict (named_files files.now) main.now name.now) }
+    ensures { IfSome (verdict_of result) (FileHasOnlyVerdict (named_files files.now) main.now name.now) }
 {
     let Some(bytes) = bytes_of(files, name) else {
         return Err(FileFault::Clause(1));
@@ -68,7 +68,7 @@ fn bytes_of<'a>(files: &'a [(String, Vec<u8>)], name: &str) -> Option<&'a [u8]>
 
 /// The tree of bytes of any number. The tokens give their spare room back before their syntax tree is made beside them.
 fn tree_of_content(alloc: Global, bytes: &[u8]) -> Result<FileTree, FileFault>
-    ensures { IfSome (verdict_of result) (IsTheContentVerdict bytes.now) }
+    ensures { IfSome (verdict_of result) (ContentHasOnlyVerdict bytes.now) }
 {
     let text = read_text(alloc, bytes)?;
     let mut tokens = tokens(alloc, &text)?;

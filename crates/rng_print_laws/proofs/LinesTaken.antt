@@ -15,7 +15,7 @@ use Rattle.rnc_model.specs.declarations.FileTree.{FileTree}
 use Rattle.rnc_model.specs.loading.Mentions.{MentionedFile, mention_of, mentions_of, mentions_of_pattern, mentions_of_component, mentions_of_components}
 use Rattle.rnc_model.specs.loading.MentionPaths.{Path, Mentions, directly, through, IsPath, path_ends, path_goes_on, BreaksMentions, path_limit}
 use Rattle.rnc_model.specs.loading.Loading.{TakenFiles, with_name, hrefs_of, tree_in, hrefs_if, hrefs_in, none_yet, one_more, AreTaken, BreaksIncludes, BreaksTogether}
-use Rattle.rnc_model.specs.loading.Loading.{mentions_break, includes_break, are_taken, IsFilesVerdict}
+use Rattle.rnc_model.specs.loading.Loading.{mentions_break, includes_break, are_taken, FilesHaveVerdict}
 use Rattle.rnc_model.specs.loading.LoadedSchema.{AreSchema}
 use Rattle.rnc_model.specs.loading.Places.{IsSchemaOf}
 use Rattle.rnc_model.specs.loading.SchemaFile.{Name, NamedFile, HasTree}
@@ -127,7 +127,7 @@ module _ (main : Name) (t : FileTree) (none : mentions_of t ≡ []) where
       all = omega arith;
     }
 
-    pub verdict_alone : IsFilesVerdict files main (are_taken alone)
+    pub verdict_alone : FilesHaveVerdict files main (are_taken alone)
     verdict_alone = (taken_alone, none_together)
 
   main_tree : tree_in alone main ≡ Some t
@@ -139,7 +139,7 @@ module _ (main : Name) (g : Grammar) (items : List Item) where
   abbrev only_lines : TakenFiles
   only_lines = lines_alone main g items
 
-  pub lines_taken : (files : List NamedFile) → HasTree files main main (lines_tree g items) → IsFilesVerdict files main (are_taken only_lines)
+  pub lines_taken : (files : List NamedFile) → HasTree files main main (lines_tree g items) → FilesHaveVerdict files main (are_taken only_lines)
   lines_taken files has = verdict_alone main (lines_tree g items) (lines_mention g items) files has
 
   tree_is : {t u : FileTree} {o : Option FileTree} → o ≡ Some t → o ≡ Some u → t ≡ u

@@ -1,7 +1,7 @@
 -- What `simple` answers for what it printed is what it printed, where printed texts are read back.
 use Rattle.std.proofs.Common.{◌≡◌, refl, subst, ℕ, ◌≤◌, List, Option, length}
 use Rattle.rnc_model.specs.loading.LoadedSchema.{AreSchema}
-use Rattle.rnc_model.specs.loading.Loading.{TakenFiles, FilesVerdict, file_breaks, together_break, are_taken, IsTheFilesVerdict}
+use Rattle.rnc_model.specs.loading.Loading.{TakenFiles, FilesVerdict, file_breaks, together_break, are_taken, FilesHaveOnlyVerdict}
 use Rattle.rnc_model.specs.loading.SchemaFile.{Name, NamedFile, IsSchemaFile, size_limit}
 use Rattle.rng_model.specs.schema.Schema.{Schema}
 use Rattle.rng_model.specs.schema.SchemaClauses.{BreaksNoClause}
@@ -40,9 +40,9 @@ printed_of s text input_old input_new answer (run.document_is_judged j v) e = no
 
 -- texts that are printed for the schemas that files are, and that break no clause, are read back, where they are no longer than a file may be
 module _ (files : List NamedFile) (main : Name) (text : List ℕ) (small : length text ≤ size_limit)
-    (reads : (read : TakenFiles) (s : Schema) → IsTheFilesVerdict files main (are_taken read) → AreSchema read main s → BreaksNoClause s
+    (reads : (read : TakenFiles) (s : Schema) → FilesHaveOnlyVerdict files main (are_taken read) → AreSchema read main s → BreaksNoClause s
     → (p : IsPrintedForm s text) → IsSchemaFile text (lines_tree p.grammar p.is_printed.items)) (input_old input_new : Option (List ℕ)) where
-  read_back : (verdict : FilesVerdict) → IsTheFilesVerdict files main verdict → IsAnswerTo Simple main verdict input_old input_new (printed text)
+  read_back : (verdict : FilesVerdict) → FilesHaveOnlyVerdict files main verdict → IsAnswerTo Simple main verdict input_old input_new (printed text)
       → (s : Schema) × IsPrintedFile s text
   read_back (file_breaks f clause) v e = not_refused_file e
   read_back (together_break clause) v e = not_together e

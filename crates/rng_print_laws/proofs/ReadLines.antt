@@ -11,7 +11,7 @@ use Rattle.rncv_model.specs.printed.PrintedText.{Item, element, pattern, element
 use Rattle.rnc_model.specs.declarations.FileTree as tree
 use Rattle.rnc_model.specs.declarations.FileTree.{FileTree, inherited, given}
 use Rattle.rnc_model.specs.loading.Places as p
-use Rattle.rnc_model.specs.loading.Places.{Way, Nested, Gathered, Reads, Gathers, HasGrammar, IsSchemaOf}
+use Rattle.rnc_model.specs.loading.Places.{TreePath, Nested, Gathered, Reads, Gathers, HasGrammar, IsSchemaOf}
 use Rattle.rng_load.proofs.OneSchema.{one_gathering}
 use Rattle.rng_print_laws.specs.plain.LinesSchema.{reference_pattern, item_pattern, start_line, item_line, lines_components, components_at, schema_of_lines}
 use Rattle.rng_print_laws.specs.plain.LinesSchema.{IsSchemaOfLines}
@@ -23,10 +23,10 @@ none_is_some : {A B : Type 0} {x : A} → ◌≡◌ {A = Option A} None (Some x)
 none_is_some e = cc
 
 module _ (files : List ℕ → Option FileTree) where
-  abbrev IsRead : Way → tree.Pattern → Pattern → Type 0
+  abbrev IsRead : TreePath → tree.Pattern → Pattern → Type 0
   IsRead x a q = Reads files [] x a q []
 
-  reference_read : (items : List Item) (a : Simple ℕ) (x : Way) → IsRead x (lines.reference_of items a) (reference_pattern items a)
+  reference_read : (items : List Item) (a : Simple ℕ) (x : TreePath) → IsRead x (lines.reference_of items a) (reference_pattern items a)
   reference_read items s_not_allowed x = p.not_allowed_is
   reference_read items s_empty x = p.empty_is
   reference_read items s_text x = p.text_is
@@ -44,7 +44,7 @@ module _ (files : List ℕ → Option FileTree) where
   two_members group q r = refl
   two_members interleave q r = refl
 
-  line_read : (items : List Item) (a : Simple ℕ) (x : Way) (g : Grammar) → IsRead x (lines.pattern_of items a) (item_pattern g items (pattern a))
+  line_read : (items : List Item) (a : Simple ℕ) (x : TreePath) (g : Grammar) → IsRead x (lines.pattern_of items a) (item_pattern g items (pattern a))
   line_read items s_not_allowed x g = p.not_allowed_is
   line_read items s_empty x g = p.empty_is
   line_read items s_text x g = p.text_is
@@ -61,7 +61,7 @@ module _ (files : List ℕ → Option FileTree) where
       subst (λ q. IsRead x (lines.pattern_of items (s_joined k a b)) q) (two_members k (reference_pattern items a) (reference_pattern items b))
       (p.joined_is (p.more_are (reference_read items a (0 ∷ x)) (p.more_are (reference_read items b ((0 + 1) ∷ x)) p.none_are refl) refl))
 
-  item_read : (g : Grammar) (items : List Item) (i : Item) (x : Way) → IsRead x (lines.item_pattern g items i) (item_pattern g items i)
+  item_read : (g : Grammar) (items : List Item) (i : Item) (x : TreePath) → IsRead x (lines.item_pattern g items i) (item_pattern g items i)
   item_read g items (element k) x =
       subst (λ d. IsRead x (lines.item_pattern g items (element k)) (written.element d (reference_pattern items (element_at g k).1)))
       (class_read inherited refl (element_at g k).0) (p.element_is (reference_read items (element_at g k).1 (0 ∷ x)))
@@ -75,7 +75,7 @@ module _ (files : List ℕ → Option FileTree) where
   abbrev item_gathered : Grammar → List Item → Item → Gathered
   item_gathered g items i = alone (item_line g items i)
 
-  items_gather : (g : Grammar) (items js : List Item) (x : Way) (n : ℕ)
+  items_gather : (g : Grammar) (items js : List Item) (x : TreePath) (n : ℕ)
       → Gathers files [] x n (tree.components_of (map (lines.define_of g items) js)) (map (item_gathered g items) js)
   items_gather g items [] x n = p.nothing
   items_gather g items (j ∷ js) x n = p.a_define (item_read g items j (n ∷ x)) (items_gather g items js x (n + 1))
@@ -87,7 +87,7 @@ module _ (files : List ℕ → Option FileTree) where
     abbrev all_gathered : List Gathered
     all_gathered = alone (start_line g items) ∷ map (item_gathered g items) items
 
-    lines_gather : (x : Way) → Gathers files [] x 0 file_components all_gathered
+    lines_gather : (x : TreePath) → Gathers files [] x 0 file_components all_gathered
     lines_gather x = p.a_start (reference_read items g.start (0 ∷ x)) (items_gather g items items x (0 + 1))
 
     components_gathered : (js : List Item) → map (λ c. c.component) (map (item_gathered g items) js) ≡ map (item_line g items) js
@@ -113,7 +113,7 @@ module _ (files : List ℕ → Option FileTree) where
       pub uri : u ≡ []
       pub components : cs ≡ file_components
 
-    gathered_is : (x : Way) (u : List ℕ) (cs : tree.Components) (gathered : List Gathered) → u ≡ [] → cs ≡ file_components → Gathers files u x 0 cs gathered
+    gathered_is : (x : TreePath) (u : List ℕ) (cs : tree.Components) (gathered : List Gathered) → u ≡ [] → cs ≡ file_components → Gathers files u x 0 cs gathered
         → gathered ≡ all_gathered
     gathered_is x u cs gathered e f d =
         one_gathering files (subst (λ ds. Gathers files [] x 0 ds gathered) f (subst (λ v. Gathers files v x 0 cs gathered) e d)) (lines_gather x)

@@ -13,10 +13,10 @@ use Rattle.rng_model.specs.simple.Tree.{Connector, choice, group, interleave}
 use Rattle.rnc_model.specs.declarations.FileTree as tree
 use Rattle.rnc_model.specs.declarations.FileTree.{FileTree, Namespace, inherited, given, grammar_file, pattern_file, grammar_of, whole_grammar}
 use Rattle.rnc_model.specs.loading.LoadedSchema.{AreSchema}
-use Rattle.rnc_model.specs.loading.Loading.{TakenFiles, tree_in, IsTaken, AreTaken, are_taken, IsTheFilesVerdict}
+use Rattle.rnc_model.specs.loading.Loading.{TakenFiles, tree_in, IsTaken, AreTaken, are_taken, FilesHaveOnlyVerdict}
 use Rattle.rnc_model.specs.loading.Loading as loading
 use Rattle.rnc_model.specs.loading.Places as places
-use Rattle.rnc_model.specs.loading.Places.{uri_in, Way, Nested, Gathered, is_overridden, grammar_or_start, main_grammar, Reads, ReadAll, Gathers, HasGrammar, IsSchemaOf}
+use Rattle.rnc_model.specs.loading.Places.{uri_in, TreePath, Nested, Gathered, is_overridden, grammar_or_start, main_grammar, Reads, ReadAll, Gathers, HasGrammar, IsSchemaOf}
 use Rattle.rnc_model.specs.loading.SchemaFile.{Name, NamedFile}
 use Rattle.rng_print_laws.specs.plain.Printable.{IsText, IsPrintable}
 use Rattle.rng_print_laws.specs.plain.WellSpelledFiles as spelled
@@ -88,7 +88,7 @@ IsSpelledGathered g = IsWellSpelledComponent g.component × AllByRecursion IsSpe
 
 module _ (files : List ℕ → Option FileTree) (good : (f : List ℕ) (t : FileTree) → files f ≡ Some t → IsWellSpelledFile t) where
   mutual
-    reads : {u : List ℕ} {x : Way} {a : tree.Pattern} {p : Pattern} {gs : List Nested} → Reads files u x a p gs → IsText u
+    reads : {u : List ℕ} {x : TreePath} {a : tree.Pattern} {p : Pattern} {gs : List Nested} → Reads files u x a p gs → IsText u
         → spelled.IsWellSpelledPattern a → IsWellSpelledPattern p × AllByRecursion IsSpelledNested gs
     reads (places.element_is {u} d) i h = let r = reads d i h.1 in ((h.0 u i, r.0), r.1)
     reads (places.attribute_is {u} d) i h = let r = reads d i h.1 in ((h.0 u i, r.0), r.1)
@@ -110,7 +110,7 @@ module _ (files : List ℕ → Option FileTree) (good : (f : List ℕ) (t : File
     reads (places.grammar_file_is {u} {x} {m} {cs} f) i h = (tt, ((uri_text u m.namespace i h.1, good m.href (grammar_file cs) f), tt))
     reads (places.joined_is {u} {x} {k} {all} {ps} ds) i h = let r = read_all ds i h in (members_spelled k ps r.0, r.1)
 
-    read_all : {u : List ℕ} {x : Way} {n : ℕ} {all : tree.Patterns} {ps : List Pattern} {gs : List Nested} → ReadAll files u x n all ps gs → IsText u
+    read_all : {u : List ℕ} {x : TreePath} {n : ℕ} {all : tree.Patterns} {ps : List Pattern} {gs : List Nested} → ReadAll files u x n all ps gs → IsText u
         → AreWellSpelledPatterns all → AllByRecursion IsWellSpelledPattern ps × AllByRecursion IsSpelledNested gs
     read_all places.none_are i h = (tt, tt)
     read_all (places.more_are {u} {x} {n} {a} {all} {p} {ps} {gs} {hs} d ds e) i h =
@@ -118,7 +118,7 @@ module _ (files : List ℕ → Option FileTree) (good : (f : List ℕ) (t : File
         let rs = read_all ds i h.1 in
         ((r.0, rs.0), all_same IsSpelledNested e (all_both IsSpelledNested gs hs r.1 rs.1))
 
-  gathers : {u : List ℕ} {x : Way} {n : ℕ} {cs : tree.Components} {all : List Gathered} → Gathers files u x n cs all → IsText u
+  gathers : {u : List ℕ} {x : TreePath} {n : ℕ} {cs : tree.Components} {all : List Gathered} → Gathers files u x n cs all → IsText u
       → AreWellSpelledComponents cs → AllByRecursion IsSpelledGathered all
   gathers places.nothing i h = tt
   gathers (places.a_start d ds) i h = let r = reads d i h.0 in (((tt, r.0), r.1), gathers ds i h.1)
@@ -174,14 +174,14 @@ found_spelled f (file ∷ read) h t e = by_name (bytes_eq f file.0) (found_spell
     by_name false more e = more e
 
 -- such a schema is well spelled
-pub loaded_spelled : (files : List NamedFile) (main : Name) (read : TakenFiles) (s : Schema) → IsTheFilesVerdict files main (are_taken read)
+pub loaded_spelled : (files : List NamedFile) (main : Name) (read : TakenFiles) (s : Schema) → FilesHaveOnlyVerdict files main (are_taken read)
     → AreSchema read main s → IsWellSpelledSchema s
 loaded_spelled files main read s verdict is =
     let all = taken_spelled files main verdict.is.0.taken in
     schema_spelled (tree_in read) (λ f t e. found_spelled f read all t e) is.tree (found_spelled main read all is.tree is.main_file) s is.is
 
 -- and each of its simple grammars printable, where it breaks no clause
-pub files_printable : (files : List NamedFile) (main : Name) (read : TakenFiles) (s : Schema) → IsTheFilesVerdict files main (are_taken read)
+pub files_printable : (files : List NamedFile) (main : Name) (read : TakenFiles) (s : Schema) → FilesHaveOnlyVerdict files main (are_taken read)
     → AreSchema read main s → BreaksNoClause s → (g : Grammar) → IsSimpleGrammarOf s g → IsPrintable g
 files_printable files main read s verdict is none = grammar_printable s (loaded_spelled files main read s verdict is)
     (λ b. none 12 (in_schema (in_datatype b)))

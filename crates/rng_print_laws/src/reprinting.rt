@@ -7,7 +7,7 @@ ghost use Rattle.rng_model.specs.simple.Table.{Grammar};
 ghost use Rattle.rng_model.specs.declared.fault.SchemaFault.{SchemaFault};
 ghost use Rattle.rnc_model.specs.loading.LoadedSchema.{AreSchema};
 ghost use Rattle.rng_load.specs.views.Loaded.{IsLoaded};
-ghost use Rattle.rnc_model.specs.loading.Loading.{are_taken, IsFilesVerdict};
+ghost use Rattle.rnc_model.specs.loading.Loading.{are_taken, FilesHaveVerdict};
 ghost use Rattle.rnc_model.specs.loading.SchemaFile.{HasTree, Name, NamedFile};
 ghost use Rattle.rng_load.specs.declared.schema.Schema as loaded;
 ghost use Rattle.rncv_model.specs.printed.PrintedText.{Item};
@@ -40,7 +40,7 @@ pub fn reprinting_laws()
 /// holds of the text handed in alone, where it is no longer than a file may be.
 pub fn printed_file_laws()
     ensures taken { (files : List NamedFile) (main : Name) (g : Grammar) (items : List Item) → HasTree files main main (lines_tree g items)
-        → IsFilesVerdict files main (are_taken (lines_alone main g items)) }
+        → FilesHaveVerdict files main (are_taken (lines_alone main g items)) }
     ensures lines { (main : Name) (g : Grammar) (items : List Item) (r : Schema) → AreSchema (lines_alone main g items) main r → IsSchemaOfLines g items r }
     ensures there { (main : Name) (g : Grammar) (items : List Item) → AreSchema (lines_alone main g items) main (schema_of_lines g items) }
     ensures alone { (s : Schema) (text : List ℕ) → IsPrintedFile s text → (main : Name) → IsHandedInAgain s text (text_alone main text) main }

@@ -19,7 +19,7 @@ use Rattle.rng_model.specs.declared.name.NameClass.TheVariants as class
 use Rattle.rng_rules.specs.declared.names_meet.NamesOf.{NamesOf}
 use Rattle.rng_rules.specs.declared.names_meet_groups.PlainName.{PlainName}
 use Rattle.rng_rules.specs.contracts.names_meet_groups.PlainNamePartialEq.TheImpl as same
-use Rattle.rng_rules.specs.views.NamesMeetLabels.{AreLabels, judged_class, label_list, plain_name_of, HasName, AreApart, AreGroups}
+use Rattle.rng_rules.specs.views.NamesMeetLabels.{AreLabels, judged_class, label_list, plain_name_of, HasName, AreNamesApart, AreGroups}
 use Rattle.rng_rules.specs.views.NamesMeetRows.{class_in}
 use Rattle.rng_rules.specs.views.NamesMeetSides.{IsUnder}
 use Rattle.rng_rules.proofs.NamesMeetBetween.{at_marked}
@@ -155,7 +155,7 @@ in_front xs y z i e =
 
 -- what holds once a name is among the keys, and has this number
 pub record IsNumbered (n : PlainName) (ks new : List PlainName) (i : ℕ) : Type 0 where
-  pub apart : AreApart (map plain_name_of ks) → AreApart (map plain_name_of new)
+  pub apart : AreNamesApart (map plain_name_of ks) → AreNamesApart (map plain_name_of new)
   pub there : slice_get (map plain_name_of new) i ≡ Some (plain_name_of n)
   pub kept : (k : ℕ) (q : names.Name) → slice_get (map plain_name_of ks) k ≡ Some q → slice_get (map plain_name_of new) k ≡ Some q
   pub old : i < length ks → length new ≡ length ks
@@ -170,7 +170,7 @@ numbered n k ks new i is stored eq = either_way (list_any (same.ghosts.eq n) ks)
 
     either_way : (b : Bool) → list_any (same.ghosts.eq n) ks ≡ b → new ≡ (if b then ks else ks ++ n ∷ []) → IsNumbered n ks new i
     either_way true any e = record {
-      apart = subst (λ xs. AreApart (map plain_name_of ks) → AreApart (map plain_name_of xs)) (sym e) (λ a. a);
+      apart = subst (λ xs. AreNamesApart (map plain_name_of ks) → AreNamesApart (map plain_name_of xs)) (sym e) (λ a. a);
       there = found;
       kept = subst (λ xs. (k : ℕ) (q : names.Name) → slice_get (map plain_name_of ks) k ≡ Some q → slice_get (map plain_name_of xs) k ≡ Some q) (sym e) (λ k q h. h);
       old = λ h. ap length e;
@@ -180,7 +180,7 @@ numbered n k ks new i is stored eq = either_way (list_any (same.ghosts.eq n) ks)
         let qs = map plain_name_of ks in
         let q = plain_name_of n in
         let more : map plain_name_of new ≡ qs ++ q ∷ [] = ap (map plain_name_of) e ∙ map-append plain_name_of ks (n ∷ []) in record {
-          apart = λ a. subst AreApart (sym more) (λ x y z f g. elim (at_end qs q z x f) [
+          apart = λ a. subst AreNamesApart (sym more) (λ x y z f g. elim (at_end qs q z x f) [
             | inl h ↦ elim (at_end qs q z y g) [
               | inl l ↦ a x y z h l
               | inr l ↦ absurd (none_same n ks any x (h ∙ ap Some l.1))
@@ -223,7 +223,7 @@ same_named : (n m : Name) → class.Name n ≡ class.Name m → name_of n ≡ na
 same_named n m e = sym (some_same (ap named e) refl)
 
 module _ (ls : List Label) (qs new_qs : List names.Name) (groups new : List (List ℕ)) (row n : ℕ) (name : Name) (is : AreGroups ls qs groups)
-    (apart : AreApart new_qs) (there : slice_get new_qs n ≡ Some (name_of name))
+    (apart : AreNamesApart new_qs) (there : slice_get new_qs n ≡ Some (name_of name))
     (kept : (k : ℕ) (q : names.Name) → slice_get qs k ≡ Some q → slice_get new_qs k ≡ Some q) (long : length new ≡ length new_qs)
     (added : (c p : ℕ) → Contains (slice_index_or new c []) p ↔ (Contains (slice_index_or groups c []) p ⊎ ((p ≡ row) × (c ≡ n)))) where
   pub name_added : AreGroups (ls ++ (row, class.Name name) ∷ []) new_qs new

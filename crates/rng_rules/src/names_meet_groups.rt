@@ -3,7 +3,7 @@ ghost use Rattle.std.specs.Prelude.{◌≡◌, ◌↔◌, ◌+◌, ◌<◌, ◌�
 ghost use Rattle.rng_model.specs.names.Names as names;
 ghost use Rattle.rng_model.specs.declared.name.NameClass.{NameClass};
 ghost use Rattle.rng_model.specs.declared.name.NameClass.TheVariants as class;
-ghost use Rattle.rng_rules.specs.views.NamesMeetLabels.{AreApart, AreGroups, label_of, plain_name_of};
+ghost use Rattle.rng_rules.specs.views.NamesMeetLabels.{AreNamesApart, AreGroups, label_of, plain_name_of};
 ghost use Rattle.rng_rules.specs.plain.NamesMeetReach.{lists};
 
 use crate::names_meet_labels::Label;
@@ -91,7 +91,7 @@ fn number<'a>(
     known: &mut IndexSet<PlainName<'a>>,
     name: PlainName<'a>,
 ) -> Result<usize, OutOfMemory>
-    ensures apart { OnOk result (AreApart (map plain_name_of known.old.keys) → AreApart (map plain_name_of known.new.keys)) }
+    ensures apart { OnOk result (AreNamesApart (map plain_name_of known.old.keys) → AreNamesApart (map plain_name_of known.new.keys)) }
     ensures there { IfOk result (λ n. slice_get (map plain_name_of known.new.keys) n ≡ Some (plain_name_of name.entry)) }
     ensures kept { OnOk result ((k : ℕ) (q : names.Name) → slice_get (map plain_name_of known.old.keys) k ≡ Some q → slice_get (map plain_name_of known.new.keys) k ≡ Some q) }
     ensures within { IfOk result (λ n. n ≤ length known.old.keys) }

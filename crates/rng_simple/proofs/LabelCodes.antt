@@ -16,7 +16,7 @@ use Rattle.rng_model.specs.declared.name.NameClass as declared
 use Rattle.rng_model.specs.declared.name.NameClass.{the_lemmas}
 use Rattle.rng_model.specs.declared.name.NameClass.TheVariants as classes
 use Rattle.rng_graph.specs.plain.InTwos.{nested, nested_after}
-use Rattle.rng_simple.specs.plain.LabelCodes.{Part, text, any, any_but, ns, ns_but, name, either, part_of, class_code, more_code, AreApart}
+use Rattle.rng_simple.specs.plain.LabelCodes.{Part, text, any, any_but, ns, ns_but, name, either, part_of, class_code, more_code, AreCodesApart}
 use Rattle.rng_simple.specs.plain.LabelCodes.{parameters_code, datatype_code, value_code}
 use Rattle.rng_simple.specs.declared.label_codes.LabelPart.{LabelPart}
 use Rattle.rng_simple.specs.declared.label_codes.LabelPart.TheVariants as parts
@@ -85,7 +85,7 @@ nothing_there c [] h i e = cc
 nothing_there c (k ∷ ks) h zero e = true≢false (sym (equal_lists c.items k.items (sym (some_is e))) ∙ h.0)
 nothing_there c (k ∷ ks) h (suc i) e = nothing_there c ks h.1 i e
 
-pub codes_apart : (ks : List Code) → IsDistinct code_eq ks → AreApart (map code_of ks)
+pub codes_apart : (ks : List Code) → IsDistinct code_eq ks → AreCodesApart (map code_of ks)
 unfolding IsDistinct
 codes_apart [] d i j c e f = cc
 codes_apart (k ∷ ks) d zero zero c e f = refl

@@ -4,7 +4,7 @@ ghost use Rattle.rng_model.specs.names.Names.{some_of};
 ghost use Rattle.rng_model.specs.schema.Patterns.{without_parameters};
 ghost use Rattle.rng_model.specs.datatypes.DatatypeViews.{datatype_of};
 ghost use Rattle.rng_model.specs.names.NameViews.{class_of};
-ghost use Rattle.rng_simple.specs.plain.LabelCodes.{AreApart, IsPlaced, class_code, codes_of, datatype_code, part_of, value_code};
+ghost use Rattle.rng_simple.specs.plain.LabelCodes.{AreCodesApart, IsPlaced, class_code, codes_of, datatype_code, part_of, value_code};
 
 use indexmap::IndexSet;
 use rng_model::{Datatype, DatatypeValue, NameClass};
@@ -34,7 +34,7 @@ pub fn place_of_code<'a>(
     codes: &mut IndexSet<Vec<LabelPart<'a>>>,
     code: Vec<LabelPart<'a>>,
 ) -> Result<Option<usize>, AllocError>
-    ensures apart { OnOk result (AreApart (codes_of codes.new)) }
+    ensures apart { OnOk result (AreCodesApart (codes_of codes.new)) }
     ensures placed { IfOk result (IsPlaced (codes_of codes.old) (codes_of codes.new) (map part_of code.entry.items)) }
 {
     let (place, is_new) = codes.insert_full(code)?;

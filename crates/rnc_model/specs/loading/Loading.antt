@@ -102,12 +102,12 @@ pub data FilesVerdict : Type 0 where
   are_taken : TakenFiles → FilesVerdict
 
 module _ (files : List NamedFile) (main : Name) where
-  abbrev pub IsFilesVerdict : FilesVerdict → Type 0
-  IsFilesVerdict (file_breaks f k) = IsFirstBroken files main f k
-  IsFilesVerdict (together_break k) = (read : TakenFiles) × AreTaken files main read × BreaksTogether read main k
-  IsFilesVerdict (are_taken read) = AreTaken files main read × ((k : ℕ) → ¬ (BreaksTogether read main k))
+  abbrev pub FilesHaveVerdict : FilesVerdict → Type 0
+  FilesHaveVerdict (file_breaks f k) = IsFirstBroken files main f k
+  FilesHaveVerdict (together_break k) = (read : TakenFiles) × AreTaken files main read × BreaksTogether read main k
+  FilesHaveVerdict (are_taken read) = AreTaken files main read × ((k : ℕ) → ¬ (BreaksTogether read main k))
 
   -- this is the verdict, and no other is
-  pub record IsTheFilesVerdict (v : FilesVerdict) : Type 0 where
-    pub is : IsFilesVerdict v
-    pub only : (other : FilesVerdict) → IsFilesVerdict other → v ≡ other
+  pub record FilesHaveOnlyVerdict (v : FilesVerdict) : Type 0 where
+    pub is : FilesHaveVerdict v
+    pub only : (other : FilesVerdict) → FilesHaveVerdict other → v ≡ other

@@ -45,8 +45,8 @@ datatype_in d ps = record { library = d.library; name = d.name; parameters = ps 
 -- ---- patterns
 
 -- the way to a pattern or a component in that tree; that to a grammar is its place
-abbrev pub Way : Type 0
-Way = List ℕ
+abbrev pub TreePath : Type 0
+TreePath = List ℕ
 
 -- a grammar that is nested in another: its place, the namespace that its file inherits, and its components
 pub record Nested : Type 0 where
@@ -75,61 +75,61 @@ main_grammar (pattern_file p) = grammar_or_start p (whole_grammar p)
 module _ (files : List ℕ → Option FileTree) where
   -- in a file that inherits this namespace the pattern, at this way, is that one, and these grammars are nested in it directly
   mutual
-    pub data Reads : List ℕ → Way → tree.Pattern → Pattern → List Nested → Type 0 where
-      element_is : {u : List ℕ} {x : Way} {c : tree.NameClass} {a : tree.Pattern} {p : Pattern} {gs : List Nested} → Reads u (0 ∷ x) a p gs
+    pub data Reads : List ℕ → TreePath → tree.Pattern → Pattern → List Nested → Type 0 where
+      element_is : {u : List ℕ} {x : TreePath} {c : tree.NameClass} {a : tree.Pattern} {p : Pattern} {gs : List Nested} → Reads u (0 ∷ x) a p gs
           → Reads u x (tree.element c a) (pattern.element (class_in u c) p) gs
-      attribute_is : {u : List ℕ} {x : Way} {c : tree.NameClass} {a : tree.Pattern} {p : Pattern} {gs : List Nested} → Reads u (0 ∷ x) a p gs
+      attribute_is : {u : List ℕ} {x : TreePath} {c : tree.NameClass} {a : tree.Pattern} {p : Pattern} {gs : List Nested} → Reads u (0 ∷ x) a p gs
           → Reads u x (tree.attribute c a) (pattern.attribute (class_in u c) p) gs
-      list_is : {u : List ℕ} {x : Way} {a : tree.Pattern} {p : Pattern} {gs : List Nested} → Reads u (0 ∷ x) a p gs
+      list_is : {u : List ℕ} {x : TreePath} {a : tree.Pattern} {p : Pattern} {gs : List Nested} → Reads u (0 ∷ x) a p gs
           → Reads u x (tree.list a) (pattern.list p) gs
-      mixed_is : {u : List ℕ} {x : Way} {a : tree.Pattern} {p : Pattern} {gs : List Nested} → Reads u (0 ∷ x) a p gs
+      mixed_is : {u : List ℕ} {x : TreePath} {a : tree.Pattern} {p : Pattern} {gs : List Nested} → Reads u (0 ∷ x) a p gs
           → Reads u x (tree.mixed a) (pattern.mixed p) gs
-      optional_is : {u : List ℕ} {x : Way} {a : tree.Pattern} {p : Pattern} {gs : List Nested} → Reads u (0 ∷ x) a p gs
+      optional_is : {u : List ℕ} {x : TreePath} {a : tree.Pattern} {p : Pattern} {gs : List Nested} → Reads u (0 ∷ x) a p gs
           → Reads u x (tree.optional a) (pattern.optional p) gs
-      zero_or_more_is : {u : List ℕ} {x : Way} {a : tree.Pattern} {p : Pattern} {gs : List Nested} → Reads u (0 ∷ x) a p gs
+      zero_or_more_is : {u : List ℕ} {x : TreePath} {a : tree.Pattern} {p : Pattern} {gs : List Nested} → Reads u (0 ∷ x) a p gs
           → Reads u x (tree.zero_or_more a) (pattern.zero_or_more p) gs
-      one_or_more_is : {u : List ℕ} {x : Way} {a : tree.Pattern} {p : Pattern} {gs : List Nested} → Reads u (0 ∷ x) a p gs
+      one_or_more_is : {u : List ℕ} {x : TreePath} {a : tree.Pattern} {p : Pattern} {gs : List Nested} → Reads u (0 ∷ x) a p gs
           → Reads u x (tree.one_or_more a) (pattern.one_or_more p) gs
-      ref_is : {u : List ℕ} {x : Way} {y : List ℕ} → Reads u x (tree.ref y) (pattern.ref y) []
-      parent_ref_is : {u : List ℕ} {x : Way} {y : List ℕ} → Reads u x (tree.parent_ref y) (pattern.parent_ref y) []
-      empty_is : {u : List ℕ} {x : Way} → Reads u x tree.empty pattern.empty []
-      text_is : {u : List ℕ} {x : Way} → Reads u x tree.text pattern.text []
-      not_allowed_is : {u : List ℕ} {x : Way} → Reads u x tree.not_allowed pattern.not_allowed []
-      value_is : {u : List ℕ} {x : Way} {d : DatatypeName} {v : List ℕ} → Reads u x (tree.value d v) (pattern.value d.library d.name v) []
-      data_is : {u : List ℕ} {x : Way} {d : DatatypeName} {ps : List (List ℕ × List ℕ)} →
+      ref_is : {u : List ℕ} {x : TreePath} {y : List ℕ} → Reads u x (tree.ref y) (pattern.ref y) []
+      parent_ref_is : {u : List ℕ} {x : TreePath} {y : List ℕ} → Reads u x (tree.parent_ref y) (pattern.parent_ref y) []
+      empty_is : {u : List ℕ} {x : TreePath} → Reads u x tree.empty pattern.empty []
+      text_is : {u : List ℕ} {x : TreePath} → Reads u x tree.text pattern.text []
+      not_allowed_is : {u : List ℕ} {x : TreePath} → Reads u x tree.not_allowed pattern.not_allowed []
+      value_is : {u : List ℕ} {x : TreePath} {d : DatatypeName} {v : List ℕ} → Reads u x (tree.value d v) (pattern.value d.library d.name v) []
+      data_is : {u : List ℕ} {x : TreePath} {d : DatatypeName} {ps : List (List ℕ × List ℕ)} →
           Reads u x (tree.data_of d ps) (pattern.data_of (datatype_in d ps)) []
-      except_is : {u : List ℕ} {x : Way} {d : DatatypeName} {ps : List (List ℕ × List ℕ)} {a : tree.Pattern} {p : Pattern} {gs : List Nested} →
+      except_is : {u : List ℕ} {x : TreePath} {d : DatatypeName} {ps : List (List ℕ × List ℕ)} {a : tree.Pattern} {p : Pattern} {gs : List Nested} →
           Reads u (0 ∷ x) a p gs → Reads u x (tree.data_except d ps a) (pattern.data_except (datatype_in d ps) p) gs
       -- a nested grammar stands at this place
-      grammar_is : {u : List ℕ} {x : Way} {cs : tree.Components} →
+      grammar_is : {u : List ℕ} {x : TreePath} {cs : tree.Components} →
           Reads u x (tree.grammar cs) (pattern.grammar x) (record { place = x; uri = u; components = cs } ∷ [])
       -- an external is its file's pattern, read with the namespace that is handed on; a file of grammar content is a nested grammar
-      pattern_file_is : {u : List ℕ} {x : Way} {m : tree.Mention} {a : tree.Pattern} {p : Pattern} {gs : List Nested} → files m.href ≡ Some (pattern_file a)
+      pattern_file_is : {u : List ℕ} {x : TreePath} {m : tree.Mention} {a : tree.Pattern} {p : Pattern} {gs : List Nested} → files m.href ≡ Some (pattern_file a)
           → Reads (uri_in u m.namespace) (0 ∷ x) a p gs → Reads u x (tree.external m) (pattern.external p) gs
-      grammar_file_is : {u : List ℕ} {x : Way} {m : tree.Mention} {cs : tree.Components} → files m.href ≡ Some (grammar_file cs) →
+      grammar_file_is : {u : List ℕ} {x : TreePath} {m : tree.Mention} {cs : tree.Components} → files m.href ≡ Some (grammar_file cs) →
           Reads u x (tree.external m) (pattern.external (pattern.grammar x)) (record { place = x; uri = uri_in u m.namespace; components = cs } ∷ [])
-      joined_is : {u : List ℕ} {x : Way} {k : Connector} {all : tree.Patterns} {ps : List Pattern} {gs : List Nested} → ReadAll u x 0 all ps gs
+      joined_is : {u : List ℕ} {x : TreePath} {k : Connector} {all : tree.Patterns} {ps : List Pattern} {gs : List Nested} → ReadAll u x 0 all ps gs
           → Reads u x (tree.joined k all) (members k ps) gs
 
     -- the first of them is the child with this number
-    pub data ReadAll : List ℕ → Way → ℕ → tree.Patterns → List Pattern → List Nested → Type 0 where
-      none_are : {u : List ℕ} {x : Way} {n : ℕ} → ReadAll u x n tree.no_patterns [] []
-      more_are : {u : List ℕ} {x : Way} {n : ℕ} {a : tree.Pattern} {all : tree.Patterns} {p : Pattern} {ps : List Pattern} {gs hs : List Nested}
+    pub data ReadAll : List ℕ → TreePath → ℕ → tree.Patterns → List Pattern → List Nested → Type 0 where
+      none_are : {u : List ℕ} {x : TreePath} {n : ℕ} → ReadAll u x n tree.no_patterns [] []
+      more_are : {u : List ℕ} {x : TreePath} {n : ℕ} {a : tree.Pattern} {all : tree.Patterns} {p : Pattern} {ps : List Pattern} {gs hs : List Nested}
           {both : List Nested} → Reads u (n ∷ x) a p gs → ReadAll u x (n + 1) all ps hs → both ≡ gs ++ hs → ReadAll u x n (tree.pattern_and a all) (p ∷ ps) both
 
   -- the components that these give to their grammar, in order; the first of them is the child with this number
-  pub data Gathers : List ℕ → Way → ℕ → tree.Components → List Gathered → Type 0 where
-    nothing : {u : List ℕ} {x : Way} {n : ℕ} → Gathers u x n tree.no_components []
-    a_start : {u : List ℕ} {x : Way} {n : ℕ} {m : Method} {a : tree.Pattern} {cs : tree.Components} {p : Pattern} {gs : List Nested} {rest : List Gathered} →
+  pub data Gathers : List ℕ → TreePath → ℕ → tree.Components → List Gathered → Type 0 where
+    nothing : {u : List ℕ} {x : TreePath} {n : ℕ} → Gathers u x n tree.no_components []
+    a_start : {u : List ℕ} {x : TreePath} {n : ℕ} {m : Method} {a : tree.Pattern} {cs : tree.Components} {p : Pattern} {gs : List Nested} {rest : List Gathered} →
         Reads u (n ∷ x) a p gs → Gathers u x (n + 1) cs rest →
         Gathers u x n (tree.component_and (tree.start m a) cs) (record { component = record { name = None; method = m; pattern = p }; nested = gs } ∷ rest)
-    a_define : {u : List ℕ} {x : Way} {n : ℕ} {y : List ℕ} {m : Method} {a : tree.Pattern} {cs : tree.Components} {p : Pattern} {gs : List Nested}
+    a_define : {u : List ℕ} {x : TreePath} {n : ℕ} {y : List ℕ} {m : Method} {a : tree.Pattern} {cs : tree.Components} {p : Pattern} {gs : List Nested}
         {rest : List Gathered} → Reads u (n ∷ x) a p gs → Gathers u x (n + 1) cs rest →
         Gathers u x n (tree.component_and (tree.define y m a) cs) (record { component = record { name = Some y; method = m; pattern = p }; nested = gs } ∷ rest)
-    a_div : {u : List ℕ} {x : Way} {n : ℕ} {is cs : tree.Components} {inner rest all : List Gathered} →
+    a_div : {u : List ℕ} {x : TreePath} {n : ℕ} {is cs : tree.Components} {inner rest all : List Gathered} →
         Gathers u (n ∷ x) 0 is inner → Gathers u x (n + 1) cs rest → all ≡ inner ++ rest → Gathers u x n (tree.component_and (tree.div is) cs) all
     -- an include gives the components of its file that are not overridden, and then the overriding ones
-    an_include : {u : List ℕ} {x : Way} {n : ℕ} {m : tree.Mention} {over cs is : tree.Components} {f : FileTree}
+    an_include : {u : List ℕ} {x : TreePath} {n : ℕ} {m : tree.Mention} {over cs is : tree.Components} {f : FileTree}
         {included overriding rest all : List Gathered} →
         files m.href ≡ Some f → grammar_of f ≡ Some is → Gathers (uri_in u m.namespace) (0 ∷ n ∷ x) 0 is included →
         Gathers u (1 ∷ n ∷ x) 0 over overriding → Gathers u x (n + 1) cs rest →

@@ -20,21 +20,21 @@ pub record AreTokensOf (bytes : List ℕ) (ts : List Token) : Type 0 where
 -- The bytes break this clause. A clause is spoken of only where the bytes break none before it: of characters where the bytes
 -- are UTF-8, of tokens where they stand for characters, of the grammar where these are cut into tokens, of declarations
 -- where these are a sentence. Too many open brackets (7) come before the grammar (6), so that not both are broken.
-pub data BreaksClause : List ℕ → ℕ → Type 0 where
+pub data BreaksFileClause : List ℕ → ℕ → Type 0 where
   -- they are not UTF-8
-  not_utf8 : {bytes : List ℕ} {k : ℕ} (offset : ℕ) → BreaksUtf8At bytes offset → k ≡ 3 → BreaksClause bytes k
+  not_utf8 : {bytes : List ℕ} {k : ℕ} (offset : ℕ) → BreaksUtf8At bytes offset → k ≡ 3 → BreaksFileClause bytes k
   -- a character is none of XML's, or an escape is bad
-  bad_characters : {bytes : List ℕ} {k : ℕ} (offset : ℕ) → BreaksCharactersAt bytes offset → k ≡ 4 → BreaksClause bytes k
+  bad_characters : {bytes : List ℕ} {k : ℕ} (offset : ℕ) → BreaksCharactersAt bytes offset → k ≡ 4 → BreaksFileClause bytes k
   -- neither a blank, a comment nor a token begins
   bad_tokens : {bytes : List ℕ} {k : ℕ} (characters : List Character) (offset : ℕ) → IsDecoded bytes characters → BreaksTokensAt characters offset → k ≡ 5 →
-      BreaksClause bytes k
+      BreaksFileClause bytes k
   -- the tokens are no sentence
   no_sentence : {bytes : List ℕ} {k : ℕ} (ts : List Token) (number : ℕ) → AreTokensOf bytes ts → BreaksGrammarAt (lexemes ts) number → k ≡ 6 →
-      BreaksClause bytes k
+      BreaksFileClause bytes k
   -- too many brackets are open
-  too_deep : {bytes : List ℕ} {k : ℕ} (ts : List Token) → AreTokensOf bytes ts → BreaksNesting (lexemes ts) → k ≡ 7 → BreaksClause bytes k
+  too_deep : {bytes : List ℕ} {k : ℕ} (ts : List Token) → AreTokensOf bytes ts → BreaksNesting (lexemes ts) → k ≡ 7 → BreaksFileClause bytes k
   -- a declaration or a prefix breaks a rule
-  bad_declarations : {bytes : List ℕ} {k : ℕ} (ts : List Token) → AreTokensOf bytes ts → BreaksDeclarations (lexemes ts) → k ≡ 8 → BreaksClause bytes k
+  bad_declarations : {bytes : List ℕ} {k : ℕ} (ts : List Token) → AreTokensOf bytes ts → BreaksDeclarations (lexemes ts) → k ≡ 8 → BreaksFileClause bytes k
 
 -- the bytes break no clause, and this is their tree
 pub record IsSchemaFile (bytes : List ℕ) (t : FileTree) : Type 0 where
@@ -90,7 +90,7 @@ module _ (files : List NamedFile) where
       missing : IsMissing f → k ≡ 1 → BreaksOwn f k
       handed_in_twice : IsHandedInTwice f → k ≡ 1 → BreaksOwn f k
       too_large : {bytes : List ℕ} → IsHandedIn f bytes → BreaksLimit f bytes → k ≡ 2 → BreaksOwn f k
-      bad_content : {bytes : List ℕ} → IsHandedIn f bytes → ¬ (BreaksLimit f bytes) → BreaksClause bytes k → BreaksOwn f k
+      bad_content : {bytes : List ℕ} → IsHandedIn f bytes → ¬ (BreaksLimit f bytes) → BreaksFileClause bytes k → BreaksOwn f k
 
     -- the file of this name breaks no clause by itself, and has this tree
     pub record HasTree (f : Name) (t : FileTree) : Type 0 where
@@ -99,22 +99,22 @@ module _ (files : List NamedFile) where
       pub small : ¬ (BreaksLimit f bytes)
       pub is : IsSchemaFile bytes t
 
-    abbrev pub IsFileVerdict : Name → FileVerdict → Type 0
-    IsFileVerdict f (breaks k) = BreaksOwn f k
-    IsFileVerdict f (has_tree t) = HasTree f t
+    abbrev pub FileHasVerdict : Name → FileVerdict → Type 0
+    FileHasVerdict f (breaks k) = BreaksOwn f k
+    FileHasVerdict f (has_tree t) = HasTree f t
 
     -- the file is this and nothing else
-    pub record IsTheFileVerdict (f : Name) (v : FileVerdict) : Type 0 where
-      pub is : IsFileVerdict f v
-      pub only : (other : FileVerdict) → IsFileVerdict f other → v ≡ other
+    pub record FileHasOnlyVerdict (f : Name) (v : FileVerdict) : Type 0 where
+      pub is : FileHasVerdict f v
+      pub only : (other : FileVerdict) → FileHasVerdict f other → v ≡ other
 
 -- ---- the same of bytes, however many there may be
 
-abbrev pub IsContentVerdict : List ℕ → FileVerdict → Type 0
-IsContentVerdict bytes (breaks clause) = BreaksClause bytes clause
-IsContentVerdict bytes (has_tree t) = IsSchemaFile bytes t
+abbrev pub ContentHasVerdict : List ℕ → FileVerdict → Type 0
+ContentHasVerdict bytes (breaks clause) = BreaksFileClause bytes clause
+ContentHasVerdict bytes (has_tree t) = IsSchemaFile bytes t
 
 -- the bytes are this and nothing else
-pub record IsTheContentVerdict (bytes : List ℕ) (v : FileVerdict) : Type 0 where
-  pub is : IsContentVerdict bytes v
-  pub only : (other : FileVerdict) → IsContentVerdict bytes other → v ≡ other
+pub record ContentHasOnlyVerdict (bytes : List ℕ) (v : FileVerdict) : Type 0 where
+  pub is : ContentHasVerdict bytes v
+  pub only : (other : FileVerdict) → ContentHasVerdict bytes other → v ≡ other

@@ -64,9 +64,9 @@ abbrev pub word_kind : List Character → TokenKind
 word_kind word = keyword_or_identifier (keyword_of (bytes_of word))
 
 -- a space, a tab or a line end
-abbrev pub is_blank : Character → Bool
-is_blank LineEnd = true
-is_blank (Ordinary c) = (c == 0x20) || (c == 0x9)
+abbrev pub is_blank_character : Character → Bool
+is_blank_character LineEnd = true
+is_blank_character (Ordinary c) = (c == 0x20) || (c == 0x9)
 
 -- any character but a line end
 abbrev pub is_in_line : Character → Bool
@@ -97,7 +97,7 @@ IsUpToThree quote content = (front rest : List Character) → content ++ three q
 -- The characters of the piece are a blank, a comment or a token. How far it goes is left to the cut: a comment is any
 -- `#` with characters of its line.
 pub data IsPiece : Piece → Type 0 where
-  blank : {c : Character} → is_blank c ≡ true → IsPiece (gap (c ∷ []))
+  blank : {c : Character} → is_blank_character c ≡ true → IsPiece (gap (c ∷ []))
   comment : {all : List Character} {cs : List Character} → list_all is_in_line cs ≡ true → all ≡ Ordinary 0x23 ∷ cs → IsPiece (gap all)
   word : {kind : TokenKind} {all : List Character} → IsNcname all → kind ≡ word_kind all → IsPiece (token kind all all)
   quoted_identifier : {name all : List Character} → IsNcname name → all ≡ Ordinary 0x5C ∷ name → IsPiece (token kinds.QuotedIdentifier name all)

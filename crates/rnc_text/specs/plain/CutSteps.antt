@@ -8,7 +8,7 @@ use Rattle.rnc_model.specs.declared.token.TokenKind.TheVariants as kinds
 use Rattle.rnc_text.specs.declared.scanning.Class.{Class}
 use Rattle.rnc_text.specs.declared.scanning.Class.TheVariants as classes
 use Rattle.rnc_model.specs.characters.Characters.{numbers_of}
-use Rattle.rnc_model.specs.tokens.Tokens.{Piece, gap, token, is_blank, is_in_line, is_in_segment, is_quote, word_kind, sign_of, three}
+use Rattle.rnc_model.specs.tokens.Tokens.{Piece, gap, token, is_blank_character, is_in_line, is_in_segment, is_quote, word_kind, sign_of, three}
 
 -- what may stand first in an NCName, and what after it
 abbrev pub starts_ncname : ℕ → Bool
@@ -152,7 +152,7 @@ sign_at c cs = or_else (long_sign c (first_of cs)) (signed (sign_of (numbers_of 
 abbrev pub piece_by : ℕ → List Character → Found
 piece_by c cs =
     if starts_ncname c then name_at (Ordinary c ∷ cs) else (
-    if is_blank (Ordinary c) then Some (gap (Ordinary c ∷ []), cs) else (
+    if is_blank_character (Ordinary c) then Some (gap (Ordinary c ∷ []), cs) else (
     if c == 0x23 then Some (gap (Ordinary c ∷ front classes.Line cs), after classes.Line cs) else (
     if c == 0x5C then quoted_at cs else (
     if is_quote c then or_else (triple_at c cs) (segment_at c cs) else sign_at (Ordinary c) cs))))

@@ -7,7 +7,7 @@ use Rattle.rng_model.specs.schema.SchemaClauses.{BreaksNoClause, IsLeastClause}
 use Rattle.rng_model.specs.simple.SchemaForm.{SimpleForm, IsSimpleFormOfSchema}
 use Rattle.rng_model.specs.matching.SchemaMatching.{IsValidBySchema}
 use Rattle.rncv_model.specs.answers.Answer.{Answer, refused, refused_file, schema_ok, printed, judged, output_of, status_of}
-use Rattle.rnc_model.specs.loading.Loading.{FilesVerdict, file_breaks, together_break, are_taken, IsTheFilesVerdict}
+use Rattle.rnc_model.specs.loading.Loading.{FilesVerdict, file_breaks, together_break, are_taken, FilesHaveOnlyVerdict}
 use Rattle.rnc_model.specs.loading.LoadedSchema.{AreSchema}
 use Rattle.rnc_model.specs.loading.SchemaFile.{NamedFile}
 use Rattle.rng_model.specs.devices.Written.{AppendsBeginning}
@@ -67,7 +67,7 @@ IsAnswerTo command main (are_taken read) input_old input_new answer = (s : Schem
 -- the answer follows from the verdict on the files, which is the only one
 pub record IsAnswer (command : Command) (files : List NamedFile) (main : List ℕ) (input_old input_new : Option (List ℕ)) (answer : Answer) : Type 0 where
   pub verdict : FilesVerdict
-  pub is_verdict : IsTheFilesVerdict files main verdict
+  pub is_verdict : FilesHaveOnlyVerdict files main verdict
   pub follows : IsAnswerTo command main verdict input_old input_new answer
 
 -- The answer is all that was written, and the status is that of the answer.

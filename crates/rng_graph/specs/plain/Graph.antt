@@ -55,8 +55,8 @@ abbrev pub same_leaf : Leaf → Leaf → Bool
 same_leaf l m = bytes_eq l.place m.place && bytes_eq l.position m.position
 
 -- no two stand for one
-abbrev pub AreApart : {A : Type 0} → (A → A → Bool) → List A → Type 0
-AreApart {A} same xs = (i j : ℕ) (x y : A) → slice_get xs i ≡ Some x → slice_get xs j ≡ Some y → same x y ≡ true → i ≡ j
+abbrev pub ArePairwiseApart : {A : Type 0} → (A → A → Bool) → List A → Type 0
+ArePairwiseApart {A} same xs = (i j : ℕ) (x y : A) → slice_get xs i ≡ Some x → slice_get xs j ≡ Some y → same x y ≡ true → i ≡ j
 
 pub record IsGraphOf (s : Schema) (ds : List Definition) (ls : List Leaf) (g : Graph) : Type 0 where
   pub start : slice_get ds 0 ≡ Some (main_start s)
@@ -67,8 +67,8 @@ pub record IsGraphOf (s : Schema) (ds : List Definition) (ls : List Leaf) (g : G
   pub contents : (k : ℕ) (m : Leaf) (r : Tree Spot) → slice_get ls k ≡ Some m → slice_get g.contents k ≡ Some r → IsResolved s ds ls m.place (content_of m) r
   pub met_definitions : (d : Definition) → Contains ds d → Met s (to_definition d)
   pub met_elements : (m : Leaf) → Contains ls m → Met s (to_element m)
-  pub definitions_apart : AreApart same_definition ds
-  pub elements_apart : AreApart same_leaf ls
+  pub definitions_apart : ArePairwiseApart same_definition ds
+  pub elements_apart : ArePairwiseApart same_leaf ls
 
 -- ---- on numbers alone
 
@@ -138,13 +138,13 @@ pub record IsPartOf (s : Schema) (ds : List Definition) (ls : List Leaf) (g : Gr
   pub contents : (k : ℕ) (m : Leaf) (r : Tree Spot) → slice_get ls k ≡ Some m → slice_get g.contents k ≡ Some r → IsResolved s ds ls m.place (content_of m) r
   pub met_definitions : (d : Definition) → Contains ds d → Met s (to_definition d)
   pub met_elements : (m : Leaf) → Contains ls m → Met s (to_element m)
-  pub definitions_apart : AreApart same_definition ds
-  pub elements_apart : AreApart same_leaf ls
+  pub definitions_apart : ArePairwiseApart same_definition ds
+  pub elements_apart : ArePairwiseApart same_leaf ls
 
 -- the lists with what a body brought: each of it is what one of the body's points is, and is not there twice
 pub record Brings (s : Schema) (x : Place) (a : Tree Point) (ds : List Definition) (ls : List Leaf) (more_ds : List Definition)
     (more_ls : List Leaf) : Type 0 where
   pub definitions : (d : Definition) → Contains more_ds d → (l : Point) × LeafIn l a × (aim s x l ≡ to_definition d)
   pub elements : (m : Leaf) → Contains more_ls m → (l : Point) × LeafIn l a × (aim s x l ≡ to_element m)
-  pub definitions_apart : AreApart same_definition (ds ++ more_ds)
-  pub elements_apart : AreApart same_leaf (ls ++ more_ls)
+  pub definitions_apart : ArePairwiseApart same_definition (ds ++ more_ds)
+  pub elements_apart : ArePairwiseApart same_leaf (ls ++ more_ls)

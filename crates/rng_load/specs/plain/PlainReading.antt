@@ -11,32 +11,32 @@ use Rattle.rnc_model.specs.loading.Mentions.{MentionedFile, external_file, inclu
 use Rattle.rnc_model.specs.loading.Mentions.{mentions_of_components}
 use Rattle.rng_model.specs.names.Lists.{Among}
 use Rattle.rnc_model.specs.loading.Loading.{grammar_if}
-use Rattle.rnc_model.specs.loading.Places.{Way, Nested, Gathered, is_overridden, uri_in, class_in, datatype_in}
+use Rattle.rnc_model.specs.loading.Places.{TreePath, Nested, Gathered, is_overridden, uri_in, class_in, datatype_in}
 
 -- a pattern of a file that inherits a namespace, at a way: what it is, and the grammars that are nested in it
 abbrev pub PatternReader : Type 0
-PatternReader = List ℕ → Way → tree.Pattern → Pattern × List Nested
+PatternReader = List ℕ → TreePath → tree.Pattern → Pattern × List Nested
 
 -- the components that these give to their grammar, in a file that inherits a namespace; the first is the child of the way with this number
 abbrev pub Gatherer : Type 0
-Gatherer = List ℕ → Way → ℕ → tree.Components → List Gathered
+Gatherer = List ℕ → TreePath → ℕ → tree.Components → List Gathered
 
 -- what was read, inside of a pattern that has no more of its own
 abbrev pub within : (Pattern → Pattern) → Pattern × List Nested → Pattern × List Nested
 within make r = (make r.0, r.1)
 
 -- a grammar that is nested at this way
-abbrev pub nested_here : Way → List ℕ → tree.Components → List Nested
+abbrev pub nested_here : TreePath → List ℕ → tree.Components → List Nested
 nested_here x u cs = record { place = x; uri = u; components = cs } ∷ []
 
 -- an external, whose file is this one and inherits this namespace
-unfoldable pub external_with : PatternReader → List ℕ → Way → Option FileTree → Pattern × List Nested
+unfoldable pub external_with : PatternReader → List ℕ → TreePath → Option FileTree → Pattern × List Nested
 external_with below v x None = (pattern.not_allowed, [])
 external_with below v x (Some (pattern_file a)) = within pattern.external (below v (0 ∷ x) a)
 external_with below v x (Some (grammar_file cs)) = (pattern.external (pattern.grammar x), nested_here x v cs)
 
 -- the components of an included file, which inherits this namespace, if it is a grammar
-unfoldable pub included_with : Gatherer → List ℕ → Way → Option tree.Components → List Gathered
+unfoldable pub included_with : Gatherer → List ℕ → TreePath → Option tree.Components → List Gathered
 included_with below v x None = []
 included_with below v x (Some is) = below v (0 ∷ x) 0 is
 
@@ -52,7 +52,7 @@ module _ (files : List ℕ → Option FileTree) where
   -- patterns, where those of mentioned files are read by the reader one level down
   module _ (below : PatternReader) where
     unfoldable mutual
-      pub read_with : List ℕ → Way → tree.Pattern → Pattern × List Nested
+      pub read_with : List ℕ → TreePath → tree.Pattern → Pattern × List Nested
       read_with u x (tree.element c a) = within (pattern.element (class_in u c)) (read_with u (0 ∷ x) a)
       read_with u x (tree.attribute c a) = within (pattern.attribute (class_in u c)) (read_with u (0 ∷ x) a)
       read_with u x (tree.list a) = within pattern.list (read_with u (0 ∷ x) a)
@@ -72,7 +72,7 @@ module _ (files : List ℕ → Option FileTree) where
       read_with u x (tree.grammar cs) = (pattern.grammar x, nested_here x u cs)
       read_with u x (tree.joined k all) = let r = read_all_with u x 0 all in (members k r.0, r.1)
 
-      pub read_all_with : List ℕ → Way → ℕ → tree.Patterns → List Pattern × List Nested
+      pub read_all_with : List ℕ → TreePath → ℕ → tree.Patterns → List Pattern × List Nested
       read_all_with u x n tree.no_patterns = ([], [])
       read_all_with u x n (tree.pattern_and a all) =
           let r = read_with u (n ∷ x) a in
@@ -82,11 +82,11 @@ module _ (files : List ℕ → Option FileTree) where
   -- components, where those of included files are gathered by the gatherer one level down
   module _ (read : PatternReader) (below : Gatherer) where
     unfoldable mutual
-      pub gather_with : List ℕ → Way → ℕ → tree.Components → List Gathered
+      pub gather_with : List ℕ → TreePath → ℕ → tree.Components → List Gathered
       gather_with u x n tree.no_components = []
       gather_with u x n (tree.component_and c cs) = gather_one_with u (n ∷ x) c ++ gather_with u x (n + 1) cs
 
-      pub gather_one_with : List ℕ → Way → tree.Component → List Gathered
+      pub gather_one_with : List ℕ → TreePath → tree.Component → List Gathered
       gather_one_with u x (tree.start m a) = gathered_as None m (read u x a) ∷ []
       gather_one_with u x (tree.define y m a) = gathered_as (Some y) m (read u x a) ∷ []
       gather_one_with u x (tree.div is) = gather_with u x 0 is
@@ -103,7 +103,7 @@ module _ (files : List ℕ → Option FileTree) where
   read_at n = read_with (read_below n)
 
   -- patterns in order, the first of them the child with this number
-  abbrev pub read_all_at : ℕ → List ℕ → Way → ℕ → tree.Patterns → List Pattern × List Nested
+  abbrev pub read_all_at : ℕ → List ℕ → TreePath → ℕ → tree.Patterns → List Pattern × List Nested
   read_all_at n = read_all_with (read_below n)
 
   -- what an include gives, where so many levels are left
@@ -116,7 +116,7 @@ module _ (files : List ℕ → Option FileTree) where
   gather_at n = gather_with (read_at n) (gather_below n)
 
   -- what one component gives
-  abbrev pub gather_one_at : ℕ → List ℕ → Way → tree.Component → List Gathered
+  abbrev pub gather_one_at : ℕ → List ℕ → TreePath → tree.Component → List Gathered
   gather_one_at n = gather_one_with (read_at n) (gather_below n)
 
   -- ---- what can be read

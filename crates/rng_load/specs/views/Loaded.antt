@@ -1,7 +1,7 @@
 -- What the call that loads the files of a schema answers.
 use Rattle.std.specs.Prelude.{List, Result, Ok, Err, IfSome}
 use Rattle.rng_model.specs.declared.fault.SchemaFault.{SchemaFault}
-use Rattle.rnc_model.specs.loading.Loading.{TakenFiles, are_taken, IsTheFilesVerdict}
+use Rattle.rnc_model.specs.loading.Loading.{TakenFiles, are_taken, FilesHaveOnlyVerdict}
 use Rattle.rnc_model.specs.loading.FaultVerdicts.{verdict_of_fault}
 use Rattle.rng_load.specs.views.PlacedGrammars.{schema_of}
 use Rattle.rnc_model.specs.loading.SchemaFile.{Name, NamedFile}
@@ -11,5 +11,5 @@ use Rattle.rnc_model.specs.loading.LoadedSchema.{AreSchema}
 -- The files break no clause, and are this schema; or the fault is their verdict, unless memory ran out. There is one verdict, so that this says
 -- when each is answered.
 abbrev pub IsLoaded : List NamedFile → Name → Result Schema SchemaFault → Type 0
-IsLoaded files main (Ok s) = (read : TakenFiles) × IsTheFilesVerdict files main (are_taken read) × AreSchema read main (schema_of s)
-IsLoaded files main (Err fault) = IfSome (verdict_of_fault fault) (IsTheFilesVerdict files main)
+IsLoaded files main (Ok s) = (read : TakenFiles) × FilesHaveOnlyVerdict files main (are_taken read) × AreSchema read main (schema_of s)
+IsLoaded files main (Err fault) = IfSome (verdict_of_fault fault) (FilesHaveOnlyVerdict files main)

@@ -9,7 +9,7 @@ use Rattle.rng_load.specs.views.FilesView.{taken_files_of}
 use Rattle.rnc_model.specs.loading.Loading.{FilesVerdict, file_breaks, together_break, are_taken, AreTaken, IsFirstBroken}
 use Rattle.rng_load.specs.declared.fault.ReadingFault.{ReadingFault}
 use Rattle.rng_load.specs.declared.fault.ReadingFault.TheVariants as readings
-use Rattle.rnc_model.specs.loading.SchemaFile.{Name, NamedFile, breaks, has_tree, IsTheFileVerdict}
+use Rattle.rnc_model.specs.loading.SchemaFile.{Name, NamedFile, breaks, has_tree, FileHasOnlyVerdict}
 use Rattle.rnc_model.specs.loading.FaultVerdicts.{verdict_of_fault}
 
 -- the verdict that is told where files are not all read
@@ -41,6 +41,6 @@ pub record IsTheReading (files : List NamedFile) (main : Name) (v : FilesVerdict
 
 -- what is told of the file of this name, unless memory ran out: its tree, or the clause that it breaks first, with its name
 abbrev pub IsNamedTree : List NamedFile → Name → Name → Result declared.FileTree ReadingFault → Type 0
-IsNamedTree files main f (Ok tree) = IsTheFileVerdict files main f (has_tree (file_of tree))
-IsNamedTree files main f (Err (readings.File clause name)) = (string_bytes name ≡ f) × IsTheFileVerdict files main f (breaks clause)
+IsNamedTree files main f (Ok tree) = FileHasOnlyVerdict files main f (has_tree (file_of tree))
+IsNamedTree files main f (Err (readings.File clause name)) = (string_bytes name ≡ f) × FileHasOnlyVerdict files main f (breaks clause)
 IsNamedTree files main f (Err readings.Memory) = Unit {0}

@@ -38,12 +38,12 @@ abbrev pub HasName : List (ℕ × NameClass) → ℕ → names.Name → Type 0
 HasName labels row q = (n : Name) × Contains labels (row, class.Name n) × (name_of n ≡ q)
 
 -- no two stand for one
-abbrev pub AreApart : List names.Name → Type 0
-AreApart qs = (i j : ℕ) (q : names.Name) → slice_get qs i ≡ Some q → slice_get qs j ≡ Some q → i ≡ j
+abbrev pub AreNamesApart : List names.Name → Type 0
+AreNamesApart qs = (i j : ℕ) (q : names.Name) → slice_get qs i ≡ Some q → slice_get qs j ≡ Some q → i ≡ j
 
 -- for each name the rows that have it
 pub record AreGroups (labels : List (ℕ × NameClass)) (qs : List names.Name) (groups : List (List ℕ)) : Type 0 where
   pub long : length groups ≡ length qs
-  pub apart : AreApart qs
+  pub apart : AreNamesApart qs
   pub sound : (k row : ℕ) → Contains (slice_index_or groups k []) row → (q : names.Name) × (slice_get qs k ≡ Some q) × HasName labels row q
   pub complete : (row : ℕ) (q : names.Name) → HasName labels row q → (k : ℕ) × (slice_get qs k ≡ Some q) × Contains (slice_index_or groups k []) row

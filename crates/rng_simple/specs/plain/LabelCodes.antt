@@ -54,8 +54,8 @@ abbrev pub codes_of : {S Z : Type 0} → IndexSet (Vec LabelPart Z) S → List (
 codes_of set = map (λ c. map part_of c.items) set.keys
 
 -- no code stands twice
-abbrev pub AreApart : List (List Part) → Type 0
-AreApart codes = (i j : ℕ) (c : List Part) → slice_get codes i ≡ Some c → slice_get codes j ≡ Some c → i ≡ j
+abbrev pub AreCodesApart : List (List Part) → Type 0
+AreCodesApart codes = (i j : ℕ) (c : List Part) → slice_get codes i ≡ Some c → slice_get codes j ≡ Some c → i ≡ j
 
 -- the code stands at the place among those that are there; where there is none it has been put at their end
 abbrev pub IsPlaced : List (List Part) → List (List Part) → List Part → Option ℕ → Type 0

@@ -7,7 +7,7 @@ use Rattle.rng_model.specs.datatypes.DatatypeViews.{datatype_of}
 use Rattle.rng_model.specs.names.NameViews.{class_of}
 use Rattle.rng_model.specs.declared.datatype.DatatypeValue.{DatatypeValue}
 use Rattle.rng_graph.specs.plain.InTwos.{nested}
-use Rattle.rng_simple.specs.plain.LabelCodes.{Part, AreApart, class_code, codes_of, datatype_code, value_code}
+use Rattle.rng_simple.specs.plain.LabelCodes.{Part, AreCodesApart, class_code, codes_of, datatype_code, value_code}
 use Rattle.rng_simple.specs.views.RowIndex.{IsIndex}
 use Rattle.rng_simple.specs.views.Rows.{Labels, tree_at, AreRows}
 use Rattle.rng_simple.specs.plain.SimpleOf as sorts
@@ -48,7 +48,7 @@ tree_of t = tree_at (labels_of t) t.rows.items
 -- the codes are those that are written, and none stands twice
 pub record AreCodes (written codes : List (List Part)) : Type 0 where
   pub same : codes ≡ written
-  pub apart : AreApart codes
+  pub apart : AreCodesApart codes
 
 -- the labels of each kind have their codes
 pub record AreCoded (t : RowTable) : Type 0 where
