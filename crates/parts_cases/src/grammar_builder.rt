@@ -1,7 +1,8 @@
 // Grammars, built of what fits.
 ghost use Rattle.std.specs.Prelude.{All, IfSome};
 ghost use Rattle.std.specs.Bool.{OnTrue};
-ghost use Rattle.rng_model.specs.simple.Table.{AreChildrenBelow, IsClassPaired, IsLeafListed, IsOfFirstKind, IsPaired};
+ghost use Rattle.rng_model.specs.simple.Table.{AreChildrenBelow, IsClassPaired, IsLeafListed, IsPaired};
+ghost use Rattle.rng_tree_matcher.specs.plain.FirstKind.{IsOfFirstKind};
 
 use rng_model::{NameClass, PatternId, Simple, SimpleGrammar};
 use std::alloc::Global;

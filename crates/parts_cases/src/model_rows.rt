@@ -4,7 +4,7 @@
 // has the lines of a document, parted by `/`, which is judged by the grammar before it. `reads` and `writes` count what fails
 // of working devices and of broken ones. The other calls are those of texts.
 ghost use Rattle.std.specs.Prelude.{All, IfSome};
-ghost use Rattle.rng_model.specs.simple.Table.{IsOfFirstKind};
+ghost use Rattle.rng_tree_matcher.specs.plain.FirstKind.{IsOfFirstKind};
 
 use crate::model_document::read_document;
 use crate::well_formed::is_well_formed;

@@ -1,6 +1,6 @@
 // Grammars from rows.
 ghost use Rattle.std.specs.Prelude.{All, IfSome};
-ghost use Rattle.rng_model.specs.simple.Table.{IsOfFirstKind};
+ghost use Rattle.rng_tree_matcher.specs.plain.FirstKind.{IsOfFirstKind};
 
 use crate::grammar_builder::GrammarBuilder;
 use rng_model::{ElementId, Name, NameClass, PatternId, Simple, SimpleGrammar};

@@ -1,3 +1,2 @@
 -- Plain functions that the code is proved against, and private relations.
 pub mod Answers
-pub mod SchemaAnswers

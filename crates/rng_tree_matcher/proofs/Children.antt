@@ -9,7 +9,8 @@ use Rattle.std.proofs.lemmas.Option.{slice_get-map, slice_get-get_or}
 use Rattle.rng_model.specs.matching.Document as document
 use Rattle.rng_model.specs.matching.Document.{a_text, an_element, list_of}
 use Rattle.rng_model.specs.simple.Tree as tree
-use Rattle.rng_model.specs.simple.Table.{IsOfFirstKind, Table, Grammar, IsValidBy, grammar_of, tree_at}
+use Rattle.rng_model.specs.simple.Table.{Table, Grammar, IsValidBy, grammar_of, tree_at}
+use Rattle.rng_tree_matcher.specs.plain.FirstKind.{IsOfFirstKind}
 use Rattle.rng_model.specs.documents.DocumentViews.{attribute_of, item_of, items_of}
 use Rattle.rng_model.specs.names.NameViews.{name_of}
 use Rattle.rng_model.specs.declared.document.Attr.{Attr}

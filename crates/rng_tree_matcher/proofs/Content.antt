@@ -13,7 +13,8 @@ use Rattle.rng_model.specs.matching.Document as document
 use Rattle.rng_model.specs.matching.Matching.{Matches, Weakly}
 use Rattle.rng_model.specs.matching.Matching as m
 use Rattle.rng_model.specs.simple.Table as table
-use Rattle.rng_model.specs.simple.Table.{IsOfFirstKind, Table, Grammar, grammar_of, grammar_leaves, tree_at, IsListed}
+use Rattle.rng_model.specs.simple.Table.{Table, Grammar, grammar_of, grammar_leaves, tree_at, IsListed}
+use Rattle.rng_tree_matcher.specs.plain.FirstKind.{IsOfFirstKind}
 use Rattle.rng_model.specs.names.NameViews.{class_of}
 use Rattle.rng_model.specs.documents.DocumentViews.{items_of}
 use Rattle.rng_model.specs.declared.name.NameClass.{NameClass}

@@ -4,7 +4,8 @@ use Rattle.std.proofs.lemmas.List.Elements.{All-head, All-tail}
 use Rattle.rng_model.specs.simple.Tree as tree
 use Rattle.rng_model.specs.simple.Tree.{choice, group}
 use Rattle.rng_model.specs.simple.Table as table
-use Rattle.rng_model.specs.simple.Table.{Table, IsOfFirstKind, tree_at}
+use Rattle.rng_model.specs.simple.Table.{Table, tree_at}
+use Rattle.rng_tree_matcher.specs.plain.FirstKind.{IsOfFirstKind}
 use Rattle.rng_model.specs.declared.simple.PatternId.{PatternId}
 use Rattle.rng_model.specs.declared.simple.Simple.{Simple}
 use Rattle.rng_model.specs.declared.simple.Simple.TheVariants as simple

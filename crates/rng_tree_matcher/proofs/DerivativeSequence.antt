@@ -6,7 +6,8 @@ use Rattle.std.proofs.Math.Numerals.{add-one}
 use Rattle.std.specs.List.{list_any}
 use Rattle.rng_model.specs.simple.Tree as tree
 use Rattle.rng_model.specs.matching.Document.{Attribute, Item}
-use Rattle.rng_model.specs.simple.Table.{IsOfFirstKind, Table, grammar_of}
+use Rattle.rng_model.specs.simple.Table.{Table, grammar_of}
+use Rattle.rng_tree_matcher.specs.plain.FirstKind.{IsOfFirstKind}
 use Rattle.rng_model.specs.datatypes.Texts.{TextTests}
 use Rattle.rng_tree_matcher.specs.plain.Acceptance.{Contains, IsAfterAttribute, IsAfterItem, Accepts}
 use Rattle.rng_tree_matcher.specs.views.PatternTable.{Longer, is_nullable, tree_of}

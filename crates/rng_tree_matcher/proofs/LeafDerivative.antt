@@ -10,7 +10,8 @@ use Rattle.rng_model.specs.matching.Document.{Attribute, Item, a_text, an_elemen
 use Rattle.rng_model.specs.matching.Document as document
 use Rattle.rng_model.specs.matching.Matching.{Matches}
 use Rattle.rng_model.specs.matching.Matching as m
-use Rattle.rng_model.specs.simple.Table.{IsOfFirstKind, Table, Grammar, grammar_of, grammar_leaves, tree_at}
+use Rattle.rng_model.specs.simple.Table.{Table, Grammar, grammar_of, grammar_leaves, tree_at}
+use Rattle.rng_tree_matcher.specs.plain.FirstKind.{IsOfFirstKind}
 use Rattle.rng_model.specs.documents.DocumentViews.{attribute_of}
 use Rattle.rng_model.specs.names.NameViews.{class_of, name_of}
 use Rattle.rng_model.specs.declared.name.NameClass.{NameClass}

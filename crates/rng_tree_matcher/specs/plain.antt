@@ -2,4 +2,5 @@
 pub mod Acceptance
 pub mod Content
 pub mod Derivative
+pub mod FirstKind
 pub mod Named

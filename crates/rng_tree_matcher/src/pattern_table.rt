@@ -1,7 +1,8 @@
 // Patterns by number: those of a grammar, and what is left of them while a document is matched.
 ghost use Rattle.std.specs.Prelude.{All, ◌≡◌, ◌+◌, ◌<◌, ℕ, List, length, slice_get, Some, IfSome, IfOk, OnOk};
 ghost use Rattle.rng_model.specs.simple.Tree.{choice, group, s_joined};
-ghost use Rattle.rng_model.specs.simple.Table.{Table, IsOfFirstKind, IsTable};
+ghost use Rattle.rng_model.specs.simple.Table.{Table, IsTable};
+ghost use Rattle.rng_tree_matcher.specs.plain.FirstKind.{IsOfFirstKind};
 ghost use Rattle.rng_tree_matcher.specs.views.PatternTable.{AreSidesBelow, AreCopied, AddsPattern, Longer, node_for, tree_of, tree_over, is_nullable};
 
 use rng_model::{ElementId, OutOfMemory, PatternId, Simple, SimpleGrammar};

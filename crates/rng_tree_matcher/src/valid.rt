@@ -1,7 +1,8 @@
 // Which elements of a grammar a node of a document matches, from the leaves up.
 ghost use Rattle.std.specs.Prelude.{All, ◌≡◌, ◌↔◌, ◌<◌, ◌&&◌, length, map, IsTrue, IfOk, OnOk};
 ghost use Rattle.std.specs.List.{list_any};
-ghost use Rattle.rng_model.specs.simple.Table.{IsOfFirstKind, IsValidBy, grammar_of};
+ghost use Rattle.rng_model.specs.simple.Table.{IsValidBy, grammar_of};
+ghost use Rattle.rng_tree_matcher.specs.plain.FirstKind.{IsOfFirstKind};
 ghost use Rattle.rng_model.specs.documents.DocumentViews.{attribute_of, item_of};
 ghost use Rattle.rng_model.specs.names.NameViews.{name_of};
 ghost use Rattle.rng_model.specs.datatypes.Texts.{TextTests, texts_of};

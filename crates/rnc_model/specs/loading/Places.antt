@@ -44,7 +44,7 @@ datatype_in d ps = record { library = d.library; name = d.name; parameters = ps 
 
 -- ---- patterns
 
--- the way to a pattern or a component in that tree; that to a grammar is its place
+-- the path to a pattern or a component in that tree, the innermost number first; that to a grammar is its place
 abbrev pub TreePath : Type 0
 TreePath = List ℕ
 
@@ -72,8 +72,16 @@ abbrev pub main_grammar : FileTree → tree.Components
 main_grammar (grammar_file cs) = cs
 main_grammar (pattern_file p) = grammar_or_start p (whole_grammar p)
 
+-- An example. The main file is
+--   start = x | grammar { start = element c { empty } }
+--   x = element b { empty }
+-- Its grammar, at the place [], has two components. The start is its child 0, at the path 0 ∷ [] (`a_start`). Of the two members of the start's choice
+-- (`joined_is`, `more_are`) the ref is at 0 ∷ 0 ∷ [] (`ref_is`), and the nested grammar is at 1 ∷ 0 ∷ [], which is its place (`grammar_is`). The
+-- definition of x is child 1, at 1 ∷ [] (`a_define`). So there is a grammar at [] (`main_is`), and one at 1 ∷ 0 ∷ [] with [] around it (`nested_is`).
+-- If an include were child 2, the components of its file would be at paths that end with 0 ∷ 2 ∷ [], and those in its braces at paths that end with
+-- 1 ∷ 2 ∷ [] (`an_include`).
 module _ (files : List ℕ → Option FileTree) where
-  -- in a file that inherits this namespace the pattern, at this way, is that one, and these grammars are nested in it directly
+  -- in a file that inherits this namespace the pattern, at this path, is that one, and these grammars are nested in it directly
   mutual
     pub data Reads : List ℕ → TreePath → tree.Pattern → Pattern → List Nested → Type 0 where
       element_is : {u : List ℕ} {x : TreePath} {c : tree.NameClass} {a : tree.Pattern} {p : Pattern} {gs : List Nested} → Reads u (0 ∷ x) a p gs

@@ -156,22 +156,6 @@ IsClassPaired (simple.Group a b) = ⊤
 IsClassPaired (simple.Interleave a b) = ⊤
 IsClassPaired (simple.Choice a b) = ⊤
 
--- a pattern of the kinds that the matcher takes so far
-abbrev pub IsOfFirstKind : Simple → Type 0
-IsOfFirstKind simple.NotAllowed = ⊤
-IsOfFirstKind simple.Empty = ⊤
-IsOfFirstKind simple.Text = ⊤
-IsOfFirstKind (simple.Element e) = ⊤
-IsOfFirstKind (simple.Attribute c body) = ⊤
-IsOfFirstKind (simple.List body) = ⊥
-IsOfFirstKind (simple.Data datatype) = ⊥
-IsOfFirstKind (simple.DataExcept datatype except) = ⊥
-IsOfFirstKind (simple.Value value) = ⊥
-IsOfFirstKind (simple.OneOrMore body) = ⊥
-IsOfFirstKind (simple.Group a b) = ⊤
-IsOfFirstKind (simple.Interleave a b) = ⊥
-IsOfFirstKind (simple.Choice a b) = ⊤
-
 -- each pattern's children stand before it
 abbrev pub Falls : List Simple → Type 0
 Falls ps = (i : ℕ) (p : Simple) → slice_get ps i ≡ Some p → AreChildrenBelow i p

@@ -3,7 +3,8 @@ use Rattle.std.specs.Prelude.{◌≡◌, ℕ, ◌<◌, ◌≤◌, ⊤, List, [],
 use Rattle.std.specs.Prelude.{◌&&◌}
 use Rattle.rng_model.specs.simple.Tree as tree
 use Rattle.rng_model.specs.simple.Tree.{choice, group, interleave}
-use Rattle.rng_model.specs.simple.Table.{Table, Grammar, IsOfFirstKind, IsTable, tree_at}
+use Rattle.rng_model.specs.simple.Table.{Table, Grammar, IsTable, tree_at}
+use Rattle.rng_tree_matcher.specs.plain.FirstKind.{IsOfFirstKind}
 use Rattle.rng_model.specs.names.NameViews.{class_of}
 use Rattle.rng_model.specs.declared.simple.PatternId.{PatternId}
 use Rattle.rng_model.specs.declared.simple.Simple.{Simple}

@@ -1,7 +1,7 @@
 use Rattle.std.proofs.Common.{◌<◌, length, sym, ap, ◌∙◌, arith}
 use Rattle.std.proofs.lemmas.Option.{slice_get_within}
 use Rattle.rng_tree_matcher.specs.views.PatternTable.{tree_of, tree_over}
-use Rattle.rng_model.specs.simple.Table.{IsOfFirstKind}
+use Rattle.rng_tree_matcher.specs.plain.FirstKind.{IsOfFirstKind}
 use Rattle.rng_tree_matcher.proofs.GrowingTables.{All-found}
 use Rattle.rng_tree_matcher.proofs.CopiedGrammars.{agrees_more, past_from_none}
 use Rattle.rng_tree_matcher.proofs.pattern_table.table_of.Goals as goal

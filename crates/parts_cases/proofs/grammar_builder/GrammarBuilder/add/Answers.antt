@@ -1,6 +1,7 @@
 use Rattle.std.proofs.Common.{rules, ◌≡◌, ◌++◌, ◌∷◌, [], All, length, subst, sym}
 use Rattle.std.proofs.lemmas.List.Elements.{All-push}
-use Rattle.rng_model.specs.simple.Table.{AreChildrenBelow, IsOfFirstKind}
+use Rattle.rng_model.specs.simple.Table.{AreChildrenBelow}
+use Rattle.rng_tree_matcher.specs.plain.FirstKind.{IsOfFirstKind}
 use Rattle.rng_model.proofs.Table.{falls_after_push}
 use Rattle.parts_cases.proofs.grammar_builder.GrammarBuilder.add.Goals as goal
 
