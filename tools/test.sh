@@ -1,6 +1,6 @@
 #!/bin/sh
 # Tests of what stands around the program, in less than a minute:   tools/test.sh [PROGRAM]     (PROGRAM: the built rncv, else crates/rncv/out/rncv,
-# where `rt ci` and `rt run` leave it). They want Python 3 and no package; what else is not installed is told, and what wants it is skipped. The three
+# where `rt ci` and `rt run` leave it). They want Python 3 and no package; what else is not installed is told, and what wants it is skipped. The
 # parts run side by side, and what they print comes in order.
 here=$(cd "$(dirname "$0")" && pwd)
 program=${1:-$here/../crates/rncv/out/rncv}
@@ -11,10 +11,12 @@ trap 'rm -rf "$room"' EXIT
 "$here/xml/test.sh" "$program" >"$room/xml" 2>&1 & xml=$!
 "$here/schema/test.sh" "$program" >"$room/schema" 2>&1 & schema=$!
 python3 -B "$here/transcripts/test.py" "$program" >"$room/transcripts" 2>&1 & transcripts=$!
+"$here/believed/test.sh" >"$room/believed" 2>&1 & believed=$!
 status=0
 wait "$xml" || status=1
 wait "$schema" || status=1
 wait "$transcripts" || status=1
-cat "$room/xml" "$room/schema" "$room/transcripts"
+wait "$believed" || status=1
+cat "$room/xml" "$room/schema" "$room/transcripts" "$room/believed"
 [ "$status" = 0 ] && echo "tools/test.sh: ok" || echo "tools/test.sh: FAILED"
 exit "$status"

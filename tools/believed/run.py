@@ -1,0 +1,383 @@
+#!/usr/bin/env python3
+"""Computes which definitions the public contracts are written in, and says where they stand.
+
+    tools/believed/run.py [TOP]         (TOP: a checkout, else the one that this file stands in)
+    tools/believed/run.py --list [TOP]  the same, each file in a line of its own
+    tools/believed/run.py --why FILE    the imports that lead from a call to this file, or to this type
+
+The calls are those of tools/believed/calls.txt. A call's contract is its `requires` and `ensures`; of a type, those of its methods, what its `Model` says
+(its value, view and invariant), and what it says for other traits; of a trait that bounds a parameter, all of it. From the names in these clauses the import closure
+goes by files: a name leads to the file of its `ghost use` line, a file of `specs/` to the files of its `use` lines, and a module of `specs.declared` to
+the Rust type that it stands for, which leads on to the types of its fields, or to what its `Model` says where it has one.
+
+It fails if a file or a type of the closure stands outside the crates rng_model, rnc_model and rncv_model, but for those of
+tools/believed/exceptions.txt, each with its reason; and if the tour in docs/DEFINITIONS.md, the tables whose first column is `File`, does not list
+exactly the files of the closure. The kit's own crates are left out. An exception `stays` where it is, and is read like the rest; one that is `carried`
+is a predicate or a view that contracts only hand from one call to the next, so that nothing depends on what it says: the closure stops there, and the
+tour does not list it.
+"""
+import collections
+import pathlib
+import re
+import sys
+
+HERE = pathlib.Path(__file__).resolve().parent
+MODELS = ("rng_model", "rnc_model", "rncv_model")
+TOUR = "docs/DEFINITIONS.md"
+WORD = re.compile(r"[^\s(){}\[\],;.&<>:!?\"]+")
+USE = re.compile(r"(?:pub )?use Rattle\.([\w.\-◌]+?)(?:\.\{([^}]*)\}| as (\w+))?\s*(?:;|$)", re.M)
+FUNCTION = r"^( *)(?:pub(?:\([^)]*\))? )?(?:unsafe )?fn %s\b"
+TYPE = r"^(?: *)(?:pub(?:\([^)]*\))? )?(?:struct|enum|trait) %s\b"
+
+
+class Crates:
+    """The crates of a checkout, with the texts of their files."""
+
+    def __init__(self, top):
+        self.top = pathlib.Path(top)
+        self.texts = {}
+
+    def path(self, name):
+        return self.top / name
+
+    def text(self, name):
+        """The text of a file, by its path from the top, with comments blank."""
+        if name not in self.texts:
+            text = self.path(name).read_text()
+            comment = r"//[^\n]*" if name.endswith(".rt") else r"(?m)(?:^|(?<=\s))--(?:[ \t][^\n]*|$)"
+            self.texts[name] = re.sub(comment, "", text)
+        return self.texts[name]
+
+    def is_crate(self, name):
+        return self.path(f"crates/{name}/src").is_dir()
+
+    def lines(self, name):
+        return self.path(name).read_text().count("\n")
+
+    def sources(self, crate):
+        return sorted(str(path.relative_to(self.top)) for path in self.path(f"crates/{crate}/src").rglob("*.rt"))
+
+
+def node_of_module(crates, module):
+    """The file or the Rust type that a module `crate.specs.PATH` is; None for one of the kit or of proofs."""
+    parts = module.split(".")
+    if not crates.is_crate(parts[0]) or parts[1:2] != ["specs"]:
+        return None
+    if parts[2:3] == ["declared"] or parts[2:3] == ["contracts"]:
+        return node_of_declared(crates, parts[0], parts[3:])
+    for end in range(len(parts), 2, -1):
+        name = f"crates/{parts[0]}/specs/{'/'.join(parts[2:end])}.antt"
+        if crates.path(name).is_file():
+            return name
+    return node_of_module(crates, reexported(crates, parts))
+
+
+def reexported(crates, parts):
+    """The module that a `pub use` line of the crate's `specs/Lib.antt` hands on under this name."""
+    for module, names in imports(crates.text(f"crates/{parts[0]}/specs/Lib.antt")):
+        if parts[2] in names:
+            return ".".join([module, *parts[3:]])
+    raise SystemExit(f"no file for Rattle.{'.'.join(parts)}")
+
+
+def node_of_declared(crates, crate, parts):
+    """The Rust type `FILE: NAME` of a module below `specs.declared`; None of what is no type (constants, an impl that is derived)."""
+    for end in range(len(parts), 0, -1):
+        name = f"crates/{crate}/src/{'/'.join(parts[:end])}.rt"
+        if crates.path(name).is_file():
+            return f"{name}: {parts[end]}" if parts[end:] and re.search(TYPE % parts[end], crates.text(name), re.M) else None
+    raise SystemExit(f"no type for Rattle.{crate}.specs.declared.{'.'.join(parts)}")
+
+
+def imports(text):
+    """The imports of a text: (module, names), where names is None if all of it is taken; an alias is a name."""
+    for found in USE.finditer(re.sub(r"\{([^}]*)\}", lambda at: "{" + at[1].replace("\n", " ") + "}", text)):
+        module, names, alias = found[1], found[2], found[3]
+        if names is not None:
+            yield module, {part.strip().split(" as ")[-1] for part in names.split(",") if part.strip()}
+        elif alias:
+            yield module, {alias}
+        else:
+            yield module, {module.split(".")[-1]}
+
+
+def balanced(text, start):
+    """The end of the bracket that opens at this offset."""
+    depth = 0
+    for at in range(start, len(text)):
+        if text[at] in "{(":
+            depth += 1
+        elif text[at] in "})":
+            depth -= 1
+            if depth == 0:
+                return at + 1
+    raise SystemExit("a bracket is not closed")
+
+
+def clauses(text, start):
+    """The clauses of the function whose `fn` stands at this offset, and where its body begins."""
+    said = []
+    at = text.index("(", start)
+    at = balanced(text, at)
+    while True:
+        found = re.compile(r"\b(?:requires|ensures)\b(?: \w+)? (?=\{)|\{|;").search(text, at)
+        if found is None or found[0] in "{;":
+            return said, found.start() if found else len(text)
+        at = balanced(text, found.end())
+        said.append(text[found.end():at])
+
+
+def signature(text, start):
+    """The words of a function's head, from its name to its first clause or its body."""
+    end = re.compile(r"\b(?:requires|ensures)\b|\{|;").search(text, balanced(text, text.index("(", start)))
+    return text[start:end.start() if end else len(text)]
+
+
+def blocks(text, head):
+    """The texts of the blocks whose head, up to the brace, matches."""
+    for found in re.finditer(head, text, re.M):
+        start = text.index("{", found.end() - 1 if found[0].endswith("{") else found.end())
+        yield text[start:balanced(text, start)]
+
+
+def words(text):
+    return set(WORD.findall(text))
+
+
+class Closure:
+    """The closure, as it grows: each node with the node or the call that led to it."""
+
+    def __init__(self, crates, carried=()):
+        self.crates = crates
+        self.carried = set(carried)
+        self.met = set()
+        self.parent = {}
+        self.open = collections.deque()
+
+    def add(self, node, parent):
+        if node in self.carried:
+            self.met.add(node)
+        elif node is not None and node not in self.parent:
+            self.parent[node] = parent
+            self.open.append(node)
+
+    def add_names(self, file, said, parent):
+        """What these words of a Rust file lead to: spec files by its `ghost use` lines, and Rust types that they name."""
+        text = self.crates.text(file)
+        for module, names in imports(text):
+            if names & said:
+                self.add(node_of_module(self.crates, module), parent)
+        for word in said:
+            self.add(self.rust_type(file, word), parent)
+
+    def rust_type(self, file, word):
+        """The Rust type of the repository that a word stands for in a file, if it stands for one."""
+        if not re.fullmatch(r"[A-Z]\w*", word):
+            return None
+        text = self.crates.text(file)
+        if re.search(TYPE % word, text, re.M):
+            return f"{file}: {word}"
+        for found in re.finditer(r"^\s*(?:pub )?use (\w+)((?:::\w+)*)(?:::\{([^}]*)\}|::(\w+))?;", text, re.M):
+            if word not in re.findall(r"\w+", found[3] or found[4] or found[2]):
+                continue
+            crate = file.split("/")[1] if found[1] in ("crate", "super") else found[1]
+            return self.type_in(crate, word) if self.crates.is_crate(crate) else None
+        return None
+
+    def type_in(self, crate, word):
+        for file in self.crates.sources(crate):
+            if re.search(TYPE % word, self.crates.text(file), re.M):
+                return f"{file}: {word}"
+        for found in re.finditer(r"^pub use (\w+)::[^;]*\b%s\b[^;]*;" % word, self.crates.text(f"crates/{crate}/src/lib.rt"), re.M):
+            if self.crates.is_crate(found[1]):
+                return self.type_in(found[1], word)
+        return None
+
+    def follow(self):
+        while self.open:
+            node = self.open.popleft()
+            if node.endswith(".antt"):
+                for module, _ in imports(self.crates.text(node)):
+                    self.add(node_of_module(self.crates, module), node)
+            elif ": " in node:
+                self.follow_type(node)
+
+    def follow_type(self, node):
+        """What a Rust type leads to: all that a trait says; what the `Model` says of a type, or else its fields."""
+        file, name = node.split(": ")
+        text = self.crates.text(file)
+        if re.search(r"\btrait %s\b" % name, text):
+            self.add_trait(file, name)
+            return
+        models = list(blocks(text, r"^impl\b[^\n{]*\bModel for %s\b[^{]*\{" % name))
+        if models:
+            self.add_names(file, words("".join(models)), node)
+        else:
+            self.add_names(file, words(declaration(text, name)), node)
+
+    def add_trait(self, file, name):
+        text = self.crates.text(file)
+        for block in blocks(text, r"\btrait %s\b[^{]*\{" % name):
+            said = "".join(re.findall(r"ghost \w+:[^;]*;", block))
+            for at in re.finditer(r"\bfn \w+", block):
+                said += " ".join(clauses(block, at.start())[0])
+            self.add_names(file, words(said), f"{file}: {name}")
+
+    def add_call(self, crate, name, *methods):
+        """The contract of a public call: of a function, or of a type with its public methods, or only with these."""
+        call = f"{crate} {name}"
+        for file in self.crates.sources(crate):
+            text = self.crates.text(file)
+            if re.search(r"^pub fn %s\b" % name, text, re.M):
+                self.add_function(file, text, re.search(r"^pub fn %s\b" % name, text, re.M).start(), call)
+                return
+            if re.search(r"^pub struct %s\b" % name, text, re.M):
+                self.add_type(file, text, name, methods, call)
+                return
+        raise SystemExit(f"tools/believed/calls.txt: no public `{name}` in {crate}")
+
+    def add_function(self, file, text, start, call):
+        said = words(" ".join(clauses(text, start)[0]))
+        self.add_names(file, said, call)
+        for word in re.findall(r"\b[A-Z]\w*", signature(text, start)):
+            self.add(self.rust_type(file, word), call)
+
+    def add_type(self, file, text, name, methods, call):
+        traits = r"(?!Model\b)\w+" if self.is_carried(f"{file}: {name}") else r"\w+"
+        for block in blocks(text, r"^impl\b[^\n{]*\b%s for %s\b[^{]*\{" % (traits, name)):
+            said = words("".join(re.findall(r"ghost (?!use)[^;]*;", block)))
+            self.add_names(file, said, call)
+        for block in blocks(text, r"^impl(?:<[^{]*?>)? %s\b[^{]*\{" % name):
+            for at in re.finditer(r"^ *pub fn (\w+)", block, re.M):
+                if methods and at[1] not in methods:
+                    continue
+                self.add_names(file, words(" ".join(clauses(block, at.start())[0])), call)
+                for word in re.findall(r"\b[A-Z]\w*", signature(block, at.start())):
+                    self.add(self.rust_type(file, word), call)
+
+    def is_carried(self, node):
+        if node in self.carried:
+            self.met.add(node)
+        return node in self.carried
+
+    def way_to(self, node):
+        """The nodes from a call to this one."""
+        way = [node]
+        while way[0] in self.parent:
+            way.insert(0, self.parent[way[0]])
+        return way
+
+
+def declaration(text, name):
+    """The declaration of a struct or an enum, without what stands before it."""
+    found = re.search(TYPE % name, text, re.M)
+    end = re.compile(r"[{(;]").search(text, found.end())
+    return text[found.start():end.end()] if end[0] == ";" else text[found.start():balanced(text, end.start())]
+
+
+def rows(path):
+    """The lines of a file of data without its comments."""
+    return [line for line in path.read_text().splitlines() if line.strip() and not line.startswith("#")]
+
+
+def closure_of(top, calls, carried=()):
+    closure = Closure(Crates(top), carried)
+    for line in calls:
+        closure.add_call(*line.split())
+    closure.follow()
+    return closure
+
+
+def is_file(node):
+    return node.endswith(".antt")
+
+
+def stands_right(node):
+    """Whether a file or a type stands where what is to be believed has to."""
+    crate, folder = node.split("/")[1:3]
+    return crate in MODELS and (folder == "specs" if is_file(node) else folder == "src")
+
+
+def toured(top):
+    """The files that the tour lists, by the first column of its tables whose head is `File`."""
+    listed, takes = [], False
+    for line in (pathlib.Path(top) / TOUR).read_text().splitlines():
+        cells = [cell.strip() for cell in line.strip().strip("|").split("|")]
+        if not line.startswith("|"):
+            takes = False
+        elif cells[0] == "File":
+            takes = True
+        elif takes and not set(cells[0]) <= set("-: "):
+            listed += [f"crates/{name}" for name in re.findall(r"`([\w/]+\.antt)`", cells[0])]
+    return listed
+
+
+def faults(top, closure, exceptions):
+    """What is wrong: a node outside, an exception that is none, a file that the tour lacks or has too much."""
+    nodes = set(closure.parent)
+    for node in sorted(nodes):
+        if not stands_right(node) and node not in exceptions:
+            yield f"{node} is in the closure and stands outside {', '.join(MODELS)}: by {closure.way_to(node)[-2]}"
+    for node in sorted(exceptions):
+        if node not in nodes | closure.met or node in nodes and stands_right(node):
+            yield f"tools/believed/exceptions.txt: {node} is no exception any more"
+    files, listed = {node for node in nodes if is_file(node)}, toured(top)
+    for name in sorted(files - set(listed)):
+        yield f"{TOUR}: the tour lacks {name}"
+    for name in sorted(set(listed) - files):
+        yield f"{TOUR}: the tour lists {name}, which is not in the closure"
+    for name in sorted(set(listed)):
+        if listed.count(name) > 1:
+            yield f"{TOUR}: the tour lists {name} twice"
+
+
+def print_by_folder(closure, whole):
+    """The closure by folder: its files and their lines, and its Rust types."""
+    folders = collections.defaultdict(list)
+    for node in sorted(closure.parent):
+        folders[node.rsplit("/", 1)[0]].append(node)
+    for folder, nodes in folders.items():
+        lines = sum(closure.crates.lines(node) for node in nodes if is_file(node))
+        print(f"{folder}: {len(nodes)} files, {lines} lines" if is_file(nodes[0]) else f"{folder}: {len(nodes)} types")
+        for node in nodes if whole else ():
+            print(f"    {node.rsplit('/', 1)[1]}" + (f" {closure.crates.lines(node)}" if is_file(node) else ""))
+    files = [node for node in closure.parent if is_file(node)]
+    print(f"believed: {len(files)} files, {sum(map(closure.crates.lines, files))} lines, {len(closure.parent) - len(files)} Rust types")
+
+
+def exceptions_of(path):
+    """The exceptions, each with `stays` or `carried`: a line is `NODE stays because REASON` or `NODE carried because REASON`."""
+    return dict(line.split(" because ")[0].rsplit(" ", 1) for line in rows(path))
+
+
+def judged(top, data):
+    """The closure of a checkout by the calls and the exceptions of a folder, and its faults."""
+    exceptions = exceptions_of(data / "exceptions.txt")
+    closure = closure_of(top, rows(data / "calls.txt"), [node for node, kind in exceptions.items() if kind == "carried"])
+    return closure, list(faults(top, closure, exceptions))
+
+
+def print_ways(closure, part):
+    """How each node whose name has this part is reached."""
+    for node in closure.parent:
+        if part in node:
+            print("\n    ".join(closure.way_to(node)))
+
+
+def main(arguments):
+    if "--help" in arguments or "-h" in arguments:
+        print(__doc__.strip())
+        return 0
+    why = arguments[arguments.index("--why") + 1] if "--why" in arguments[:-1] else None
+    tops = [word for word in arguments if not word.startswith("-") and word != why]
+    closure, found = judged(pathlib.Path(tops[0]) if tops else HERE.parents[1], HERE)
+    if why:
+        print_ways(closure, why)
+        return 0
+    print_by_folder(closure, "--list" in arguments)
+    print("".join(f"FAULT {fault}\n" for fault in found), end="")
+    return 1 if found else 0
+
+
+if __name__ == "__main__":
+    sys.exit(main(sys.argv[1:]))

@@ -1,0 +1,146 @@
+#!/usr/bin/env python3
+"""Tests of tools/believed/run.py: on copies of this checkout and of a small one, planted faults have to be told, each and no other.
+
+    tools/believed/test.py
+"""
+import pathlib
+import shutil
+import sys
+import tempfile
+import unittest
+
+sys.dont_write_bytecode = True
+HERE = pathlib.Path(__file__).resolve().parent
+TOP = HERE.parents[1]
+sys.path.insert(0, str(HERE))
+from run import TOUR, closure_of, is_file, judged, rows, stands_right  # noqa: E402
+
+# A checkout of two crates: file by file.
+SMALL = {
+    "crates/rng_model/src/lib.rt": "pub use name::Name;\n",
+    "crates/rng_model/src/name.rt": "pub struct Name {\n    pub text: String,\n}\n",
+    "crates/rng_model/specs/Lib.antt": "pub mod names\n",
+    "crates/rng_model/specs/names/Names.antt": "use Rattle.rng_model.specs.declared.name.Name.{Name}\nabbrev pub IsName : Name → Type 0\n",
+    "crates/rng_model/specs/names/Other.antt": "-- use Rattle.high.specs.plain.Steps.{step}\n",
+    "crates/high/src/lib.rt": """ghost use Rattle.rng_model.specs.names.Names.{IsName};
+ghost use Rattle.rng_model.specs.names.Other.{IsOther};
+ghost use Rattle.high.specs.plain.Steps.{step};
+use rng_model::Name;
+
+pub fn read(name: &Name) -> bool
+    ensures { IsName name.now }
+{
+    inner(name)
+}
+
+fn inner(name: &Name) -> bool
+    ensures { step name }
+{
+    true
+}
+""",
+    "crates/high/specs/Lib.antt": "pub mod plain\n",
+    "crates/high/specs/plain/Steps.antt": "-- steps\n",
+    TOUR: "| File | What |\n|---|---|\n| `rng_model/specs/names/Names.antt` | names |\n",
+}
+
+
+class Small(unittest.TestCase):
+    """What is followed, and what is told, in a checkout of two crates."""
+
+    def setUp(self):
+        self.room = tempfile.TemporaryDirectory()
+        self.addCleanup(self.room.cleanup)
+        self.top = pathlib.Path(self.room.name)
+        for name, text in SMALL.items():
+            self.write(name, text)
+        self.write("calls.txt", "high read\n")
+        self.write("exceptions.txt", "")
+
+    def write(self, name, text):
+        path = self.top / name
+        path.parent.mkdir(parents=True, exist_ok=True)
+        path.write_text(text)
+
+    def add(self, name, text):
+        self.write(name, (self.top / name).read_text() + text)
+
+    def judged(self):
+        return judged(self.top, self.top)
+
+    def test_closure(self):
+        closure, found = self.judged()
+        self.assertEqual(set(closure.parent), {"crates/rng_model/specs/names/Names.antt", "crates/rng_model/src/name.rt: Name"})
+        self.assertEqual(found, [])
+
+    def test_file_outside(self):
+        self.add("crates/rng_model/specs/names/Names.antt", "use Rattle.high.specs.plain.Steps.{step}\n")
+        self.assertEqual([fault.split(":")[0] for fault in self.judged()[1]],
+                         ["crates/high/specs/plain/Steps.antt is in the closure and stands outside rng_model, rnc_model, rncv_model", TOUR])
+
+    def test_type_outside(self):
+        self.add("crates/high/src/lib.rt", "pub enum Kind {\n    Good,\n}\n")
+        self.add("crates/rng_model/specs/names/Names.antt", "use Rattle.high.specs.declared.lib.Kind.TheVariants as kinds\n")
+        self.assertEqual([fault.split(" is in ")[0] for fault in self.judged()[1]], ["crates/high/src/lib.rt: Kind"])
+
+    def test_tour(self):
+        self.write(TOUR, SMALL[TOUR].replace("Names.antt", "Other.antt"))
+        self.assertEqual(self.judged()[1], [f"{TOUR}: the tour lacks crates/rng_model/specs/names/Names.antt",
+                                            f"{TOUR}: the tour lists crates/rng_model/specs/names/Other.antt, which is not in the closure"])
+
+    def test_exceptions(self):
+        self.add("crates/rng_model/specs/names/Names.antt", "use Rattle.high.specs.plain.Steps.{step}\n")
+        self.write("exceptions.txt", "crates/high/specs/plain/Steps.antt carried because it is handed on\n")
+        self.assertEqual(self.judged()[1], [])
+        self.write("exceptions.txt", "crates/high/specs/plain/Steps.antt stays because it is read\n")
+        self.assertEqual(self.judged()[1], [f"{TOUR}: the tour lacks crates/high/specs/plain/Steps.antt"])
+        self.write("crates/rng_model/specs/names/Names.antt", "")
+        self.assertIn("tools/believed/exceptions.txt: crates/high/specs/plain/Steps.antt is no exception any more", self.judged()[1])
+
+
+class Planted(unittest.TestCase):
+    """Two faults in a copy of this checkout."""
+
+    @classmethod
+    def setUpClass(cls):
+        cls.room = tempfile.TemporaryDirectory()
+        cls.addClassCleanup(cls.room.cleanup)
+        cls.top = pathlib.Path(cls.room.name)
+        for crate in sorted((TOP / "crates").iterdir()):
+            for folder in ("src", "specs"):
+                if (crate / folder).is_dir():
+                    shutil.copytree(crate / folder, cls.top / "crates" / crate.name / folder)
+        (cls.top / "docs").mkdir()
+        shutil.copy(TOP / TOUR, cls.top / TOUR)
+        cls.closure, cls.before = judged(cls.top, HERE)
+
+    def told(self):
+        """The faults that are told now and were not before."""
+        return set(judged(self.top, HERE)[1]) - set(self.before)
+
+    def test_the_calls_are_there(self):
+        for line in rows(HERE / "calls.txt"):
+            self.assertTrue(closure_of(self.top, [line]).parent, line)
+
+    def test_file_outside(self):
+        planted = "crates/rng_load/specs/Planted.antt"
+        known = self.top / next(node for node in self.closure.parent if is_file(node) and stands_right(node))
+        text = known.read_text()
+        (self.top / planted).write_text("-- planted\n")
+        known.write_text("use Rattle.rng_load.specs.Planted.{planted}\n" + text)
+        self.addCleanup(known.write_text, text)
+        self.addCleanup((self.top / planted).unlink)
+        self.assertEqual({fault.split(": by ")[0] for fault in self.told()},
+                         {f"{planted} is in the closure and stands outside rng_model, rnc_model, rncv_model", f"{TOUR}: the tour lacks {planted}"})
+
+    def test_line_missing(self):
+        page = (self.top / TOUR).read_text()
+        name = next(node for node in self.closure.parent if is_file(node) and f"`{node.removeprefix('crates/')}`" in page)
+        without = "".join(line for line in page.splitlines(True) if f"`{name.removeprefix('crates/')}`" not in line)
+        (self.top / TOUR).write_text(without)
+        self.addCleanup((self.top / TOUR).write_text, page)
+        self.assertIn(f"{TOUR}: the tour lacks {name}", self.told())
+
+
+if __name__ == "__main__":
+    unittest.main()
