@@ -188,6 +188,12 @@ def equal_optionals(count):
     return lambda draw: (f"element doc {{ {joined} }}", root([element("e")] * count))
 
 
+def other_optionals(count):
+    """Members of one name, each with a body of its own, and as many children that each of them takes."""
+    members_of = ", ".join(f"element b {{ text, element c{i} {{ empty }}? }}?" for i in range(count))
+    return lambda draw: (f"element doc {{ {members_of} }}", root([element("b")] * count))
+
+
 def doubled(count, last, choices, times):
     """Definitions, each the next one twice; so many times the children that one of the choices names by their letters."""
     rules = [f"x{i} = x{i + 1}, x{i + 1}" for i in range(count)]
@@ -227,10 +233,12 @@ WORKLOADS = [
     ("200 levels of two attributes each, 20 of them given", levels_of_attributes(200, 20)),
     ("900 equal members that may be left out, and 900 children", equal_optionals(900)),
     ("9,000 equal members that may be left out, in lists of 500, and 9,000 children", equal_optionals(9_000)),
+    ("300 members of one name and different bodies that may be left out, and 300 children", other_optionals(300)),
     ("990 definitions, each the next one twice, and 300 children", doubled(990, "element b { empty } | empty", "b", 300)),
     ("990 definitions, each the next one twice, and 3,000 children", doubled(990, "element b { empty } | empty", "b", 3_000)),
     ("990 definitions, each the next one twice, of one of two", doubled(990, "element b { empty } | element c { empty } | empty", "bc", 300)),
     ("990 definitions, each the next one twice, of three that may be left out", doubled(990, "element b { empty }?, element c { empty }?, element d { empty }?", "bcd", 300)),
+    ("990 definitions, each the next one twice, of a pair that may be left out", doubled(990, "(element b { empty }, element c { empty })?", ["bc"], 1_500)),
     ("990 definitions, each the next one twice, of two interleaved", doubled(990, "element b { empty }? & element c { empty }?", "bc", 300)),
     ("32 definitions, each the next one twice, of two interleaved or none", doubled(32, "(element b { empty } & element c { empty })?", ["bc"], 6)),
     ("60 definitions, each the next one twice, of a group of two or one", doubled(60, "(element b { empty }, element c { empty }) | element d { empty } | empty", ["bc", "d"], 30)),
