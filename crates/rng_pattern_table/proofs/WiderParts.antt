@@ -3,7 +3,7 @@ use Rattle.std.proofs.Common.{◌≡◌, ◌⊎◌, ◌<◌, ◌≤◌, ℕ, Lis
 use Rattle.std.proofs.Common.{inl, inr, arith}
 use Rattle.std.specs.List.{Contains, remove}
 use Rattle.std.proofs.lemmas.List.Elements.{Contains-append_cases}
-use Rattle.rng_model.specs.simple.Tree.{Simple}
+use Rattle.rng_model.specs.simple.Tree.{Simple, s_empty}
 use Rattle.rng_model.specs.matching.Document.{Attribute, Item}
 use Rattle.rng_model.specs.simple.Table.{Table}
 use Rattle.rng_model.proofs.OneSidedInterleavings.{left_alone, right_alone}
@@ -23,6 +23,13 @@ use Rattle.rng_pattern_table.proofs.Trees.{tree_of-over_parts}
 module _ (ns : List Node) (table : IsPatternTable ns) where
   over : (t : Table) (number : PatternNumber) (n : Node) → slice_get ns number.0 ≡ Some n → tree_of t ns number.0 ≡ tree_over t (tree_of t ns) n
   over t number n found = tree_of-over_parts t ns number.0 n (table.falls number.0 n found) found
+
+  -- nothing else is matched by the empty pattern than by one that may be left out
+  pub empty_covered : (outer inner : PatternNumber) → slice_get ns inner.0 ≡ Some node.empty
+      → ((t : Table) (g : Reading) → Takes g (tree_of t ns outer.0) [] []) → Covers ns outer inner
+  empty_covered outer inner part none = λ t g xs is d. only t g xs is (subst (λ (p : Simple ℕ). Takes g p xs is) (over t inner _ part) d) where
+    only : (t : Table) (g : Reading) (xs : List Attribute) (is : List Item) → Takes g s_empty xs is → Takes g (tree_of t ns outer.0) xs is
+    only t g xs is taking.empty_is = none t g
 
   module _ (outer first second : PatternNumber) where
     pub group_covers : (inner front rest : PatternNumber) → slice_get ns outer.0 ≡ Some (node.group first.0 second.0)

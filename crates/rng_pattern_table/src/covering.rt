@@ -24,10 +24,23 @@ impl PatternTable {
             return;
         };
         let (one, other) = (*one, *other);
-        if self.covers(one, other) {
+        if self.is_covered(one, other) {
             alternatives.truncate(1);
-        } else if self.covers(other, one) {
+        } else if self.is_covered(other, one) {
             alternatives.remove(0);
+        }
+    }
+
+    /// Whether an alternative, `inner`, adds nothing to another one: it is empty and the other one may be left out, or the other
+    /// one covers it. Takes no memory.
+    fn is_covered(&self, outer: PatternNumber, inner: PatternNumber) -> bool
+        requires outer { outer.0 < length self.now }
+        requires inner { inner.0 < length self.now }
+        ensures { IsTrue result → Covers self.now outer inner }
+    {
+        match self.pattern(inner) {
+            Pattern::Empty => self.facts(outer).nullable,
+            _ => self.covers(outer, inner),
         }
     }
 
