@@ -17,6 +17,7 @@ is a predicate or a view that contracts only hand from one call to the next, so 
 tour does not list it.
 """
 import collections
+import os
 import pathlib
 import re
 import sys
@@ -380,4 +381,11 @@ def main(arguments):
 
 
 if __name__ == "__main__":
-    sys.exit(main(sys.argv[1:]))
+    try:
+        status = main(sys.argv[1:])
+        sys.stdout.flush()
+    except BrokenPipeError:
+        # as a program ends by SIGPIPE, without a word
+        os.dup2(os.open(os.devnull, os.O_WRONLY), sys.stdout.fileno())
+        status = 141
+    sys.exit(status)
