@@ -2,6 +2,6 @@ mod AnswerLines
 mod LoadedSchemas
 mod Documents
 mod DocumentVerdict
-mod FailedFlush
 mod GoodSchemas
+mod Refusals
 mod UnknownNames

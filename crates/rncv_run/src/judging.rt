@@ -6,6 +6,7 @@ ghost use Rattle.rng_model.specs.devices.Device.{device_inner, device_failures};
 ghost use Rattle.rng_model.specs.simple.Table.{grammar_of, IsValidBy};
 ghost use Rattle.rng_model.specs.datatypes.Texts.{texts_of};
 ghost use Rattle.rncv_run.specs.plain.Judging.{IsUnknownTo, fault_of_judging};
+ghost use Rattle.rncv_run.specs.declared.judging.JudgeFault.TheVariants as faults;
 ghost use Rattle.rncv_model.specs.answers.Verdict.{IsJudgedBy};
 ghost use Rattle.rncv_run.specs.views.MalformedVerdict.{malformed_by};
 
@@ -27,7 +28,7 @@ pub(crate) enum JudgeFault {
 }
 
 impl From<OutOfMemory> for JudgeFault {
-    ghost from_gives = { λ cause fault. fault ≡ JudgeFault.Memory };
+    ghost from_gives = { λ cause fault. fault ≡ faults.Memory };
 
     fn from(_cause: OutOfMemory) -> JudgeFault {
         JudgeFault::Memory
