@@ -54,14 +54,15 @@ pub fn answer_words<F: Files + AllocGlobal, R: Read + Drop, W: Write>(
     ensures written { IfErr result.0 (λ fault. LeavesWritten (IsAnswerOver words.command words.files.items (R.remaining reader))
         fault (W.contents writer) (W.contents result.1)) }
 {
+    let files = match read_files(rt, words.files) {
+        Ok(files) => files,
+        Err(fault) => return (Err(fault), writer),
+    };
+    let files = files.as_slice();
     let mut input = Device::new(reader);
     let mut output = Device::new(writer);
-    let answer = match read_files(rt, words.files) {
-        Ok(files) => {
-            let files = files.as_slice();
-            run(rt.alloc(), words.command, files, &mut input, &mut output).map_err(Fault::from)
-        }
-        Err(fault) => Err(fault),
-    };
-    (answer, output.into_inner())
+    match run(rt.alloc(), words.command, files, &mut input, &mut output) {
+        Ok(status) => (Ok(status), output.into_inner()),
+        Err(fault) => (Err(Fault::from(fault)), output.into_inner()),
+    }
 }
