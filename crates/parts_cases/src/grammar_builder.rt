@@ -19,7 +19,8 @@ pub struct GrammarBuilder {
 
 impl Model for GrammarBuilder {
     ghost use Rattle.std.specs.Prelude.{◌<◌, ℕ, List, length, All};
-    ghost use Rattle.rng_model.specs.simple.Table.{Falls, IsClassPaired, IsLeafListed, IsOfFirstKind, IsPaired};
+    ghost use Rattle.rng_model.specs.simple.Table.{Falls, IsClassPaired, IsLeafListed, IsPaired};
+    ghost use Rattle.rng_tree_matcher.specs.plain.FirstKind.{IsOfFirstKind};
     ghost use Rattle.rng_model.specs.declared.simple.Simple.{Simple};
     ghost use Rattle.rng_model.specs.declared.simple.PatternId.{PatternId};
     ghost use Rattle.rng_model.specs.declared.name.NameClass.{NameClass};
