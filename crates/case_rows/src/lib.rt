@@ -6,6 +6,8 @@
 
 mod file;
 mod row;
+mod schema_files;
 
 pub use file::rows;
 pub use row::Row;
+pub use schema_files::files_of;

@@ -10,11 +10,9 @@
 ghost use Rattle.std.specs.Prelude.{IfOk};
 ghost use Rattle.rng_model.specs.simple.Table.{AreToldApart};
 
-mod files;
 mod writers;
 
-use case_rows::{Row, rows};
-use files::files_of;
+use case_rows::{Row, files_of, rows};
 use rng_load::load;
 use rng_model::{SchemaFault, SimpleGrammar};
 use rng_print::printed_text;

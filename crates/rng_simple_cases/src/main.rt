@@ -9,12 +9,10 @@
 
 mod classes;
 mod elements;
-mod files;
 mod forms;
 mod patterns;
 
-use case_rows::{Row, rows};
-use files::files_of;
+use case_rows::{Row, files_of, rows};
 use forms::{print_form, print_size};
 use rng_load::load;
 use rng_model::{SchemaFault, SimpleGrammar};

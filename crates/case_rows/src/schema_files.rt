@@ -1,9 +1,10 @@
 // The files of a row.
-use case_rows::Row;
+use crate::row::Row;
 use std::alloc::Global;
 use std::io;
 
-/// The files from the second field on: a name, a text and how often it stands there, for each text.
+/// The files from the second field on: a name, a text and how often it stands there, for each text. In a text `^` stands for a
+/// number, which is 0 at first and greater by one each time, and `^+` for the next one. Texts of one name in turn are one file.
 pub fn files_of(alloc: Global, row: &Row) -> io::Result<Vec<(String, Vec<u8>)>> {
     let mut files = Vec::new(alloc);
     for field in (1..row.field_count()).step_by(3) {
