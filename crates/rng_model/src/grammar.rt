@@ -9,8 +9,8 @@ use std::marker::Model;
 /// A grammar in simple form: a table of patterns, a table of elements (a name class and a body each), and the start.
 ///
 /// RELAX NG Specification, section 5. The start and each body are positions in the table of patterns, a child's
-/// position is smaller than its parent's, every ref is a position in the table of elements, and every choice in a
-/// name class has two members. Contracts see the tables; `Rattle.rng_model.specs.simple.Table.grammar_of` gives the trees
+/// position is smaller than its parent's, every ref is a position in the table of elements, every choice in a
+/// name class has two members, and every datatype is a known one with parameters that it takes (section 4.16). Contracts see the tables; `Rattle.rng_model.specs.simple.Table.grammar_of` gives the trees
 /// that they stand for.
 #[derive(Drop)]
 pub struct SimpleGrammar {

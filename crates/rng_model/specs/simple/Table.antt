@@ -11,6 +11,7 @@ use Rattle.rng_model.specs.matching.Matching.{Leaves, Texts, IsValid}
 use Rattle.rng_model.specs.matching.Lex.{HasText}
 use Rattle.rng_model.specs.names.NameViews.{class_of}
 use Rattle.rng_model.specs.datatypes.DatatypeViews.{datatype_of}
+use Rattle.rng_model.specs.datatypes.Datatypes.{IsKnownDatatype}
 use Rattle.rng_model.specs.schema.Patterns.{without_parameters}
 use Rattle.rng_model.specs.declared.name.NameClass.{NameClass, fold-NameClass}
 use Rattle.rng_model.specs.declared.name.NameClass.TheOpen.{NameClass-F}
@@ -156,6 +157,22 @@ IsClassPaired (simple.Group a b) = ⊤
 IsClassPaired (simple.Interleave a b) = ⊤
 IsClassPaired (simple.Choice a b) = ⊤
 
+-- the datatype of a data or a value is known, with parameters that it takes (RELAX NG Specification, section 4.16); that of a value has none
+abbrev pub IsDatatypeKnown : Simple → Type 0
+IsDatatypeKnown simple.NotAllowed = ⊤
+IsDatatypeKnown simple.Empty = ⊤
+IsDatatypeKnown simple.Text = ⊤
+IsDatatypeKnown (simple.Element e) = ⊤
+IsDatatypeKnown (simple.Attribute class body) = ⊤
+IsDatatypeKnown (simple.List body) = ⊤
+IsDatatypeKnown (simple.Data datatype) = IsKnownDatatype (datatype_of datatype.value)
+IsDatatypeKnown (simple.DataExcept datatype except) = IsKnownDatatype (datatype_of datatype.value)
+IsDatatypeKnown (simple.Value value) = IsKnownDatatype (without_parameters (string_bytes value.value.library) (string_bytes value.value.name))
+IsDatatypeKnown (simple.OneOrMore body) = ⊤
+IsDatatypeKnown (simple.Group a b) = ⊤
+IsDatatypeKnown (simple.Interleave a b) = ⊤
+IsDatatypeKnown (simple.Choice a b) = ⊤
+
 -- each pattern's children stand before it
 abbrev pub Falls : List Simple → Type 0
 Falls ps = (i : ℕ) (p : Simple) → slice_get ps i ≡ Some p → AreChildrenBelow i p
@@ -167,3 +184,4 @@ pub record IsTable (t : Table) : Type 0 where
   pub listed : All (IsLeafListed (length t.elements)) t.patterns
   pub paired : All IsClassPaired t.patterns
   pub paired_elements : All (λ e. IsPaired e.0) t.elements
+  pub datatypes : All IsDatatypeKnown t.patterns
