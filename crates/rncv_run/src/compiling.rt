@@ -1,7 +1,6 @@
 // From a schema to the grammar by which documents are judged.
 ghost use Rattle.std.specs.Prelude.{IfErr, IfOk, OnOk};
 ghost use Rattle.rng_load.specs.views.PlacedGrammars.{schema_of};
-ghost use Rattle.rng_model.specs.schema.Schema.{IsWellPlaced};
 ghost use Rattle.rng_model.specs.schema.SchemaClauses.{BreaksNoClause};
 ghost use Rattle.rng_model.specs.simple.SchemaForm.{IsOnlySimpleGrammarOf, IsSimpleGrammarOf};
 ghost use Rattle.rng_model.specs.matching.SchemaMatching.{AreSameDocuments};
@@ -14,7 +13,7 @@ use rng_load::Schema;
 use rng_model::{SchemaFault, SimpleGrammar};
 use rng_print::printed_text;
 use rng_rules::restrict;
-use rng_simple::simplify_schema;
+use rng_simple::simplify;
 use std::alloc::Global;
 
 /// What a schema that breaks no clause is compiled to.
@@ -34,7 +33,6 @@ pub(crate) fn compile(
     command: Command,
     schema: Schema,
 ) -> Result<Compiled, SchemaFault>
-    requires { IsWellPlaced (schema_of schema) }
     ensures compiled { IfOk result (IsCompiled command (schema_of schema)) }
     ensures broken { IfErr result (IsLeastFault (schema_of schema)) }
 {
@@ -48,7 +46,6 @@ pub(crate) fn compile(
 
 /// The simple form of a schema that breaks no clause, or the least clause that it breaks, 11 to 27.
 fn good_grammar(alloc: Global, schema: Schema) -> Result<SimpleGrammar, SchemaFault>
-    requires { IsWellPlaced (schema_of schema) }
     ensures form { IfOk result (λ g. IsSimpleGrammarOf (schema_of schema) (grammar_of g)) }
     ensures only { IfOk result (λ g. IsOnlySimpleGrammarOf (schema_of schema) (grammar_of g)) }
     ensures apart { IfOk result AreToldApart }
@@ -57,7 +54,7 @@ fn good_grammar(alloc: Global, schema: Schema) -> Result<SimpleGrammar, SchemaFa
     ensures kept { OnOk result (BreaksNoClause (schema_of schema)) }
     ensures broken { IfErr result (IsLeastFault (schema_of schema)) }
 {
-    let grammar = simplify_schema(alloc, &schema)?;
+    let grammar = simplify(alloc, &schema)?;
     drop(schema);
     restrict(alloc, &grammar)?;
     Ok(grammar)

@@ -5,7 +5,6 @@ ghost use Rattle.rncv_run.specs.views.AnswerView.{answer_of, refusal_of};
 ghost use Rattle.rnc_model.specs.loading.Files.{named_files};
 ghost use Rattle.rnc_model.specs.loading.Loading.{FilesVerdict, FilesHaveOnlyVerdict};
 ghost use Rattle.rng_load.specs.views.PlacedGrammars.{schema_of};
-ghost use Rattle.rng_model.specs.schema.Schema.{IsWellPlaced};
 ghost use Rattle.rncv_model.specs.answers.Run.{IsAnswer, IsAnswerBy, JudgesDocuments, JudgesNone, WritesAnswer, WrittenAfter, main_name};
 
 use crate::answer::Answer;
@@ -34,7 +33,7 @@ use std::io::{Read, Write};
 /// the flush failed. A document is read
 /// to its end, or in pieces of 32,768 bytes to the one with the first fault, and judged as it goes by: no more of it is kept
 /// than a tag, a text, the open elements, and what the matcher keeps. The files are kept whole; time is what `load` takes,
-/// and then what `simplify_schema` and `restrict` take, and `Matcher` for each event.
+/// and then what `simplify` and `restrict` take, and `Matcher` for each event.
 pub fn run<R: Read, W: Write>(
     alloc: Global,
     command: Command,
@@ -120,8 +119,7 @@ fn answer_by<R: Read>(
     schema: Schema,
     input: &mut Device<R>,
 ) -> Result<Answer, JudgeFault>
-    requires placed { IsWellPlaced (schema_of schema) }
-    requires input { device_failures input.old < 2 ^ 64 - 1 }
+    requires { device_failures input.old < 2 ^ 64 - 1 }
     ensures calm { OnOk result (device_failures input.new ≡ device_failures input.old) }
     ensures unread { ¬ (JudgesDocuments command (schema_of schema)) → input.new ≡ input.old }
     ensures read { IsErrOf result JudgeFault.Read → device_failures input.old < device_failures input.new }

@@ -7,7 +7,7 @@ ghost use Rattle.rng_graph.specs.views.ComponentTable.{IsTable, components_of, s
 ghost use Rattle.rng_graph.specs.views.Definitions.{definition_of, numbering_of};
 ghost use Rattle.rng_graph.specs.views.ExpansionOrder.{IsGraphOfSchema};
 ghost use Rattle.rng_graph.specs.views.GraphView.{graph_body_of};
-ghost use Rattle.rng_graph.specs.plain.ReadySchema.{IsReady};
+ghost use Rattle.rng_model.specs.schema.SchemaClauses.{BreaksRef, HasNoStart};
 ghost use Rattle.rng_graph.specs.plain.ResolvedBody.{resolved_body};
 
 use crate::components::ComponentTable;
@@ -19,13 +19,14 @@ use rng_load::Schema;
 use rng_model::{OutOfMemory, Place};
 use std::alloc::Global;
 
-/// The graph of a schema: the definitions and the elements that are met from its start, by number.
+/// The graph of a schema whose grammars have starts, and whose refs have definitions: the definitions and the elements that are met from its start, by number.
 ///
 /// The only fault is want of memory. Linear in the schema, but for hashing; recurses as deep as a pattern nests.
 ///
 /// RELAX NG Specification, sections 4.17 to 4.19.
 pub fn schema_graph<'a>(alloc: Global, schema: &'a Schema) -> Result<Graph<'a>, OutOfMemory>
-    requires { IsReady (schema_of schema.now) }
+    requires starts { ¬ (HasNoStart (schema_of schema.now)) }
+    requires refs { ¬ (BreaksRef (schema_of schema.now)) }
     ensures { IfOk result (λ g. IsGraphOfSchema (schema_of schema.now) g) }
 {
     let table = ComponentTable::of_schema(alloc, schema)?;

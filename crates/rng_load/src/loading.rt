@@ -1,11 +1,9 @@
 // From the files that are handed in to their schema.
-ghost use Rattle.std.specs.Prelude.{IfOk, IfSome};
-ghost use Rattle.rng_model.specs.schema.Schema.{IsWellPlaced};
+ghost use Rattle.std.specs.Prelude.{IfSome};
 ghost use Rattle.rnc_model.specs.loading.Files.{named_files};
 ghost use Rattle.rng_load.specs.views.Loaded.{IsLoaded};
 ghost use Rattle.rnc_model.specs.loading.Loading.{FilesHaveOnlyVerdict};
 ghost use Rattle.rng_load.specs.views.LoadingFaults.{reading_of};
-ghost use Rattle.rng_load.specs.views.PlacedGrammars.{schema_of};
 
 use crate::fault::ReadingFault;
 use crate::includes::breaks_includes;
@@ -50,8 +48,7 @@ use std::alloc::Global;
 /// RELAX NG Specification, sections 4.6, 4.7, 4.9, 4.11 and 4.18; the order and the limits are of the profile
 /// (docs/LANGUAGE.md).
 pub fn load(alloc: Global, files: &[(String, Vec<u8>)], main: &str) -> Result<Schema, SchemaFault>
-    ensures loaded { IsLoaded (named_files files.now) main.now result }
-    ensures placed { IfOk result (λ s. IsWellPlaced (schema_of s)) }
+    ensures { IsLoaded (named_files files.now) main.now result }
 {
     let trees = load_files(alloc, files, main)?;
     let tree = trees.get(main).unwrap();

@@ -1,11 +1,13 @@
 // A schema: its grammars at their places.
 ghost use Rattle.std.specs.Prelude.{◌≡◌, map, option_map};
+ghost use Rattle.rng_model.specs.schema.Schema.{IsWellPlaced};
 ghost use Rattle.rng_model.specs.views.SchemaView.{place_of, schema_component_of};
 ghost use Rattle.rng_load.specs.views.PlacedGrammars.{schema_of};
 ghost use Rattle.rng_load.specs.plain.SchemaPlaces.{AreItsPlaces};
 
 use indexmap::IndexMap;
 use rng_model::{Component, Place};
+use std::marker::Model;
 
 /// A grammar of a schema: its components, and the place of the grammar around it.
 #[derive(Drop)]
@@ -15,7 +17,8 @@ pub(crate) struct Grammar {
 }
 
 /// A schema of one or more files: the components of the grammar at each place. Every mention of a file is followed, every name has its namespace, and
-/// what an include overrides is left out.
+/// what an include overrides is left out. The main grammar is at its place and no grammar is around it; each grammar that is nested in a component is at
+/// its place, and around it is the grammar of that component.
 ///
 /// RELAX NG Specification, sections 4.6, 4.7, 4.9, 4.11 and 4.18.
 #[derive(Drop)]
@@ -24,10 +27,28 @@ pub struct Schema {
     pub(crate) grammars: IndexMap<Place, Grammar>,
 }
 
+impl Model for Schema {
+    ghost use Rattle.rng_model.specs.schema.Schema.{IsWellPlaced};
+    ghost use Rattle.rng_load.specs.views.PlacedGrammars.{SchemaEntries, schema_of};
+    ghost use Rattle.rng_model.specs.contracts.name.NameClass as classes;
+    ghost use Rattle.rng_model.specs.contracts.schema_pattern.SchemaPattern as patterns;
+    ghost use Rattle.std.specs.Coded.{codes};
+
+    ghost Value = { SchemaEntries };
+
+    ghost coded = { Prim.hlevel (codes, classes.the_row.coded, patterns.the_row.coded) };
+
+    ghost view = { λ s. record { main = s.main; grammars = s.grammars.entries } };
+
+    ghost invariant = { λ s. IsWellPlaced (schema_of (record { main = s.main; grammars = s.grammars.entries })) };
+}
+
 impl Schema {
     /// The place of the grammar of the main file. Takes no memory.
     pub fn main(&self) -> &Place
-        ensures { place_of result.now ≡ (schema_of self.now).main }
+        ensures main { place_of result.now ≡ (schema_of self.now).main }
+        // All grammars are in their places.
+        ensures placed { IsWellPlaced (schema_of self.now) }
     {
         &self.main
     }

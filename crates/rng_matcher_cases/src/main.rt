@@ -15,7 +15,7 @@ use rng_deriv::{Outcome, matcher};
 use rng_load::load;
 use rng_model::{SchemaFault, SimpleGrammar};
 use rng_rules::restrict;
-use rng_simple::simplify_schema;
+use rng_simple::simplify;
 use std::alloc::Global;
 use std::io;
 
@@ -76,7 +76,7 @@ fn compiled(alloc: Global, files: &[(String, Vec<u8>)]) -> Result<SimpleGrammar,
     ensures { IfOk result (λ g. BreaksNone (grammar_of g)) }
 {
     let schema = load(alloc, files, "s.rnc")?;
-    let grammar = simplify_schema(alloc, &schema)?;
+    let grammar = simplify(alloc, &schema)?;
     restrict(alloc, &grammar)?;
     Ok(grammar)
 }

@@ -16,7 +16,7 @@ use case_rows::{Row, files_of, rows};
 use rng_load::load;
 use rng_model::{SchemaFault, SimpleGrammar};
 use rng_print::printed_text;
-use rng_simple::simplify_schema;
+use rng_simple::simplify;
 use std::alloc::Global;
 use std::io;
 use writers::print_to_writers;
@@ -118,5 +118,5 @@ fn grammar_of_files(
     ensures { IfOk result (λ grammar. AreToldApart grammar) }
 {
     let schema = load(alloc, files, main)?;
-    simplify_schema(alloc, &schema)
+    simplify(alloc, &schema)
 }

@@ -38,6 +38,7 @@ pub mod SchemaDocuments
 pub mod SimplifiedSchemas
 pub mod OneNumber
 pub mod KnownDatatypes
+mod KnownPatterns
 mod LabelCodes
 mod RowLabels
 mod ToldApart

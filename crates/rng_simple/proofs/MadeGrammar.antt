@@ -8,7 +8,7 @@ use Rattle.rng_model.specs.names.Names as names
 use Rattle.rng_model.specs.simple.Tree.{as_tree, IsSimpleBody, IsFreeOfNotAllowed}
 use Rattle.rng_model.specs.simple.Tree.{Simple, s_not_allowed, s_empty, s_text, s_leaf, s_attribute, s_list, s_data, s_data_except, s_value, s_one_or_more, s_joined}
 use Rattle.rng_model.specs.simple.Leaves.{AreLeavesBelow}
-use Rattle.rng_model.specs.simple.Table.{Table, grammar_of, IsTable, IsPaired, IsLeafListed, IsInSimpleSyntax}
+use Rattle.rng_model.specs.simple.Table.{Table, grammar_of, IsTable, IsDatatypeKnown, IsPaired, IsLeafListed, IsInSimpleSyntax}
 use Rattle.rng_model.specs.names.NameViews.{class_of}
 use Rattle.rng_model.specs.declared.name.NameClass.{NameClass}
 use Rattle.rng_model.specs.declared.simple.PatternId.{PatternId}
@@ -115,14 +115,15 @@ module _ (l : Labels) (rs : List Row) (rows : AreRows l rs) (contents : List ℕ
     all_elements : (P : NameClass × PatternId → Type 0) → ((n : ℕ) (e : NameClass × PatternId) → slice_get es n ≡ Some e → P e) → All P es
     all_elements P f n d h = f n (slice_index_or es n d) (slice_get-get_or es n d h)
 
-    pub is_table : IsTable table
-    is_table = record {
+    pub is_table : All IsDatatypeKnown ps → IsTable table
+    is_table known = record {
       start = subst (λ x. x < length ps) (sym is_start) first_copied.there;
       bodies = all_elements (λ e. e.1.0 < length ps) (λ n e is. (element_body n e is).there);
       falls = are.falls;
       listed = subst (λ n. All (IsLeafListed n) ps) (sym copies.count) are.leaves;
       paired = are.paired;
       paired_elements = all_elements (λ e. IsPaired e.0) (λ n e is. (element_copy n e is).paired);
+      datatypes = known;
     }
 
     -- what is copied is in the simple syntax

@@ -2,15 +2,13 @@
 use Rattle.std.proofs.Common.{inl, inr, sym, subst, arith, ℕ, ◌≤◌}
 use Rattle.std.proofs.lemmas.Bool.{cases_lt}
 use Rattle.rng_model.specs.schema.Least.{IsLeast}
-use Rattle.rng_model.specs.schema.Schema.{Schema, IsWellPlaced}
+use Rattle.rng_model.specs.schema.Schema.{Schema}
 use Rattle.rng_model.specs.schema.SchemaClauses.{BreaksSchemaClause, BreaksExpansion, BreaksDepth}
 use Rattle.rng_model.specs.schema.SchemaClauses as clauses
 use Rattle.rng_model.specs.declared.fault.SchemaFault.{SchemaFault}
 use Rattle.rng_model.specs.declared.fault.SchemaFault.TheVariants as faults
 use Rattle.rng_schema_checks.specs.plain.Judged.{IsComponentFault, last_clause}
 use Rattle.rng_graph.specs.views.ExpansionOrder.{IsExpansionFault}
-use Rattle.rng_graph.specs.plain.ReadySchema.{IsReady}
-use Rattle.rng_graph.proofs.ReadySchemas.{ready}
 use Rattle.rng_model.specs.simple.SimplifiedSchema.{IsSchemaFault}
 
 -- no clause of components is broken
@@ -18,9 +16,6 @@ abbrev pub KeepsComponents : Schema → Type 0
 KeepsComponents s = (clause : ℕ) → clause ≤ last_clause → ¬ (BreaksSchemaClause s clause)
 
 module _ (s : Schema) where
-  pub is_ready : IsWellPlaced s → KeepsComponents s → IsReady s
-  is_ready placed keeps = ready s placed (λ b. keeps 14 (omega arith) (clauses.without_start b)) (λ b. keeps 15 (omega arith) (clauses.in_ref b))
-
   pub none_is_broken : KeepsComponents s → (¬ (BreaksExpansion s)) × (¬ (BreaksDepth s)) → (clause : ℕ) → ¬ (BreaksSchemaClause s clause)
   none_is_broken keeps kept clause (clauses.in_name_class c) = keeps 11 (omega arith) (clauses.in_name_class c)
   none_is_broken keeps kept clause (clauses.in_datatype c) = keeps 12 (omega arith) (clauses.in_datatype c)

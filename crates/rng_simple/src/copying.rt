@@ -1,5 +1,5 @@
 // Rows, with new numbers, in the tables of a grammar.
-ghost use Rattle.std.specs.Prelude.{◌≡◌, ◌<◌, ◌^◌, ◌++◌, ℕ, filter, length, slice_get, string_bytes, true, IfOk, OnOk, Some};
+ghost use Rattle.std.specs.Prelude.{◌≡◌, ◌<◌, ◌++◌, ℕ, filter, length, slice_get, string_bytes, true, IfOk, OnOk, Some};
 ghost use Rattle.rng_model.specs.simple.Table.{IsPaired};
 ghost use Rattle.rng_model.specs.datatypes.DatatypeViews.{datatype_of};
 ghost use Rattle.rng_model.specs.names.NameViews.{class_of};
@@ -141,7 +141,6 @@ pub fn copied_rows(
         AllChildren (λ a. slice_get reached.now a ≡ Some true) r }
     ensures copied { IfOk result (λ copied. AreCopied (finished_labels table.now) table.now.rows.items reached.now (length table.now.rows.items)
         copied.places.items copied.patterns.items copied.listed.items) }
-    ensures few { IfOk result (λ copied. length copied.patterns.items < 2 ^ 64) }
 {
     let mut places = Vec::with_capacity(alloc, reached.len())?;
     let mut patterns = Vec::with_capacity(alloc, reached_count(reached))?;

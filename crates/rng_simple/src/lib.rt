@@ -18,5 +18,4 @@ mod simple_parts;
 mod simple_rows;
 mod worklist;
 
-pub use schema_form::simple_grammar;
-pub use schema_simplification::simplify_schema;
+pub use schema_simplification::simplify;

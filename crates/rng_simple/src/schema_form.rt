@@ -1,9 +1,10 @@
 // The simple form of a graph.
-ghost use Rattle.std.specs.Prelude.{◌≡◌, ◌<◌, ◌^◌, length, map, take, slice_get, All, IfOk, Some};
+ghost use Rattle.std.specs.Prelude.{◌≡◌, ◌<◌, length, map, slice_get, All, IfOk, Some};
 ghost use Rattle.rng_model.specs.names.Names as names;
-ghost use Rattle.rng_model.specs.simple.Table.{AreToldApart, IsInSimpleSyntax, IsPaired, grammar_of};
+ghost use Rattle.rng_model.specs.simple.Table.{AreToldApart, Falls, IsDatatypeKnown, IsInSimpleSyntax, IsPaired, IsTable, grammar_of};
 ghost use Rattle.rng_model.specs.names.NameViews.{class_of};
 ghost use Rattle.rng_model.specs.schema.Schema.{Schema};
+ghost use Rattle.rng_model.specs.schema.SchemaClauses.{BreaksDatatype};
 ghost use Rattle.rng_model.specs.simple.SchemaForm.{IsOnlySimpleGrammarOf, IsSimpleGrammarOf};
 ghost use Rattle.rng_graph.specs.views.ExpansionOrder.{IsGraphOfSchema, IsWholeOrder};
 ghost use Rattle.rng_graph.specs.plain.Graph.{IsOrderBy, Mentions};
@@ -12,6 +13,7 @@ ghost use Rattle.rng_graph.specs.plain.InTwos.{nested as nested_tree};
 ghost use Rattle.rng_simple.specs.views.GrammarElements.{AreElementCopies};
 ghost use Rattle.rng_model.specs.simple.SimplifiedSchema.{AreAllUsed};
 ghost use Rattle.rng_simple.specs.plain.MadeTable.{IsMadeTable};
+ghost use Rattle.rng_simple.specs.views.GrammarTables.{table_of};
 
 use crate::copying::copied_rows;
 use crate::name_class::nested;
@@ -20,42 +22,57 @@ use crate::row_table::RowTable;
 use crate::simple_parts::row_of;
 use crate::simple_rows::{content_rows, definition_rows};
 use rng_graph::Graph;
-use rng_model::{NameClass, OutOfMemory, PatternId, SimpleGrammar};
+use rng_model::{NameClass, OutOfMemory, PatternId, Simple, SimpleGrammar};
 use std::alloc::{AllocError, Global};
 
-/// The simple form of the schema whose graph this is, by the rules of sections 4.12 to 4.21 of the RELAX NG Specification. The
+/// The tables of a simple grammar.
+#[derive(Drop)]
+struct GrammarTables {
+    patterns: Vec<Simple>,
+    elements: Vec<(NameClass, PatternId)>,
+    start: PatternId,
+}
+
+/// The simple form of the schema whose graph this is, and whose datatypes are known, by the rules of sections 4.12 to 4.21 of the RELAX NG Specification. The
 /// order has all definitions, each after those that its body mentions outside elements.
 ///
 /// The answer is in the simple syntax of section 5, and it is the only simple form of the schema, up to the numbers of its
 /// elements. Each definition and each element is simplified once, equal patterns have one number, and elements that the start
 /// does not reach are not in it. The only fault is want of memory. Takes time and memory in proportion to the graph, but for
 /// hashing, and recurses as deep as a single body nests. The graph and the order are let go of before the grammar is made.
-pub fn simple_grammar(
+pub(crate) fn simple_grammar(
     alloc: Global,
     graph: Graph<'_>,
     order: Vec<usize>,
 ) -> Result<SimpleGrammar, OutOfMemory>
-    requires { IsWholeOrder (graph_of graph) order.items }
+    requires order { IsWholeOrder (graph_of graph) order.items }
+    requires datatypes { (s : Schema) × IsGraphOfSchema s graph × ¬ (BreaksDatatype s) }
     ensures syntax { IfOk result (λ h. IsInSimpleSyntax (grammar_of h)) }
     ensures used { IfOk result AreAllUsed }
     ensures apart { IfOk result AreToldApart }
-    ensures few { IfOk result (λ h. length h.patterns < 2 ^ 64) }
     ensures simple_form { IfOk result (λ h. (s : Schema) → IsGraphOfSchema s graph.entry → IsSimpleGrammarOf s (grammar_of h)) }
     ensures only { IfOk result (λ h. (s : Schema) → IsGraphOfSchema s graph.entry → IsOnlySimpleGrammarOf s (grammar_of h)) }
 {
-    Ok(made_grammar(alloc, graph, order)?)
+    let tables = made_tables(alloc, graph, order)?;
+    Ok(SimpleGrammar::new(
+        tables.patterns,
+        tables.elements,
+        tables.start,
+    ))
 }
 
-/// The grammar of a graph whose definitions are taken in this order. Once all is in rows, of the graph only the name classes of
+/// The tables of the grammar of a graph whose definitions are taken in this order. Once all is in rows, of the graph only the name classes of
 /// its elements are kept.
-fn made_grammar(
+fn made_tables(
     alloc: Global,
     graph: Graph<'_>,
     order: Vec<usize>,
-) -> Result<SimpleGrammar, AllocError>
+) -> Result<GrammarTables, AllocError>
     requires order { IsOrderBy (Mentions (graph_of graph)) order.items }
     requires within { All (λ j. j < length (graph_of graph).bodies) order.items }
-    ensures { IfOk result (IsMadeTable (classes_of graph.entry) (graph_of graph.entry) order.items) }
+    ensures made { IfOk result (λ t. IsMadeTable (classes_of graph.entry) (graph_of graph.entry) order.items (table_of t)) }
+    ensures falls { IfOk result (λ t. Falls t.patterns.items) }
+    ensures table { IfOk result (λ t. All IsDatatypeKnown t.patterns.items → IsTable (table_of t)) }
 {
     let mut table = RowTable::new(alloc)?;
     let definitions = definition_rows(alloc, &mut table, &graph, order.as_slice())?;
@@ -76,7 +93,11 @@ fn made_grammar(
         copied.listed.as_slice(),
     )?;
     let start = PatternId(row_of(places, first));
-    Ok(SimpleGrammar::new(copied.patterns, elements, start))
+    Ok(GrammarTables {
+        patterns: copied.patterns,
+        elements,
+        start,
+    })
 }
 
 /// The name class of each element of a graph.

@@ -1,12 +1,10 @@
 // From a schema to its simple form.
-ghost use Rattle.std.specs.Prelude.{ℕ, ◌<◌, ◌^◌, length, IfErr, IfOk, OnOk};
+ghost use Rattle.std.specs.Prelude.{ℕ, IfErr, IfOk, OnOk};
 ghost use Rattle.rng_load.specs.views.PlacedGrammars.{schema_of};
-ghost use Rattle.rng_model.specs.schema.Schema.{IsWellPlaced};
 ghost use Rattle.rng_model.specs.schema.SchemaClauses.{BreaksSchemaClause};
 ghost use Rattle.rng_model.specs.simple.SchemaForm.{IsOnlySimpleGrammarOf, IsSimpleGrammarOf};
 ghost use Rattle.rng_model.specs.matching.SchemaMatching.{AreSameDocuments};
 ghost use Rattle.rng_model.specs.simple.Table.{AreToldApart, IsInSimpleSyntax, grammar_of};
-ghost use Rattle.rng_model.specs.datatypes.KnownDatatypes.{AreGrammarDatatypesKnown};
 ghost use Rattle.rng_model.specs.simple.SimplifiedSchema.{AreAllUsed, IsSchemaFault};
 
 use crate::schema_form::simple_grammar;
@@ -27,16 +25,13 @@ use std::alloc::Global;
 /// `Memory` only for want of it.
 ///
 /// Takes time and memory in proportion to the schema, but for hashing, and recurses as deep as one component nests.
-pub fn simplify_schema(alloc: Global, schema: &Schema) -> Result<SimpleGrammar, SchemaFault>
-    requires { IsWellPlaced (schema_of schema.now) }
+pub fn simplify(alloc: Global, schema: &Schema) -> Result<SimpleGrammar, SchemaFault>
     ensures syntax { IfOk result (λ g. IsInSimpleSyntax (grammar_of g)) }
     ensures used { IfOk result AreAllUsed }
     ensures apart { IfOk result AreToldApart }
-    ensures few { IfOk result (λ g. length g.patterns < 2 ^ 64) }
     ensures simple_form { IfOk result (λ g. IsSimpleGrammarOf (schema_of schema.now) (grammar_of g)) }
     ensures only { IfOk result (λ g. IsOnlySimpleGrammarOf (schema_of schema.now) (grammar_of g)) }
     ensures documents { IfOk result (λ g. AreSameDocuments (schema_of schema.now) (grammar_of g)) }
-    ensures datatypes { IfOk result (λ g. AreGrammarDatatypesKnown (grammar_of g)) }
     ensures kept { OnOk result ((clause : ℕ) → ¬ (BreaksSchemaClause (schema_of schema.now) clause)) }
     ensures broken { IfErr result (IsSchemaFault (schema_of schema.now)) }
 {

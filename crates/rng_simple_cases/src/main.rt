@@ -16,7 +16,7 @@ use case_rows::{Row, files_of, rows};
 use forms::{print_form, print_size};
 use rng_load::load;
 use rng_model::{SchemaFault, SimpleGrammar};
-use rng_simple::simplify_schema;
+use rng_simple::simplify;
 use std::alloc::Global;
 use std::io;
 
@@ -46,5 +46,5 @@ fn simplified(
     main: &str,
 ) -> Result<SimpleGrammar, SchemaFault> {
     let schema = load(alloc, files, main)?;
-    simplify_schema(alloc, &schema)
+    simplify(alloc, &schema)
 }

@@ -8,7 +8,6 @@ use Rattle.rng_model.specs.schema.Schema as schema
 use Rattle.rng_model.specs.views.SchemaView.{place_of, schema_component_of}
 use Rattle.rng_model.specs.declared.place.Place.{Place}
 use Rattle.rng_load.specs.declared.schema.Grammar.{Grammar}
-use Rattle.rng_load.specs.declared.schema.Schema.{Schema}
 
 -- the components of a grammar, and the place of the one around it
 pub record PlacedGrammar : Type 0 where
@@ -21,9 +20,12 @@ PlacedGrammars = List (pattern.Place × PlacedGrammar)
 abbrev pub grammar_of : Grammar → PlacedGrammar
 grammar_of g = record { components = map schema_component_of g.components.items; outer = option_map place_of g.outer }
 
+abbrev pub placed_grammars : List (Place × Grammar) → PlacedGrammars
+placed_grammars entries = map (λ e. (place_of e.0, grammar_of e.1)) entries
+
 module _ {S : Type 0} where
   abbrev pub grammars_of : IndexMap Place Grammar S → PlacedGrammars
-  grammars_of grammars = map (λ e. (place_of e.0, grammar_of e.1)) grammars.entries
+  grammars_of grammars = placed_grammars grammars.entries
 
 -- the grammar at a place
 abbrev pub grammar_at : PlacedGrammars → pattern.Place → Option PlacedGrammar
@@ -41,5 +43,10 @@ schema_with main gs = record {
   outer = λ x. outer_if (grammar_at gs x);
 }
 
-abbrev pub schema_of : Schema → schema.Schema
-schema_of s = schema_with (place_of s.main) (grammars_of s.grammars)
+-- what the code keeps of a schema: the place of the main grammar, and each grammar with its place
+pub record SchemaEntries : Type 0 where
+  pub main : Place
+  pub grammars : List (Place × Grammar)
+
+abbrev pub schema_of : SchemaEntries → schema.Schema
+schema_of s = schema_with (place_of s.main) (placed_grammars s.grammars)

@@ -1,5 +1,5 @@
 -- What the simplification of a schema has to answer.
-use Rattle.std.specs.Prelude.{ℕ, ◌<◌, ◌^◌, List, length}
+use Rattle.std.specs.Prelude.{ℕ, List}
 use Rattle.rng_model.specs.names.Names.{NameClass}
 use Rattle.rng_model.specs.simple.Table.{AreToldApart, Table, grammar_of, IsInSimpleSyntax}
 use Rattle.rng_graph.specs.plain.Graph.{Graph}
@@ -12,4 +12,3 @@ pub record IsMadeTable (classes : List NameClass) (g : Graph) (order : List ℕ)
   pub syntax : IsInSimpleSyntax (grammar_of t)
   pub used : AreAllUsed t
   pub apart : AreToldApart t
-  pub few : length t.patterns < 2 ^ 64

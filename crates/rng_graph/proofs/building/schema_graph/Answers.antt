@@ -5,6 +5,7 @@ use Rattle.rng_graph.specs.views.ComponentTable.{table_of}
 use Rattle.rng_graph.specs.views.Definitions.{definition_of, numbering_of}
 use Rattle.rng_graph.specs.views.GraphView.{graph_body_of}
 use Rattle.rng_graph.proofs.GraphSteps.{IsGraphSoFar, started}
+use Rattle.rng_graph.proofs.ReadySchemas.{ready}
 use Rattle.rng_graph.proofs.SchemaGraphs.{built, ends_before, room, step}
 use Rattle.rng_graph.proofs.building.schema_graph.Goals as goal
 
@@ -12,28 +13,28 @@ pub definitions-init : goal.definitions-init
 definitions-init c =
     let v = numbering_of c.in_ok-numbering.numbering in
     subst (λ bodies. IsGraphSoFar (schema_of c.args.schema.now) v (map graph_body_of bodies)) (sym c.in_ok-bodies.ensures.items)
-    (started (schema_of c.args.schema.now) c.requires v (ap (λ v. v.definitions) c.in_ok-numbering.ensures
-    ∙ ap (λ z. record { place = z; name = None } ∷ []) c.main.ensures) (ap (λ v. v.elements) c.in_ok-numbering.ensures))
+    (started (schema_of c.args.schema.now) (ready (schema_of c.args.schema.now) c.main.ensures.placed c.requires.starts c.requires.refs) v (ap (λ v. v.definitions) c.in_ok-numbering.ensures
+    ∙ ap (λ z. record { place = z; name = None } ∷ []) c.main.ensures.main) (ap (λ v. v.elements) c.in_ok-numbering.ensures))
 
 pub definitions-smaller : goal.definitions-smaller
 definitions-smaller c =
     let here : slice_get c.definitions.numbering.definitions.keys (length c.definitions.bodies.items) ≡ Some c.in-Some.definition.now = search rules in
     let grown : length c.push.new.self.items ≡ length c.definitions.bodies.items + 1 =
     ap length c.in_ok-push.ensures.items ∙ length-append c.definitions.bodies.items (c.in_ok-body.field-0 ∷ []) in
-    let less = room (schema_of c.args.schema.now) c.requires (table_of c.in_ok-table.table) c.in_ok-table.ensures.table c.in_ok-table.ensures.components
+    let less = room (schema_of c.args.schema.now) (ready (schema_of c.args.schema.now) c.main.ensures.placed c.requires.starts c.requires.refs) (table_of c.in_ok-table.table) c.in_ok-table.ensures.table c.in_ok-table.ensures.components
     c.definitions.numbering c.definitions.bodies.items c.in-Some.definition.now c.definitions.invariant here in
     omega (arith, less, grown)
 
 pub definitions-preserved : goal.definitions-preserved
 definitions-preserved c =
     let here : slice_get c.definitions.numbering.definitions.keys (length c.definitions.bodies.items) ≡ Some c.in-Some.definition.now = search rules in
-    step (schema_of c.args.schema.now) c.requires c.definitions.numbering c.definitions.bodies.items c.in-Some.definition.now c.definitions.invariant here
+    step (schema_of c.args.schema.now) (ready (schema_of c.args.schema.now) c.main.ensures.placed c.requires.starts c.requires.refs) c.definitions.numbering c.definitions.bodies.items c.in-Some.definition.now c.definitions.invariant here
     c.body.new.numbering c.in_ok-body.field-0 c.push.new.self.items c.in_ok-body.ensures.body c.in_ok-body.ensures.numbering c.in_ok-push.ensures.items
 
 pub returns : goal.returns
 returns c =
     let none : slice_get c.definitions.numbering.definitions.keys (length c.definitions.bodies.items) ≡ None = search rules in
-    built (schema_of c.args.schema.now) c.requires c.definitions.numbering (map graph_body_of c.definitions.bodies.items) c.definitions.invariant
+    built (schema_of c.args.schema.now) (ready (schema_of c.args.schema.now) c.main.ensures.placed c.requires.starts c.requires.refs) c.definitions.numbering (map graph_body_of c.definitions.bodies.items) c.definitions.invariant
     (omega (
       arith,
       ends_before c.definitions.numbering.definitions.keys (length c.definitions.bodies.items) none,

@@ -4,7 +4,6 @@ use Rattle.rnc_model.specs.loading.Files.{named_files}
 use Rattle.rng_load.specs.views.FilesView.{taken_files_of}
 use Rattle.rng_load.proofs.BrokenIncludes.{tree_of_name}
 use Rattle.rng_load.proofs.LoadedFiles.{can_be_read, found_some, main_is_there}
-use Rattle.rng_load.proofs.WellPlaced.{well_placed}
 use Rattle.rng_load.proofs.loading.load.Goals as goal
 
 pub unwrap-tree-requires : goal.unwrap-tree-requires
@@ -22,8 +21,8 @@ schema_of_files-requires c =
           (file_of c.unwrap-tree.result.now) is;
     }
 
-pub returns-clause-loaded : goal.returns-clause-loaded
-returns-clause-loaded c =
+pub returns : goal.returns
+returns c =
     let found = tree_of_name c.in_ok-trees.trees.entries c.args.main.now c.get.result c.get.ensures.value in
     let is = sym found ∙ ap (option_map (λ t. file_of t.now)) c.unwrap-tree.ensures in (
       taken_files_of c.in_ok-trees.trees,
@@ -34,6 +33,3 @@ returns-clause-loaded c =
         is = c.in_ok-schema_of_files.ensures;
       },
     )
-
-pub returns-clause-placed : goal.returns-clause-placed
-returns-clause-placed c = well_placed _ _ _ c.in_ok-schema_of_files.ensures

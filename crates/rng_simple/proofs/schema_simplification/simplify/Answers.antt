@@ -2,14 +2,16 @@ use Rattle.std.proofs.Common.{arith}
 use Rattle.std.proofs.lemmas.Result.{err_from_is_err_and}
 use Rattle.rng_load.specs.views.PlacedGrammars.{schema_of}
 use Rattle.rng_model.specs.simple.Table.{grammar_of}
-use Rattle.rng_model.specs.schema.SchemaClauses.{in_datatype}
-use Rattle.rng_simple.proofs.KnownDatatypes.{grammar_known}
+use Rattle.rng_model.specs.schema.SchemaClauses.{in_datatype, in_ref, without_start}
 use Rattle.rng_simple.proofs.SchemaDocuments.{same_documents}
-use Rattle.rng_simple.proofs.SimplifiedSchemas.{component_fault, expansion_fault, is_ready, none_is_broken}
-use Rattle.rng_simple.proofs.schema_simplification.simplify_schema.Goals as goal
+use Rattle.rng_simple.proofs.SimplifiedSchemas.{component_fault, expansion_fault, none_is_broken}
+use Rattle.rng_simple.proofs.schema_simplification.simplify.Goals as goal
 
-pub schema_graph-requires : goal.schema_graph-requires
-schema_graph-requires c = is_ready (schema_of c.args.schema.now) c.requires c.in_ok-check_components.ensures
+pub schema_graph-requires-clause-starts : goal.schema_graph-requires-clause-starts
+schema_graph-requires-clause-starts c = λ b. c.in_ok-check_components.ensures 14 (omega arith) (without_start b)
+
+pub schema_graph-requires-clause-refs : goal.schema_graph-requires-clause-refs
+schema_graph-requires-clause-refs c = λ b. c.in_ok-check_components.ensures 15 (omega arith) (in_ref b)
 
 pub returns-in_err-order-clause-broken : goal.returns-in_err-order-clause-broken
 returns-in_err-order-clause-broken c =
@@ -36,7 +38,6 @@ returns-clause-kept c =
     none_is_broken (schema_of c.args.schema.now) c.in_ok-check_components.ensures
     (c.in_ok-order.ensures.kept (schema_of c.args.schema.now) c.in_ok-graph.ensures)
 
-pub returns-clause-datatypes : goal.returns-clause-datatypes
-returns-clause-datatypes c =
-    grammar_known (schema_of c.args.schema.now) (λ b. c.in_ok-check_components.ensures 12 (omega arith) (in_datatype b))
-    (grammar_of c.in_ok-simple_grammar.field-0) (c.in_ok-simple_grammar.ensures.simple_form (schema_of c.args.schema.now) c.in_ok-graph.ensures)
+pub simple_grammar-requires-clause-datatypes : goal.simple_grammar-requires-clause-datatypes
+simple_grammar-requires-clause-datatypes c =
+    (schema_of c.args.schema.now, c.in_ok-graph.ensures, λ b. c.in_ok-check_components.ensures 12 (omega arith) (in_datatype b))

@@ -8,7 +8,6 @@ use Rattle.rng_simple.specs.plain.RowReach.{row_next, content_of}
 use Rattle.rng_simple.specs.views.RowTable.{finished_labels, labels_of, tree_of}
 use Rattle.rng_simple.specs.views.Rows.{AreDistinctRows, AreRows}
 use Rattle.rng_simple.specs.plain.SimpleParts.{AreRowsBelow, values_in}
-use Rattle.rng_simple.specs.plain.MadeTable.{IsMadeTable}
 use Rattle.rng_simple.specs.plain.Worklist.{IsReachedBy}
 use Rattle.rng_simple.proofs.GrammarElements.{copies_as}
 use Rattle.rng_simple.proofs.MadeGrammar.{closed, is_table, is_simple, is_made}
@@ -16,7 +15,7 @@ use Rattle.rng_simple.proofs.RowCopies.{index_apart}
 use Rattle.rng_simple.proofs.SimpleParts.{stay_below}
 use Rattle.rng_simple.proofs.ToldApart.{patterns_apart}
 use Rattle.rng_simple.proofs.UsedPatterns.{all_used}
-use Rattle.rng_simple.proofs.schema_form.made_grammar.Goals as goal
+use Rattle.rng_simple.proofs.schema_form.made_tables.Goals as goal
 
 pub copied_rows-requires-clause-closed : goal.copied_rows-requires-clause-closed
 copied_rows-requires-clause-closed c =
@@ -51,8 +50,8 @@ copied_rows-requires-clause-apart c =
     let u = c.content_rows.new.table in
     subst AreDistinctRows (sym c.finished-rows.ensures.rows) (index_apart u.rows.items u.numbers c.in_ok-contents.ensures.grown.table.index)
 
-pub new-requires-2 : goal.new-requires-2
-new-requires-2 c =
+pub returns-clause-table : goal.returns-clause-table
+returns-clause-table c =
     let t = c.definition_rows.new.table in
     let u = c.content_rows.new.table in
     let rs = u.rows.items in
@@ -86,8 +85,8 @@ new-requires-2 c =
     is_table (labels_of u) rs grown.table.rows contents below first first_below reached marks
     places listed ps copied classes es copies _ is_start
 
-pub returns : goal.returns
-returns c =
+pub returns-clause-made : goal.returns-clause-made
+returns-clause-made c =
     let t = c.definition_rows.new.table in
     let u = c.content_rows.new.table in
     let rs = u.rows.items in
@@ -125,7 +124,7 @@ returns c =
     let bodies : (k : ℕ) → tree_of u (content_of contents k) ≡ content_simple g values k = λ k.
     ap (λ xs. tree_of u (slice_index_or xs k 0)) c.as_slice-4.ensures.value ∙ c.in_ok-contents.ensures.contents k
     ∙ ap (λ ds. content_simple g (values_in t ds) k) c.as_slice-2.ensures.value in
-    subst (IsMadeTable classes g c.args.order.items) (sym c.new-2.ensures) (record {
+    record {
       made = record {
         values = values;
         filled = subst (IsFilledBy g (spot_simple values) values) c.as_slice.ensures.value c.in_ok-definitions.ensures.filled;
@@ -138,5 +137,7 @@ returns c =
       used = all_used (labels_of u) rs grown.table.rows contents below first first_below reached marks
           places listed ps copied classes es copies _ is_start;
       apart = patterns_apart u grown.table reached places ps listed copied;
-      few = c.in_ok-copied.ensures.few;
-    })
+    }
+
+pub returns-clause-falls : goal.returns-clause-falls
+returns-clause-falls c = c.in_ok-copied.ensures.copied.falls

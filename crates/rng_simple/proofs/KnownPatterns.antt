@@ -1,0 +1,58 @@
+-- Tables of which each pattern is used name known datatypes alone, where the grammar that they stand for does.
+use Rattle.std.proofs.Common.{ℕ, List, [], ◌∷◌, subst, length, get_or, All}
+use Rattle.std.proofs.lemmas.List.Elements.{All-from_get_or, All-head, All-tail}
+use Rattle.std.proofs.lemmas.Option.{slice_get-get_or}
+use Rattle.rng_model.specs.simple.Tree.{Simple}
+use Rattle.rng_model.specs.datatypes.Datatypes.{AreDatatypesKnown}
+use Rattle.rng_model.specs.datatypes.KnownDatatypes.{AreGrammarDatatypesKnown}
+use Rattle.rng_model.specs.names.Lists.{Among, here, there}
+use Rattle.rng_model.specs.restrictions.Restrictions as restrictions
+use Rattle.rng_model.specs.restrictions.Restrictions.{IsPart, StandsIn, the_start, a_body}
+use Rattle.rng_model.specs.simple.SimplifiedSchema.{AreAllUsed}
+use Rattle.rng_model.specs.simple.Table.{Falls, Grammar, IsDatatypeKnown, Table, grammar_of, tree_at, tree_over}
+use Rattle.rng_model.specs.declared.simple.PatternId.{PatternId}
+use Rattle.rng_model.specs.declared.simple.Simple as declared
+use Rattle.rng_model.specs.declared.simple.Simple.TheVariants as simple
+use Rattle.rng_model.proofs.Table.{tree_at-over_children}
+
+-- what is in a tree whose datatypes are known is such a tree
+known_inside : {q p : Simple ℕ} → StandsIn q p → AreDatatypesKnown p → AreDatatypesKnown q
+known_inside restrictions.itself h = h
+known_inside (restrictions.in_attribute i) h = known_inside i h
+known_inside (restrictions.in_list i) h = known_inside i h
+known_inside (restrictions.in_except i) h = known_inside i h.1
+known_inside (restrictions.in_one_or_more i) h = known_inside i h
+known_inside (restrictions.in_left i) h = known_inside i h.0
+known_inside (restrictions.in_right i) h = known_inside i h.1
+
+all_among : {A : Type 0} (P : A → Type 0) {x : A} {xs : List A} → Among x xs → All P xs → P x
+all_among P (here {xs}) h = All-head P _ xs h
+all_among P (there {y} {xs} i) h = all_among P i (All-tail P y xs h)
+
+part_known : {g : Grammar} {p : Simple ℕ} → IsPart g p → AreGrammarDatatypesKnown g → AreDatatypesKnown p
+part_known the_start h = h.start
+part_known (a_body i) h = all_among (λ e. AreDatatypesKnown e.1) i h.bodies
+
+-- the datatype of a pattern is known, where those of its tree are
+pattern_known : (of : PatternId → Simple ℕ) (p : declared.Simple) → AreDatatypesKnown (tree_over of p) → IsDatatypeKnown p
+pattern_known of simple.NotAllowed h = tt
+pattern_known of simple.Empty h = tt
+pattern_known of simple.Text h = tt
+pattern_known of (simple.Element e) h = tt
+pattern_known of (simple.Attribute class body) h = tt
+pattern_known of (simple.List body) h = tt
+pattern_known of (simple.Data datatype) h = h
+pattern_known of (simple.DataExcept datatype except) h = h.0
+pattern_known of (simple.Value value) h = h.0
+pattern_known of (simple.OneOrMore body) h = tt
+pattern_known of (simple.Group a b) h = tt
+pattern_known of (simple.Interleave a b) h = tt
+pattern_known of (simple.Choice a b) h = tt
+
+pub patterns_known : (t : Table) → Falls t.patterns → AreAllUsed t → AreGrammarDatatypesKnown (grammar_of t) → All IsDatatypeKnown t.patterns
+patterns_known t falls used known = All-from_get_or IsDatatypeKnown t.patterns simple.NotAllowed (λ i h.
+    let p = get_or t.patterns i simple.NotAllowed in
+    let id : PatternId = record { 0 = i } in
+    let u = used i h in
+    let tree = tree_at-over_children t.patterns id p falls (slice_get-get_or t.patterns i simple.NotAllowed h) in
+    pattern_known (tree_at t.patterns) p (subst AreDatatypesKnown tree (known_inside u.2 (part_known u.1 known))))
