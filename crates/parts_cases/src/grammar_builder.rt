@@ -1,7 +1,7 @@
 // Grammars, built of what fits.
 ghost use Rattle.std.specs.Prelude.{All, IfSome};
 ghost use Rattle.std.specs.Bool.{OnTrue};
-ghost use Rattle.rng_model.specs.simple.Table.{AreChildrenBelow, IsClassPaired, IsLeafListed, IsPaired};
+ghost use Rattle.rng_model.specs.simple.Table.{AreChildrenBelow, IsClassPaired, IsDatatypeKnown, IsLeafListed, IsPaired};
 ghost use Rattle.rng_tree_matcher.specs.plain.FirstKind.{IsOfFirstKind};
 
 use rng_model::{NameClass, PatternId, Simple, SimpleGrammar};
@@ -19,7 +19,7 @@ pub struct GrammarBuilder {
 
 impl Model for GrammarBuilder {
     ghost use Rattle.std.specs.Prelude.{◌<◌, ℕ, List, length, All};
-    ghost use Rattle.rng_model.specs.simple.Table.{Falls, IsClassPaired, IsLeafListed, IsPaired};
+    ghost use Rattle.rng_model.specs.simple.Table.{Falls, IsClassPaired, IsDatatypeKnown, IsLeafListed, IsPaired};
     ghost use Rattle.rng_tree_matcher.specs.plain.FirstKind.{IsOfFirstKind};
     ghost use Rattle.rng_model.specs.declared.simple.Simple.{Simple};
     ghost use Rattle.rng_model.specs.declared.simple.PatternId.{PatternId};
@@ -35,7 +35,7 @@ impl Model for GrammarBuilder {
 
     ghost invariant = { λ d. Falls d.patterns.items × All (IsLeafListed d.count) d.patterns.items
         × All (λ e. e.1.0 < length d.patterns.items) d.elements.items × All IsClassPaired d.patterns.items
-        × All (λ e. IsPaired e.0) d.elements.items × All IsOfFirstKind d.patterns.items };
+        × All (λ e. IsPaired e.0) d.elements.items × All IsOfFirstKind d.patterns.items × All IsDatatypeKnown d.patterns.items };
 }
 
 impl GrammarBuilder {
@@ -111,6 +111,7 @@ fn fits(pattern: &Simple, next: usize, count: usize) -> bool
     ensures inside { OnTrue result (AreChildrenBelow next pattern.now × IsLeafListed count pattern.now) }
     ensures paired { OnTrue result (IsClassPaired pattern.now) }
     ensures kind { OnTrue result (IsOfFirstKind pattern.now) }
+    ensures known { OnTrue result (IsDatatypeKnown pattern.now) }
 {
     match pattern {
         Simple::NotAllowed | Simple::Empty | Simple::Text => true,

@@ -1,8 +1,11 @@
 // Grammars, built of what fits.
 ghost use Rattle.std.specs.Bool.{OnTrue};
-ghost use Rattle.rng_model.specs.simple.Table.{AreChildrenBelow, IsClassPaired, IsLeafListed, IsPaired};
+ghost use Rattle.rng_model.specs.datatypes.Datatypes.{IsKnownDatatype};
+ghost use Rattle.rng_model.specs.simple.Table.{AreChildrenBelow, IsClassPaired, IsDatatypeKnown, IsLeafListed, IsPaired};
+ghost use Rattle.rng_types.specs.views.View.{datatype_at};
 
 use rng_model::{NameClass, PatternId, Simple, SimpleGrammar};
+use rng_types::Builtin;
 use std::alloc::Global;
 use std::marker::Model;
 
@@ -17,7 +20,7 @@ pub struct GrammarBuilder {
 
 impl Model for GrammarBuilder {
     ghost use Rattle.std.specs.Prelude.{◌<◌, ℕ, List, length, All};
-    ghost use Rattle.rng_model.specs.simple.Table.{Falls, IsClassPaired, IsLeafListed, IsPaired};
+    ghost use Rattle.rng_model.specs.simple.Table.{Falls, IsClassPaired, IsDatatypeKnown, IsLeafListed, IsPaired};
     ghost use Rattle.rng_model.specs.declared.simple.Simple.{Simple};
     ghost use Rattle.rng_model.specs.declared.simple.PatternId.{PatternId};
     ghost use Rattle.rng_model.specs.declared.name.NameClass.{NameClass};
@@ -30,7 +33,8 @@ impl Model for GrammarBuilder {
 
     ghost view = { λ d. (d.patterns.items, d.elements.items, d.count) };
 
-    ghost invariant = { λ d. Falls d.patterns.items × All (IsLeafListed d.count) d.patterns.items × All (λ e. e.1.0 < length d.patterns.items) d.elements.items × All IsClassPaired d.patterns.items × All (λ e. IsPaired e.0) d.elements.items };
+    ghost invariant = { λ d. Falls d.patterns.items × All (IsLeafListed d.count) d.patterns.items × All (λ e. e.1.0 < length d.patterns.items) d.elements.items × All IsClassPaired d.patterns.items × All (λ e. IsPaired e.0) d.elements.items
+        × All IsDatatypeKnown d.patterns.items };
 }
 
 impl GrammarBuilder {
@@ -98,16 +102,37 @@ fn is_paired(class: &NameClass) -> bool
     }
 }
 
-/// Whether the children of a pattern are below `next`, its ref below `count`, and its name class is paired.
+/// Whether a datatype is known, with parameters that it takes.
+fn is_known(library: &str, name: &str, parameters: &[(String, String)]) -> bool
+    ensures { OnTrue result (IsKnownDatatype (datatype_at library.now name.now parameters.now)) }
+{
+    Builtin::find(library, name, parameters).is_ok()
+}
+
+/// Whether the children of a pattern are below `next`, its ref below `count`, its name class is paired, and its datatype is known.
 fn fits(pattern: &Simple, next: usize, count: usize) -> bool
-    ensures { OnTrue result (AreChildrenBelow next pattern.now × IsLeafListed count pattern.now × IsClassPaired pattern.now) }
+    ensures tables { OnTrue result (AreChildrenBelow next pattern.now × IsLeafListed count pattern.now × IsClassPaired pattern.now) }
+    ensures known { OnTrue result (IsDatatypeKnown pattern.now) }
 {
     match pattern {
-        Simple::NotAllowed | Simple::Empty | Simple::Text | Simple::Data(_) | Simple::Value(_) =>
-            true,
+        Simple::NotAllowed | Simple::Empty | Simple::Text => true,
+        Simple::Data(datatype) => is_known(
+            datatype.library.as_str(),
+            datatype.name.as_str(),
+            &datatype.parameters,
+        ),
+        Simple::Value(value) => is_known(value.library.as_str(), value.name.as_str(), &[]),
         Simple::Element(element) => element.0 < count,
         Simple::Attribute(class, body) => body.0 < next && is_paired(class),
-        Simple::List(body) | Simple::DataExcept(_, body) | Simple::OneOrMore(body) => body.0 < next,
+        Simple::DataExcept(datatype, body) => {
+            body.0 < next
+                && is_known(
+                    datatype.library.as_str(),
+                    datatype.name.as_str(),
+                    &datatype.parameters,
+                )
+        }
+        Simple::List(body) | Simple::OneOrMore(body) => body.0 < next,
         Simple::Group(first, second)
         | Simple::Interleave(first, second)
         | Simple::Choice(first, second) => first.0 < next && second.0 < next,

@@ -89,21 +89,21 @@ fn number_of(digits: &str) -> usize {
     digits.parse::<usize>().unwrap_or(0)
 }
 
-/// A datatype with empty names.
+/// The datatype `token` of the library that is built in.
 fn some_datatype(alloc: Global) -> Result<Box<Datatype>, AllocError> {
     let datatype = Datatype {
         library: String::new(alloc),
-        name: String::new(alloc),
+        name: String::from_str(alloc, "token")?,
         parameters: Vec::new(alloc),
     };
     Ok(Box::new(alloc, datatype)?)
 }
 
-/// The empty text of a datatype with empty names.
+/// The empty text of that datatype.
 fn some_value(alloc: Global) -> Result<Simple, AllocError> {
     let value = DatatypeValue {
         library: String::new(alloc),
-        name: String::new(alloc),
+        name: String::from_str(alloc, "token")?,
         text: String::new(alloc),
     };
     Ok(Simple::Value(Box::new(alloc, value)?))

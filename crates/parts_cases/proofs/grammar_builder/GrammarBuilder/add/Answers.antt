@@ -1,6 +1,6 @@
 use Rattle.std.proofs.Common.{rules, ◌≡◌, ◌++◌, ◌∷◌, [], All, length, subst, sym}
 use Rattle.std.proofs.lemmas.List.Elements.{All-push}
-use Rattle.rng_model.specs.simple.Table.{AreChildrenBelow}
+use Rattle.rng_model.specs.simple.Table.{AreChildrenBelow, IsDatatypeKnown}
 use Rattle.rng_tree_matcher.specs.plain.FirstKind.{IsOfFirstKind}
 use Rattle.rng_model.proofs.Table.{falls_after_push}
 use Rattle.parts_cases.proofs.grammar_builder.GrammarBuilder.add.Goals as goal
@@ -10,11 +10,13 @@ invariant_of-self-else-is_err c =
     let old = c.self.inside.patterns.items in
     let more : c.push.new.self.items ≡ old ++ c.args.pattern ∷ [] = search rules in
     let below : AreChildrenBelow (length old) c.args.pattern = search rules in
-    let kind : IsOfFirstKind c.args.pattern = search rules in (
+    let kind : IsOfFirstKind c.args.pattern = search rules in
+    let known : IsDatatypeKnown c.args.pattern = search rules in (
       falls_after_push old c.push.new.self.items c.args.pattern c.self.invariant.0 more below,
       search rules,
       search rules,
       search rules,
       search rules,
       subst (All IsOfFirstKind) (sym more) (All-push IsOfFirstKind old c.args.pattern c.self.invariant.5 kind),
+      subst (All IsDatatypeKnown) (sym more) (All-push IsDatatypeKnown old c.args.pattern c.self.invariant.6 known),
     )
