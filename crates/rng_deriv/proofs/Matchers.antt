@@ -16,7 +16,8 @@ module _ (inside m : Matching) (is : inside ≡ m) where
 
   pub tells : {E : Type 0} (r : Result Outcome E)
       → IfOk r (λ o. (bytes : List ℕ) (d : Placed) → IsPyxDocument bytes d → Knows inside (events_of d) → IsOutcome (judges_by inside) d o)
-      → IfOk r (λ o. (first : Matching) (bytes : List ℕ) (d : Placed) → IsPyxDocument bytes d → HasGoneOn first m (events_of d) → IsOutcome (judges_by first) d o)
+      → IfOk r (λ o. (first : Matching) (bytes : List ℕ) (d : Placed) → IsPyxDocument bytes d → HasGoneOn first m (events_of d)
+      → IsOutcome (judges_by first) d o)
   tells (Ok o) says = λ first bytes d document gone.
       let there = subst (λ (m : Matching). HasGoneOn first m (events_of d)) (sym is) gone in
       subst (λ g. IsOutcome g d o) there.0 (says bytes d document there.1)
