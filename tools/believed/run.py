@@ -128,6 +128,11 @@ def clauses(text, start):
         said.append(text[found.end():at])
 
 
+def clauses_in(block):
+    """The clauses of all functions of a block, as one text."""
+    return "".join(" ".join(clauses(block, at.start())[0]) for at in re.finditer(r"\bfn \w+", block))
+
+
 def signature(text, start):
     """The words of a function's head, from its name to its first clause or its body."""
     end = re.compile(r"\b(?:requires|ensures)\b|\{|;").search(text, balanced(text, text.index("(", start)))
@@ -220,9 +225,7 @@ class Closure:
         text = self.crates.text(file)
         for block in blocks(text, r"\btrait %s\b[^{]*\{" % name):
             said = "".join(re.findall(r"ghost \w+:[^;]*;", block))
-            for at in re.finditer(r"\bfn \w+", block):
-                said += " ".join(clauses(block, at.start())[0])
-            self.add_names(file, words(said), f"{file}: {name}")
+            self.add_names(file, words(said + clauses_in(block)), f"{file}: {name}")
 
     def add_call(self, crate, name, *methods):
         """The contract of a public call: of a function, or of a type with its public methods, or only with these."""
@@ -246,8 +249,8 @@ class Closure:
     def add_type(self, file, text, name, methods, call):
         traits = r"(?!Model\b)\w+" if self.is_carried(f"{file}: {name}") else r"\w+"
         for block in blocks(text, r"^impl\b[^\n{]*\b%s for %s\b[^{]*\{" % (traits, name)):
-            said = words("".join(re.findall(r"ghost (?!use)[^;]*;", block)))
-            self.add_names(file, said, call)
+            said = "".join(re.findall(r"ghost (?!use)[^;]*;", block))
+            self.add_names(file, words(said + clauses_in(block)), call)
         for block in blocks(text, r"^impl(?:<[^{]*?>)? %s\b[^{]*\{" % name):
             for at in re.finditer(r"^ *pub fn (\w+)", block, re.M):
                 if methods and at[1] not in methods:

@@ -83,6 +83,22 @@ class Small(unittest.TestCase):
         self.add("crates/rng_model/specs/names/Names.antt", "use Rattle.high.specs.declared.lib.Kind.TheVariants as kinds\n")
         self.assertEqual([fault.split(" is in ")[0] for fault in self.judged()[1]], ["crates/high/src/lib.rt: Kind"])
 
+    def test_method_of_a_trait(self):
+        self.add("crates/high/src/lib.rt", """pub struct Taker {
+    count: u8,
+}
+
+impl Takes for Taker {
+    fn take(&mut self)
+        ensures { step self.new }
+    {
+        self.count = 0;
+    }
+}
+""")
+        self.write("calls.txt", "high read\nhigh Taker\n")
+        self.assertIn("crates/high/specs/plain/Steps.antt", self.judged()[0].parent)
+
     def test_tour(self):
         self.write(TOUR, SMALL[TOUR].replace("Names.antt", "Other.antt"))
         self.assertEqual(self.judged()[1], [f"{TOUR}: the tour lacks crates/rng_model/specs/names/Names.antt",

@@ -13,7 +13,7 @@ ghost use Rattle.rncv_run.specs.views.MalformedVerdict.{malformed_by};
 use crate::document_input::{DocumentFault, take_document};
 use pyx::PyxFault;
 use rncv_model::{RunFault, Verdict};
-use rng_deriv::{Outcome, matcher};
+use rng_deriv::{Matcher, Outcome};
 use rng_model::{Device, OutOfMemory, SimpleGrammar};
 use std::alloc::Global;
 use std::io::Read;
@@ -72,7 +72,7 @@ pub(crate) fn document_verdict<R: Read>(
     ensures read { IsErrOf result JudgeFault.Read → device_failures input.old < device_failures input.new }
     ensures memory { IsErrOf result JudgeFault.Memory → device_failures input.new ≡ device_failures input.old }
 {
-    let Ok(mut matcher) = matcher(alloc, grammar) else {
+    let Ok(mut matcher) = Matcher::new(alloc, grammar) else {
         return Err(JudgeFault::Memory);
     };
     match take_document(alloc, input, &mut matcher) {

@@ -6,6 +6,7 @@ pub mod StateSteps
 pub mod Positions
 pub mod LevelRenewal
 pub mod KnownDocuments
+mod Matchers
 mod JoinedStarts
 mod ServedTables
 mod NamesOfOneKey

@@ -3,6 +3,7 @@ pub mod Levels
 pub mod Numbers
 pub mod Positions
 pub mod LevelRenewal
+pub mod Matchers
 pub mod States
 pub mod Strings
 pub mod PatternRenewal

@@ -1,4 +1,4 @@
-// The matcher.
+// A matcher by any derivatives.
 ghost use Rattle.std.specs.Prelude.{◌≡◌, ◌↔◌, ℕ, List, [], ◌∷◌, ◌++◌, IfOk, IsErr, OnErr, OnOk, map};
 ghost use Rattle.rng_model.specs.documents.EventView.{event_of};
 ghost use Rattle.rng_model.specs.matching.Document.{Item};
@@ -14,23 +14,23 @@ use crate::ends::some_end;
 use crate::position::Position;
 use crate::progress::{Progress, take_event};
 use crate::state::State;
-use rng_model::{Event, Events, OutOfMemory, Outcome};
+use rng_model::{Event, OutOfMemory, Outcome};
 use rng_pattern_table::PatternNumber;
 use smallvec::SmallVec;
 use std::alloc::Global;
 use std::marker::Model;
 
-/// A matcher: it takes the events of a document one by one, and tells whether the document is valid.
+/// A matcher by any derivatives: it takes the events of a document one by one, and tells whether the document is valid.
 ///
 /// RELAX NG Specification, sections 6.2 and 6.3. After want of memory each call answers want of memory.
 #[derive(Drop)]
-pub struct Matcher<D: Derivatives + Drop> {
+pub struct EventMatcher<D: Derivatives + Drop> {
     alloc: Global,
     derivatives: D,
     progress: Progress,
 }
 
-impl<D: Derivatives + Drop> Model for Matcher<D> {
+impl<D: Derivatives + Drop> Model for EventMatcher<D> {
     ghost use Rattle.rng_deriv.specs.declared.progress.Progress.{Progress};
     ghost use Rattle.rng_deriv.specs.views.Positions.{IsProgressInside};
 
@@ -41,7 +41,7 @@ impl<D: Derivatives + Drop> Model for Matcher<D> {
     ghost invariant = { λ m. IsProgressInside (D.trees m.derivatives) m.progress };
 }
 
-impl<D: Derivatives + Drop> Matcher<D> {
+impl<D: Derivatives + Drop> EventMatcher<D> {
     /// A matcher of documents whose root is to match the pattern of this number. The error is want of memory.
     pub fn new(alloc: Global, derivatives: D, start: PatternNumber) -> Result<Self, OutOfMemory>
         requires inside { IsInside (D.trees derivatives) start }
@@ -49,6 +49,7 @@ impl<D: Derivatives + Drop> Matcher<D> {
             ↔ Takes (D.reading derivatives) (D.reading derivatives).grammar.start [] ns }
         ensures reading { IfOk result (λ m. D.reading m.0 ≡ D.reading derivatives) }
         ensures stands { IfOk result (λ m. IsKnown (D.reading m.0) (D.trees m.0) m.1 []) }
+        ensures kept { IfOk result (λ m. ¬ (IsLost m.1)) }
     {
         let now = SmallVec::from_slice(alloc, &[start])?;
         let state = State {
@@ -60,7 +61,7 @@ impl<D: Derivatives + Drop> Matcher<D> {
             has_begun: false,
             held: None,
         };
-        Ok(Matcher {
+        Ok(EventMatcher {
             alloc,
             derivatives,
             progress: Progress::Going { position, line: 0 },
@@ -71,9 +72,10 @@ impl<D: Derivatives + Drop> Matcher<D> {
     pub fn finish(self) -> Result<Outcome, OutOfMemory>
         ensures outcome { IfOk result (λ o. (bytes : List ℕ) (d : Placed) → IsPyxDocument bytes d → IsKnown (D.reading self.0) (D.trees self.0) self.1 (events_of d)
             → IsOutcome (D.reading self.0) d o) }
+        ensures lost { OnErr result (IsLost self.1) }
         ensures again { IsLost self.1 → IsErr result }
     {
-        let Matcher {
+        let EventMatcher {
             derivatives,
             progress,
             ..
@@ -89,14 +91,13 @@ impl<D: Derivatives + Drop> Matcher<D> {
             Progress::Lost => Err(OutOfMemory),
         }
     }
-}
 
-impl<D: Derivatives + Drop> Matcher<D> {
     /// Takes the next event. The error is want of memory, and so it is after one.
-    fn take(&mut self, event: Event<'_>) -> Result<(), OutOfMemory>
+    pub fn take(&mut self, event: Event<'_>) -> Result<(), OutOfMemory>
         ensures reading { OnOk result (D.reading self.new.0 ≡ D.reading self.old.0) }
         ensures known { OnOk result ((events : List trees.Event) → IsKnown (D.reading self.old.0) (D.trees self.old.0) self.old.1 events
             → IsKnown (D.reading self.new.0) (D.trees self.new.0) self.new.1 (events ++ event_of event.entry ∷ [])) }
+        ensures kept { OnOk result (¬ (IsLost self.new.1)) }
         ensures lost { OnErr result (IsLost self.new.1) }
         ensures again { IsLost self.old.1 → IsErr result }
     {
@@ -106,13 +107,5 @@ impl<D: Derivatives + Drop> Matcher<D> {
         }
         self.progress = Progress::Lost;
         Err(OutOfMemory)
-    }
-}
-
-impl<D: Derivatives + Drop> Events for Matcher<D> {
-    ghost stands = { λ first m events. (D.reading m.0 ≡ D.reading first.0) × IsKnown (D.reading m.0) (D.trees m.0) m.1 events };
-
-    fn event(&mut self, event: Event<'_>) -> Result<(), OutOfMemory> {
-        self.take(event)
     }
 }

@@ -89,7 +89,8 @@ pub fn take_event<D: Derivatives>(
     ensures reading { OnOk result (D.reading derivatives.new ≡ D.reading derivatives.old) }
     ensures progress { OnOk result (AddsProgress (D.reading derivatives.old) (event_of event.entry)
         (IsKnown (D.reading derivatives.old) (D.trees derivatives.old) progress.old) (D.trees derivatives.new) progress.new) }
-    ensures lost { IsLost progress.old → IsErr result }
+    ensures kept { OnOk result (¬ (IsLost progress.new)) }
+    ensures again { IsLost progress.old → IsErr result }
 {
     match progress {
         Progress::Going { position, line } => {

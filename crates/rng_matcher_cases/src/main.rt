@@ -11,7 +11,7 @@ ghost use Rattle.rng_model.specs.simple.Table.{grammar_of};
 
 use case_rows::{Row, rows};
 use pyx::Reader;
-use rng_deriv::{Outcome, matcher};
+use rng_deriv::{Matcher, Outcome};
 use rng_load::load;
 use rng_model::{SchemaFault, SimpleGrammar};
 use rng_rules::restrict;
@@ -97,7 +97,7 @@ fn judged(alloc: Global, grammar: &SimpleGrammar, document: &[u8]) -> io::Result
     requires { BreaksNone (grammar_of grammar.now) }
 {
     let bad = io::ErrorKind::InvalidData;
-    let Ok(mut matcher) = matcher(alloc, grammar) else {
+    let Ok(mut matcher) = Matcher::new(alloc, grammar) else {
         return Err(io::Error::from(io::ErrorKind::OutOfMemory));
     };
     let mut reader = Reader::new(alloc);

@@ -1,6 +1,6 @@
 use Rattle.std.proofs.Common.{refl, false, None}
 use Rattle.rng_deriv.proofs.KnownDocuments.{comes_first}
-use Rattle.rng_deriv.proofs.event_matcher.Matcher.new.Goals as goal
+use Rattle.rng_deriv.proofs.event_matcher.EventMatcher.new.Goals as goal
 
 pub returns-clause-stands : goal.returns-clause-stands
 returns-clause-stands g c =

@@ -6,7 +6,7 @@ use Rattle.rng_deriv.specs.views.Numbers.{tree_of}
 use Rattle.rng_model.specs.matching.Outcomes.{IsValid, FailsAt}
 use Rattle.rng_deriv.specs.views.Positions.{IsKnown}
 use Rattle.rng_deriv.proofs.KnownDocuments.{failed, ends_valid, ends_invalid}
-use Rattle.rng_deriv.proofs.event_matcher.Matcher.finish.Goals as goal
+use Rattle.rng_deriv.proofs.event_matcher.EventMatcher.finish.Goals as goal
 
 pub returns-then-some_end-clause-outcome : goal.returns-then-some_end-clause-outcome
 returns-then-some_end-clause-outcome g c = λ bytes d is known.
