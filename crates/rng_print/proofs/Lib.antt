@@ -8,8 +8,10 @@ pub mod WorkedTexts
 pub mod ListLookups
 pub mod Literals
 pub mod Namespaces
-pub mod ItemNumbers
 pub mod ItemTables
+mod PatternCodes
+mod TreeNumbers
+pub mod ItemNumbers
 pub mod ItemLines
 pub mod ClassTexts
 pub mod LineTexts

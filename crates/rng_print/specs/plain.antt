@@ -2,4 +2,5 @@
 pub mod Lines
 pub mod Literals
 pub mod Parts
+pub mod PatternCodes
 pub mod Renumbered

@@ -1,3 +1,4 @@
 -- Views of types, and invariants.
 pub mod Items
 pub mod Prefixes
+pub mod TreeNumbers

@@ -1,11 +1,13 @@
 // What has a line of its own, in the order in which it is first written.
 ghost use Rattle.std.specs.Prelude.{◌≡◌, ◌<◌, ◌++◌, decimal, IfSome, OnOk, IfOk, length, map, option_to_list};
-ghost use Rattle.rng_model.specs.simple.Table.{AreToldApart, IsTable, grammar_of, tree_at};
+ghost use Rattle.rng_model.specs.simple.Table.{IsTable, grammar_of, tree_at};
 ghost use Rattle.rng_print.specs.declared.items.Item.TheVariants as items;
-ghost use Rattle.rncv_model.specs.printed.Numbering.{and_new, with_new};
+ghost use Rattle.rncv_model.specs.printed.Numbering.{and_new};
 ghost use Rattle.rncv_model.specs.printed.PrintedText.{IsItemsOf, item_of, mentions, parts_of, same_item};
-ghost use Rattle.rng_print.specs.views.Items.{AreIndexed, AreItems, IsInside, item_at, items_seen, numbered_name, same_number};
+ghost use Rattle.rng_print.specs.plain.PatternCodes.{number_at};
+ghost use Rattle.rng_print.specs.views.Items.{AreIndexed, AreItems, AreWith, IsInside, item_at, items_seen, numbered_name};
 
+use crate::tree_numbers::tree_numbers;
 use indexmap::IndexSet;
 use rng_model::{ElementId, OutOfMemory, PatternId, Simple, SimpleGrammar};
 use std::alloc::Global;
@@ -23,24 +25,28 @@ pub(crate) struct Items {
     pub(crate) all: Vec<Item>,
     /// The elements among them, by number.
     pub(crate) elements: IndexSet<ElementId>,
-    /// The patterns among them, by number.
-    pub(crate) patterns: IndexSet<PatternId>,
+    /// The numbers of the patterns among them.
+    pub(crate) trees: IndexSet<usize>,
+    /// A number for each pattern of the grammar; equal patterns have one.
+    pub(crate) numbers: Vec<usize>,
 }
 
 impl Items {
-    /// All items of a grammar in which equal patterns have one number.
+    /// All items of a grammar.
     #[tactic(auto, using(crate::proofs::ItemLines::all_lines))]
     pub(crate) fn of_grammar(alloc: Global, grammar: &SimpleGrammar) -> Result<Self, OutOfMemory>
-        requires { AreToldApart grammar.now }
         ensures items { IfOk result (AreItems grammar.now) }
         ensures numbered { IfOk result (λ items. IsItemsOf (grammar_of grammar.now) (items_seen grammar.now items)) }
     {
+        let start = grammar.start();
+        let numbers = tree_numbers(alloc, grammar)?;
         let mut found = Items {
             all: Vec::new(alloc),
             elements: IndexSet::new(alloc),
-            patterns: IndexSet::new(alloc),
+            trees: IndexSet::new(alloc),
+            numbers,
         };
-        found.add_written(grammar, grammar.start())?;
+        found.add_written(grammar, start)?;
         let mut lines = 0;
         'lines: while lines < found.all.len() {
             let item = found.all[lines];
@@ -107,8 +113,7 @@ impl Items {
     /// Adds an item, unless it is there.
     fn add(&mut self, item: Item) -> Result<(), OutOfMemory>
         requires { AreIndexed self.old }
-        ensures indexed { OnOk result (AreIndexed self.new) }
-        ensures all { OnOk result (self.new.all.items ≡ with_new same_number self.old.all.items item) }
+        ensures { OnOk result (AreWith self.old item self.new) }
     {
         match item {
             Item::Element(id) => self.add_element(id),
@@ -119,8 +124,7 @@ impl Items {
     /// Adds an element, unless it is there.
     fn add_element(&mut self, id: ElementId) -> Result<(), OutOfMemory>
         requires { AreIndexed self.old }
-        ensures indexed { OnOk result (AreIndexed self.new) }
-        ensures all { OnOk result (self.new.all.items ≡ with_new same_number self.old.all.items (items.Element id)) }
+        ensures { OnOk result (AreWith self.old (items.Element id) self.new) }
     {
         if self.elements.insert(id)? {
             self.all.push(Item::Element(id))?;
@@ -128,16 +132,23 @@ impl Items {
         Ok(())
     }
 
-    /// Adds a pattern, unless it is there.
+    /// Adds a pattern, unless an equal one is there.
     fn add_pattern(&mut self, id: PatternId) -> Result<(), OutOfMemory>
         requires { AreIndexed self.old }
-        ensures indexed { OnOk result (AreIndexed self.new) }
-        ensures all { OnOk result (self.new.all.items ≡ with_new same_number self.old.all.items (items.Pattern id)) }
+        ensures { OnOk result (AreWith self.old (items.Pattern id) self.new) }
     {
-        if self.patterns.insert(id)? {
+        let number = self.number(id);
+        if self.trees.insert(number)? {
             self.all.push(Item::Pattern(id))?;
         }
         Ok(())
+    }
+
+    /// The number of a pattern.
+    fn number(&self, id: PatternId) -> usize
+        ensures { result ≡ number_at self.now.numbers.items id }
+    {
+        self.numbers.get(id.0).copied().unwrap_or(0)
     }
 
     /// Writes the name of an item: `e` or `p`, and its number among those of its kind.
@@ -159,9 +170,9 @@ impl Items {
             }
             Item::Pattern(id) => {
                 let number = self
-                    .patterns
-                    .get_index_of(&id)
-                    .unwrap_or(self.patterns.len());
+                    .trees
+                    .get_index_of(&self.number(id))
+                    .unwrap_or(self.trees.len());
                 write_numbered(alloc, "p", number, text)
             }
         }

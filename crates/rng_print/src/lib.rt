@@ -13,6 +13,7 @@ mod literal;
 mod name_class;
 mod prefixes;
 mod printing;
+mod tree_numbers;
 
 pub use laws::printing_laws;
 pub use printing::{print, printed_text};

@@ -1,7 +1,7 @@
 // The printed text of a simple grammar, made and written.
 ghost use Rattle.std.specs.Prelude.{◌≡◌, ◌-◌, ◌^◌, ◌<◌, IfOk, OnOk, IsErrOf};
 ghost use Rattle.rng_model.specs.devices.Device.{device_inner, device_failures, device_taken};
-ghost use Rattle.rng_model.specs.simple.Table.{AreToldApart, grammar_of};
+ghost use Rattle.rng_model.specs.simple.Table.{grammar_of};
 ghost use Rattle.rncv_model.specs.printed.PrintedText.{IsPrinted};
 ghost use Rattle.rncv_model.specs.printed.Printing.{AppendsPrinted, AppendsPrintedBeginning};
 
@@ -13,15 +13,15 @@ use rng_model::{Device, OutOfMemory, SimpleGrammar, write_whole};
 use std::alloc::Global;
 use std::io::Write;
 
-/// The text of a grammar in which equal patterns have one number: a schema in the compact syntax that has this simple form.
+/// The text of a grammar: a schema in the compact syntax that has this simple form.
 ///
 /// RELAX NG Specification, section 5, in the words of the Compact Syntax. First a line for each namespace, then `start = ..`,
 /// then a line for each element and for each pattern that has parts, in the order in which their names are first written:
-/// `e0`, `e1`, .. for elements, and `p0`, `p1`, .. for patterns. So grammars that differ in the numbers of their elements
+/// `e0`, `e1`, .. for elements, and `p0`, `p1`, .. for patterns; equal patterns have one line, whatever their positions. So
+/// grammars that differ in the numbers of their elements
 /// alone have the same text. Answers want of memory, and nothing else. Takes time and memory in the order of the tables and
 /// of the text.
 pub fn printed_text(alloc: Global, grammar: &SimpleGrammar) -> Result<Vec<u8>, OutOfMemory>
-    requires { AreToldApart grammar.now }
     ensures { IfOk result (λ text. IsPrinted (grammar_of grammar.now) text.items) }
 {
     let items = Items::of_grammar(alloc, grammar)?;
@@ -39,7 +39,7 @@ pub fn printed_text(alloc: Global, grammar: &SimpleGrammar) -> Result<Vec<u8>, O
     Ok(text)
 }
 
-/// Prints a grammar in which equal patterns have one number: writes its text, which `printed_text` says, to a device.
+/// Prints a grammar: writes its text, which `printed_text` says, to a device.
 ///
 /// The text is made whole before its first byte is written. So after `PrintFault::Memory` the device is as it was, and after
 /// `PrintFault::Write`, which comes only where the device counted a failed call, a beginning of the text was written. Nothing
@@ -49,8 +49,7 @@ pub fn print<W: Write>(
     grammar: &SimpleGrammar,
     output: &mut Device<W>,
 ) -> Result<(), PrintFault>
-    requires apart { AreToldApart grammar.now }
-    requires output { device_failures output.old < 2 ^ 64 - 1 }
+    requires { device_failures output.old < 2 ^ 64 - 1 }
 
     // Where it answers, no call failed, and the text is all that was written.
     ensures calm { OnOk result (device_failures output.new ≡ device_failures output.old) }

@@ -39,6 +39,6 @@ pub mod SimplifiedSchemas
 pub mod OneNumber
 pub mod KnownDatatypes
 mod KnownPatterns
-mod LabelCodes
+mod NestedCodes
 mod RowLabels
 mod ToldApart

@@ -4,7 +4,7 @@ use Rattle.std.proofs.lemmas.List.{length-map, map_push}
 use Rattle.std.proofs.lemmas.Option.{slice_get_within, get_or_from_slice_get}
 use Rattle.rng_graph.proofs.Graphs.{found}
 use Rattle.rng_graph.proofs.ListParts.{map_at}
-use Rattle.rng_simple.specs.plain.LabelCodes.{Part}
+use Rattle.rng_labels.specs.plain.LabelCodes.{Part}
 use Rattle.rng_simple.specs.views.RowTable.{AreCodes}
 
 pub some_is : {A : Type 0} {x y : A} → Some x ≡ Some y → x ≡ y

@@ -7,12 +7,12 @@ use Rattle.rng_model.specs.names.NameViews.{class_of}
 use Rattle.rng_model.specs.declared.simple.Simple.{Simple}
 use Rattle.rng_graph.specs.plain.InTwos.{nested}
 use Rattle.rng_simple.specs.plain.Copying.{AreCopied, listed_at, place_of, tree_numbered}
-use Rattle.rng_simple.specs.plain.LabelCodes.{class_code, codes_of, datatype_code, value_code}
+use Rattle.rng_labels.specs.plain.LabelCodes.{class_code, codes_of, datatype_code, value_code}
 use Rattle.rng_simple.specs.plain.Renamed.{simple_renamed}
 use Rattle.rng_simple.specs.views.RowTable.{AreCoded, IsRowTable, labels_of, row_count, value_of}
 use Rattle.rng_simple.specs.views.Rows.{AreDistinctRows, no_datatype, tree_at}
 use Rattle.rng_simple.specs.declared.row_table.RowTable.{RowTable}
-use Rattle.rng_simple.proofs.LabelCodes.{same_class_codes}
+use Rattle.rng_simple.proofs.NestedCodes.{same_class_codes}
 use Rattle.rng_simple.proofs.OneNumber.{AreDistinctLabels, one_number}
 use Rattle.rng_simple.proofs.RowLabels.{labels_apart, some_is}
 

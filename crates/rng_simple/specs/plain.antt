@@ -1,7 +1,6 @@
 -- Plain functions that the code is proved against, and private relations.
 pub mod Copying
 pub mod GrammarBy
-pub mod LabelCodes
 pub mod MadeTable
 pub mod Numbering
 pub mod Renamed

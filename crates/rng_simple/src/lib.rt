@@ -7,7 +7,6 @@
 
 mod copying;
 mod joining;
-mod label_codes;
 mod name_class;
 mod reaching;
 mod row_table;

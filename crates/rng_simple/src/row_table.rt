@@ -9,9 +9,9 @@ ghost use Rattle.rng_simple.specs.views.Rows.{AreChildrenBelow, IsLabelled, clas
 ghost use Rattle.rng_simple.specs.views.RowTable.{IsGrown, IsRelabelled, IsRowTable, finished_labels, labels_of, row_count, sort_seen, tree_of};
 ghost use Rattle.rng_simple.specs.plain.SimpleOf.{sort_of};
 
-use crate::label_codes::{LabelPart, place_of_code, put_class, put_datatype, value_code};
 use crate::rows::{Row, number};
 use indexmap::IndexSet;
+use rng_labels::{LabelPart, place_of_code, put_class, put_datatype, put_value};
 use rng_model::{Datatype, DatatypeValue, NameClass};
 use std::alloc::{AllocError, Global};
 use std::collections::HashMap;
@@ -153,7 +153,8 @@ impl<'a> RowTable<'a> {
         ensures there { IfOk result (λ v. v < length (labels_of self.new).values) }
         ensures is { IfOk result (λ v. value_at (labels_of self.new) v ≡ (without_parameters (string_bytes value.now.library) (string_bytes value.now.name), string_bytes value.now.text)) }
     {
-        let code = value_code(self.alloc, value)?;
+        let mut code = Vec::new(self.alloc);
+        put_value(&mut code, value)?;
         if let Some(label) = place_of_code(&mut self.value_codes, code)? {
             return Ok(label);
         }

@@ -1,10 +1,12 @@
 -- Items of a grammar, as the code keeps them.
 use Rattle.std.specs.Prelude.{◌≡◌, ℕ, ◌<◌, ◌==◌, Bool, false, List, ◌++◌, length, map, Option, Some, None, codes, decimal}
 use Rattle.std.specs.List.{AllByRecursion, filter_map, position_or_len}
-use Rattle.rng_model.specs.simple.Table.{AreToldApart, Table, IsTable, tree_at}
+use Rattle.rng_model.specs.simple.Table.{Table, IsTable, tree_at}
 use Rattle.rng_model.specs.declared.simple.ElementId.{ElementId}
-use Rattle.rng_model.specs.declared.simple.PatternId.{PatternId}
+use Rattle.rncv_model.specs.printed.Numbering.{with_new}
 use Rattle.rncv_model.specs.printed.PrintedText as text
+use Rattle.rng_print.specs.plain.PatternCodes.{number_at}
+use Rattle.rng_print.specs.views.TreeNumbers.{AreTreeNumbers}
 use Rattle.rng_print.specs.declared.items.Item.{Item}
 use Rattle.rng_print.specs.declared.items.Item.TheVariants as variants
 use Rattle.rng_print.specs.declared.items.Items.{Items}
@@ -23,19 +25,20 @@ abbrev pub element_of : Item → Option ElementId
 element_of (variants.Element e) = Some e
 element_of (variants.Pattern p) = None
 
-abbrev pub pattern_of : Item → Option PatternId
-pattern_of (variants.Element e) = None
-pattern_of (variants.Pattern p) = Some p
+-- the number of the pattern's tree
+abbrev pub tree_number : List ℕ → Item → Option ℕ
+tree_number numbers (variants.Element e) = None
+tree_number numbers (variants.Pattern p) = Some (number_at numbers p)
 
--- the elements and the patterns among them, by number
+-- the elements and the trees of the patterns among them, by number
 pub record AreIndexed (items : Items) : Type 0 where
   pub elements : items.elements.keys ≡ filter_map element_of items.all.items
-  pub patterns : items.patterns.keys ≡ filter_map pattern_of items.all.items
+  pub trees : items.trees.keys ≡ filter_map (tree_number items.numbers.items) items.all.items
 
--- items of the tables, in which equal patterns have one number
+-- items of the tables, whose patterns have numbers that tell their trees apart
 pub record AreItems (t : Table) (items : Items) : Type 0 where
   pub table : IsTable t
-  pub apart : AreToldApart t
+  pub numbered : AreTreeNumbers t items.numbers.items
   pub inside : AllByRecursion (IsInside t) items.all.items
   pub indexed : AreIndexed items
 
@@ -43,14 +46,20 @@ pub record AreItems (t : Table) (items : Items) : Type 0 where
 abbrev pub items_seen : Table → Items → List text.Item
 items_seen t items = map (item_at t) items.all.items
 
--- they have the same number in the tables
-abbrev pub same_number : Item → Item → Bool
-same_number (variants.Element d) (variants.Element e) = d.0 == e.0
-same_number (variants.Element d) (variants.Pattern q) = false
-same_number (variants.Pattern p) (variants.Element e) = false
-same_number (variants.Pattern p) (variants.Pattern q) = p.0 == q.0
+-- they are one element, or their patterns have one number
+abbrev pub same_number : List ℕ → Item → Item → Bool
+same_number numbers (variants.Element d) (variants.Element e) = d.0 == e.0
+same_number numbers (variants.Element d) (variants.Pattern q) = false
+same_number numbers (variants.Pattern p) (variants.Element e) = false
+same_number numbers (variants.Pattern p) (variants.Pattern q) = number_at numbers p == number_at numbers q
+
+-- the items with one more, unless it is there
+pub record AreWith (old : Items) (x : Item) (new : Items) : Type 0 where
+  pub numbers : new.numbers.items ≡ old.numbers.items
+  pub all : new.all.items ≡ with_new (same_number old.numbers.items) old.all.items x
+  pub indexed : AreIndexed new
 
 -- the name of an item by its number among those of its kind
 abbrev pub numbered_name : Items → Item → List ℕ
 numbered_name items (variants.Element e) = codes "e" ++ decimal (position_or_len (λ d. e.0 == d.0) items.elements.keys)
-numbered_name items (variants.Pattern p) = codes "p" ++ decimal (position_or_len (λ q. p.0 == q.0) items.patterns.keys)
+numbered_name items (variants.Pattern p) = codes "p" ++ decimal (position_or_len (λ n. number_at items.numbers.items p == n) items.trees.keys)

@@ -1,9 +1,9 @@
 use Rattle.std.proofs.Common.{refl, ap, subst, ◌∙◌, ◌++◌, map, Some}
 use Rattle.std.proofs.lemmas.List.{map_push}
 use Rattle.rng_model.specs.datatypes.DatatypeViews.{datatype_of}
-use Rattle.rng_simple.specs.plain.LabelCodes.{IsPlaced, codes_of, datatype_code, part_of}
+use Rattle.rng_labels.specs.plain.LabelCodes.{IsPlaced, codes_of, datatype_code, part_of}
 use Rattle.rng_simple.specs.views.Rows.{no_datatype}
-use Rattle.rng_simple.proofs.LabelCodes.{same_datatypes}
+use Rattle.rng_labels.proofs.LabelCodes.{same_datatypes}
 use Rattle.rng_simple.proofs.RowLabels.{codes_more, label_found}
 use Rattle.rng_simple.proofs.RowTable.{relabelled, same_labels, datatype_more}
 use Rattle.rng_simple.proofs.row_table.RowTable.datatype_label.Goals as goal

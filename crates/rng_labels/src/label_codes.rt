@@ -1,18 +1,20 @@
-// What tells labels apart: the parts that each is written by.
+// What tells labels apart: the parts that each is written by, one behind another.
 ghost use Rattle.std.specs.Prelude.{◌≡◌, ◌∷◌, ◌++◌, [], IfOk, OnOk, map, string_bytes};
 ghost use Rattle.rng_model.specs.names.Names.{some_of};
 ghost use Rattle.rng_model.specs.schema.Patterns.{without_parameters};
 ghost use Rattle.rng_model.specs.datatypes.DatatypeViews.{datatype_of};
 ghost use Rattle.rng_model.specs.names.NameViews.{class_of};
-ghost use Rattle.rng_simple.specs.plain.LabelCodes.{AreCodesApart, IsPlaced, class_code, codes_of, datatype_code, part_of, value_code};
+ghost use Rattle.rng_labels.specs.plain.LabelCodes.{AreCodesApart, IsPlaced, class_code, codes_of, datatype_code, part_of, value_code};
 
 use indexmap::IndexSet;
 use rng_model::{Datatype, DatatypeValue, NameClass};
-use std::alloc::{AllocError, Global};
+use std::alloc::AllocError;
 
 /// A part of what a label is written by.
 #[derive(Clone, Copy, PartialEq, Eq, Hash)]
 pub enum LabelPart<'a> {
+    /// A number that a caller gives.
+    Number(usize),
     /// A text of a datatype or of a value.
     Text(&'a str),
     /// Every name.
@@ -46,7 +48,7 @@ pub fn place_of_code<'a>(
 
 /// Puts a part at the end.
 #[tactic(auto, using(crate::proofs::LabelCodes::put_part))]
-fn put<'a>(code: &mut Vec<LabelPart<'a>>, part: LabelPart<'a>) -> Result<(), AllocError>
+pub fn put<'a>(code: &mut Vec<LabelPart<'a>>, part: LabelPart<'a>) -> Result<(), AllocError>
     ensures { OnOk result (map part_of code.new.items ≡ map part_of code.old.items ++ part_of part.entry ∷ []) }
 {
     code.push(part)?;
@@ -117,17 +119,15 @@ pub fn put_datatype<'a>(
     Ok(())
 }
 
-/// The parts of a text of a datatype without parameters.
-pub fn value_code<'a>(
-    alloc: Global,
+/// Puts the parts of a text of a datatype without parameters at the end.
+pub fn put_value<'a>(
+    code: &mut Vec<LabelPart<'a>>,
     value: &'a DatatypeValue,
-) -> Result<Vec<LabelPart<'a>>, AllocError>
-    ensures { IfOk result (λ code. map part_of code.items
-        ≡ value_code (without_parameters (string_bytes value.now.library) (string_bytes value.now.name), string_bytes value.now.text)) }
+) -> Result<(), AllocError>
+    ensures { OnOk result (map part_of code.new.items ≡ map part_of code.old.items
+        ++ value_code (without_parameters (string_bytes value.now.library) (string_bytes value.now.name), string_bytes value.now.text)) }
 {
-    let mut code = Vec::new(alloc);
-    put(&mut code, LabelPart::Text(value.library.as_str()))?;
-    put(&mut code, LabelPart::Text(value.name.as_str()))?;
-    put(&mut code, LabelPart::Text(value.text.as_str()))?;
-    Ok(code)
+    put(code, LabelPart::Text(value.library.as_str()))?;
+    put(code, LabelPart::Text(value.name.as_str()))?;
+    put(code, LabelPart::Text(value.text.as_str()))
 }

@@ -1,9 +1,9 @@
 use Rattle.std.proofs.Common.{◌≡◌, ◌∷◌, ◌++◌, [], ap, sym, ◌∙◌, map, drop, ◌+◌}
 use Rattle.std.proofs.lemmas.List.{drop_all, drop_more}
 use Rattle.rng_model.specs.datatypes.DatatypeViews.{parameter_of}
-use Rattle.rng_simple.specs.plain.LabelCodes.{parameters_code, part_of, text}
-use Rattle.rng_simple.proofs.LabelCodes.{parameter_goes_on, parameters_end}
-use Rattle.rng_simple.proofs.label_codes.put_datatype.Goals as goal
+use Rattle.rng_labels.specs.plain.LabelCodes.{parameters_code, part_of, text}
+use Rattle.rng_labels.proofs.LabelCodes.{parameter_goes_on, parameters_end}
+use Rattle.rng_labels.proofs.label_codes.put_datatype.Goals as goal
 
 pub parameters-preserved : goal.parameters-preserved
 parameters-preserved c =

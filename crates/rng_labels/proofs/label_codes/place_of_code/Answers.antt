@@ -1,7 +1,7 @@
 use Rattle.std.proofs.Common.{◌∙◌, ap, sym, map, slice_get}
-use Rattle.rng_simple.specs.plain.LabelCodes.{part_of}
-use Rattle.rng_simple.proofs.LabelCodes.{code_at, codes_apart, not_put}
-use Rattle.rng_simple.proofs.label_codes.place_of_code.Goals as goal
+use Rattle.rng_labels.specs.plain.LabelCodes.{part_of}
+use Rattle.rng_labels.proofs.LabelCodes.{code_at, codes_apart, not_put}
+use Rattle.rng_labels.proofs.label_codes.place_of_code.Goals as goal
 
 pub returns-then-is_new-clause-apart : goal.returns-then-is_new-clause-apart
 returns-then-is_new-clause-apart c = codes_apart c.insert_full.new.self.keys c.in_ok-place.ensures.unique

@@ -2,6 +2,7 @@
 use Rattle.std.proofs.Common.{◌≡◌, refl, ap, ap₂, sym, ◌∙◌, ℕ, zero, suc, Bool, true, false, true≢false, not, if◌then◌else◌}
 use Rattle.std.proofs.Common.{List, [], ◌∷◌, ◌++◌, map, append_assoc, slice_get, length, ◌<◌, arith, Some, Vec, Box, String, Global, string_bytes, rules}
 use Rattle.std.proofs.lemmas.Bool.{and_parts, and_from}
+use Rattle.std.proofs.lemmas.Bool.Decides.{Decides-eqb}
 use Rattle.std.proofs.lemmas.List.{append-nil, map-append}
 use Rattle.std.proofs.lemmas.Slice.Eq.{bytes_eq-Decides}
 use Rattle.std.specs.Cmp.Lexicographic.{pointwise}
@@ -15,16 +16,16 @@ use Rattle.rng_model.specs.names.NameViews.{class_of}
 use Rattle.rng_model.specs.declared.name.NameClass as declared
 use Rattle.rng_model.specs.declared.name.NameClass.{the_lemmas}
 use Rattle.rng_model.specs.declared.name.NameClass.TheVariants as classes
-use Rattle.rng_graph.specs.plain.InTwos.{nested, nested_after}
-use Rattle.rng_simple.specs.plain.LabelCodes.{Part, text, any, any_but, ns, ns_but, name, either, part_of, class_code, more_code, AreCodesApart}
-use Rattle.rng_simple.specs.plain.LabelCodes.{parameters_code, datatype_code, value_code}
-use Rattle.rng_simple.specs.declared.label_codes.LabelPart.{LabelPart}
-use Rattle.rng_simple.specs.declared.label_codes.LabelPart.TheVariants as parts
-use Rattle.rng_simple.specs.contracts.label_codes.LabelPartPartialEq.TheImpl as same
+use Rattle.rng_labels.specs.plain.LabelCodes.{Part, number, text, any, any_but, ns, ns_but, name, either, part_of, class_code, more_code, IsInTwos, AreCodesApart}
+use Rattle.rng_labels.specs.plain.LabelCodes.{parameters_code, datatype_code, value_code}
+use Rattle.rng_labels.specs.declared.label_codes.LabelPart.{LabelPart}
+use Rattle.rng_labels.specs.declared.label_codes.LabelPart.TheVariants as parts
+use Rattle.rng_labels.specs.contracts.label_codes.LabelPartPartialEq.TheImpl as same
 
 -- ---- parts and codes that are equal
 
 same_part : (p q : LabelPart) → same.ghosts.eq p q ≡ true → part_of p ≡ part_of q
+same_part (parts.Number m) (parts.Number n) e = ap number ((Decides-eqb m n).0 e)
 same_part (parts.Text s) (parts.Text t) e = ap text ((bytes_eq-Decides s.now t.now).0 e)
 same_part parts.Any parts.Any e = refl
 same_part parts.AnyBut parts.AnyBut e = refl
@@ -37,6 +38,7 @@ same_part parts.Either parts.Either e = refl
 same_part _ _ e = absurd (true≢false (sym e))
 
 equal_parts : (p q : LabelPart) → part_of p ≡ part_of q → same.ghosts.eq p q ≡ true
+equal_parts (parts.Number m) (parts.Number n) e = let h : m ≡ n = cc in (Decides-eqb m n).1 h
 equal_parts (parts.Text s) (parts.Text t) e = let h : s.now ≡ t.now = cc in (bytes_eq-Decides s.now t.now).1 h
 equal_parts parts.Any parts.Any e = refl
 equal_parts parts.AnyBut parts.AnyBut e = refl
@@ -114,7 +116,7 @@ code_at (x ∷ ks) c k (suc n) e f = code_at ks c k n e f
 
 -- ---- codes of name classes
 
--- the classes whose parts these are, over those that stand before them, the last first
+-- the classes in twos whose parts these are, over those that stand before them, the last first
 read : List Part → List NameClass → List NameClass
 read [] st = st
 read (any ∷ ps) st = read ps (any_name ∷ st)
@@ -123,54 +125,27 @@ read (ns u ∷ ps) st = read ps (ns_name u ∷ st)
 read (ns_but u ∷ ps) (c ∷ st) = read ps (ns_except u c ∷ st)
 read (name u s ∷ ps) st = read ps (name_is (record { ns = u; local = s }) ∷ st)
 read (either ∷ ps) (d ∷ (c ∷ st)) = read ps (one_of c d no_classes ∷ st)
+read (number n ∷ ps) st = []
 read (text s ∷ ps) st = []
 read (any_but ∷ ps) [] = []
 read (ns_but u ∷ ps) [] = []
 read (either ∷ ps) [] = []
 read (either ∷ ps) (d ∷ []) = []
 
-mutual
-  unfolding class_code more_code read
+code_read : (c : NameClass) (rest : List Part) (st : List NameClass) → IsInTwos c → read (class_code c rest) st ≡ read rest (c ∷ st)
+unfolding class_code more_code read
+code_read any_name rest st h = refl
+code_read (any_except c) rest st h = code_read c (any_but ∷ rest) st h
+code_read (ns_name u) rest st h = refl
+code_read (ns_except u c) rest st h = code_read c (ns_but u ∷ rest) st h
+code_read (name_is n) rest st h = refl
+code_read (one_of c d no_classes) rest st h = code_read c (class_code d (either ∷ rest)) st h.0 ∙ code_read d (either ∷ rest) (c ∷ st) h.1
+code_read (one_of c d (class_and e cs)) rest st h = absurd h
 
-  code_read : (c : NameClass) (rest : List Part) (st : List NameClass) → read (class_code c rest) st ≡ read rest (nested c ∷ st)
-  code_read any_name rest st = refl
-  code_read (any_except c) rest st = code_read c (any_but ∷ rest) st
-  code_read (ns_name u) rest st = refl
-  code_read (ns_except u c) rest st = code_read c (ns_but u ∷ rest) st
-  code_read (name_is n) rest st = refl
-  code_read (one_of c d cs) rest st =
-      code_read c (class_code d (either ∷ more_code cs rest)) st ∙ code_read d (either ∷ more_code cs rest) (nested c ∷ st)
-      ∙ more_read cs (one_of (nested c) (nested d) no_classes) rest st
-
-  more_read : (cs : NameClasses) (c : NameClass) (rest : List Part) (st : List NameClass)
-      → read (more_code cs rest) (c ∷ st) ≡ read rest (nested_after c cs ∷ st)
-  more_read no_classes c rest st = refl
-  more_read (class_and d ds) c rest st = code_read d (either ∷ more_code ds rest) (c ∷ st) ∙ more_read ds (one_of c (nested d) no_classes) rest st
-
-mutual
-  unfolding class_code more_code
-
-  code_nested : (c : NameClass) (rest : List Part) → class_code (nested c) rest ≡ class_code c rest
-  code_nested any_name rest = refl
-  code_nested (any_except c) rest = code_nested c (any_but ∷ rest)
-  code_nested (ns_name u) rest = refl
-  code_nested (ns_except u c) rest = code_nested c (ns_but u ∷ rest)
-  code_nested (name_is n) rest = refl
-  code_nested (one_of c d cs) rest =
-      after_code cs (one_of (nested c) (nested d) no_classes) rest ∙ code_nested c (class_code (nested d) (either ∷ more_code cs rest))
-      ∙ ap (class_code c) (code_nested d (either ∷ more_code cs rest))
-
-  after_code : (cs : NameClasses) (c : NameClass) (rest : List Part) → class_code (nested_after c cs) rest ≡ class_code c (more_code cs rest)
-  after_code no_classes c rest = refl
-  after_code (class_and d ds) c rest = after_code ds (one_of c (nested d) no_classes) rest ∙ ap (class_code c) (code_nested d (either ∷ more_code ds rest))
-
--- classes have one code exactly if they are one once they are nested
-pub same_classes : (c d : NameClass) → class_code c [] ≡ class_code d [] → nested c ≡ nested d
+-- classes in twos have one code only if they are one
+pub same_classes : (c d : NameClass) → IsInTwos c → IsInTwos d → class_code c [] ≡ class_code d [] → c ≡ d
 unfolding read
-same_classes c d e = let f : nested c ∷ [] ≡ nested d ∷ [] = sym (code_read c [] []) ∙ ap (λ ps. read ps []) e ∙ code_read d [] [] in cc
-
-pub same_class_codes : (c d : NameClass) → nested c ≡ nested d → class_code c [] ≡ class_code d []
-same_class_codes c d e = sym (code_nested c []) ∙ ap (λ x. class_code x []) e ∙ code_nested d []
+same_classes c d h i e = let f : c ∷ [] ≡ d ∷ [] = sym (code_read c [] [] h) ∙ ap (λ ps. read ps []) e ∙ code_read d [] [] i in cc
 
 mutual
   unfolding class_code more_code

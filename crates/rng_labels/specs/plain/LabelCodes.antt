@@ -1,12 +1,13 @@
--- What tells labels apart: the parts that each is written by.
+-- What tells labels apart: the parts that each is written by, one behind another.
 use Rattle.std.specs.Prelude.{◌≡◌, ℕ, List, [], ◌∷◌, ◌++◌, map, slice_get, Option, Some, None, Vec}
 use Rattle.indexmap.specs.IndexSet.{IndexSet}
 use Rattle.rng_model.specs.names.Names.{NameClass, any_name, any_except, ns_name, ns_except, name_is, one_of, NameClasses, no_classes, class_and}
 use Rattle.rng_model.specs.simple.Tree.{Datatype}
-use Rattle.rng_simple.specs.declared.label_codes.LabelPart.{LabelPart}
-use Rattle.rng_simple.specs.declared.label_codes.LabelPart.TheVariants as parts
+use Rattle.rng_labels.specs.declared.label_codes.LabelPart.{LabelPart}
+use Rattle.rng_labels.specs.declared.label_codes.LabelPart.TheVariants as parts
 
 pub data Part : Type 0 where
+  number : ℕ → Part
   text : List ℕ → Part
   any : Part
   any_but : Part
@@ -16,6 +17,7 @@ pub data Part : Type 0 where
   either : Part
 
 abbrev pub part_of : LabelPart → Part
+part_of (parts.Number n) = number n
 part_of (parts.Text s) = text s.now
 part_of parts.Any = any
 part_of parts.AnyBut = any_but
@@ -37,6 +39,16 @@ unfoldable mutual
   pub more_code : NameClasses → List Part → List Part
   more_code no_classes rest = rest
   more_code (class_and c cs) rest = class_code c (either ∷ more_code cs rest)
+
+-- each choice in the class has two members
+abbrev pub IsInTwos : NameClass → Type 0
+IsInTwos any_name = Unit {0}
+IsInTwos (any_except c) = IsInTwos c
+IsInTwos (ns_name u) = Unit {0}
+IsInTwos (ns_except u c) = IsInTwos c
+IsInTwos (name_is n) = Unit {0}
+IsInTwos (one_of c d no_classes) = IsInTwos c × IsInTwos d
+IsInTwos (one_of c d (class_and e cs)) = ⊥
 
 unfoldable pub parameters_code : List (List ℕ × List ℕ) → List Part
 parameters_code [] = []

@@ -1,17 +1,17 @@
-use Rattle.std.proofs.Common.{◌≡◌, ◌∷◌, ◌++◌, [], ap, sym, ◌∙◌, map, drop, take, length, ◌-◌, ◌+◌}
+use Rattle.std.proofs.Common.{◌≡◌, ◌∷◌, ◌++◌, [], ap, sym, ◌∙◌, map, drop, take, length, ◌-◌, ◌+◌, arith}
 use Rattle.std.proofs.lemmas.List.{drop_all, drop_more}
+use Rattle.std.proofs.lemmas.Slice.{first_rest}
 use Rattle.rng_model.specs.names.Names.{classes_of, some_of}
 use Rattle.rng_model.specs.names.NameViews.{class_of}
-use Rattle.rng_graph.proofs.ListParts.{first_and_rest}
-use Rattle.rng_simple.specs.plain.LabelCodes.{any_but, class_code, more_code, ns_but, part_of}
-use Rattle.rng_simple.proofs.LabelCodes.{any_except_code, ends, goes_on, ns_except_code, put_after, starts}
-use Rattle.rng_simple.proofs.label_codes.+codes.Goals as goal
+use Rattle.rng_labels.specs.plain.LabelCodes.{any_but, class_code, more_code, ns_but, part_of}
+use Rattle.rng_labels.proofs.LabelCodes.{any_except_code, ends, goes_on, ns_except_code, put_after, starts}
+use Rattle.rng_labels.proofs.label_codes.+codes.Goals as goal
 
 pub put_members-loop-member-init : goal.put_members-loop-member-init
 put_members-loop-member-init t c =
     let rest = take (length c.args.members.now - 1) (drop 1 c.args.members.now) in
     let whole : c.first-item.result ∷ rest ≡ c.args.members.now =
-    first_and_rest c.args.members.now c.first-item.result c.in-len1-up.len_at_least c.first-item.is in
+    ap (λ first. first ∷ rest) c.first-item.is ∙ sym (first_rest c.args.members.now c.first-item.result (omega (arith, c.in-len1-up.len_at_least))) in
     starts (map part_of c.args.code.now.items) (map part_of c.put_class.new.code.items) (class_of c.first-item.result) (map class_of rest)
     c.in_ok-put_class.ensures ∙ ap (λ cs. map part_of c.args.code.now.items ++ class_code (some_of (map class_of cs)) []) whole
 

@@ -1,8 +1,8 @@
 use Rattle.std.proofs.Common.{◌≡◌, ◌++◌, [], map, drop}
 use Rattle.rng_model.specs.names.Names.{classes_of, some_of}
 use Rattle.rng_model.specs.names.NameViews.{class_of}
-use Rattle.rng_simple.specs.plain.LabelCodes.{class_code, more_code, part_of}
-use Rattle.rng_simple.proofs.label_codes.+codes.Given as goal
+use Rattle.rng_labels.specs.plain.LabelCodes.{class_code, more_code, part_of}
+use Rattle.rng_labels.proofs.label_codes.+codes.Given as goal
 
 abbrev pub invariant-put_members-loop-member : goal.invariant-put_members-loop-member
 invariant-put_members-loop-member l =

@@ -1,7 +1,7 @@
 use Rattle.std.proofs.Common.{◌≡◌, ◌++◌, map, drop}
 use Rattle.rng_model.specs.datatypes.DatatypeViews.{datatype_of, parameter_of}
-use Rattle.rng_simple.specs.plain.LabelCodes.{datatype_code, parameters_code, part_of}
-use Rattle.rng_simple.proofs.label_codes.put_datatype.Given as goal
+use Rattle.rng_labels.specs.plain.LabelCodes.{datatype_code, parameters_code, part_of}
+use Rattle.rng_labels.proofs.label_codes.put_datatype.Given as goal
 
 abbrev pub invariant-parameters : goal.invariant-parameters
 invariant-parameters l =

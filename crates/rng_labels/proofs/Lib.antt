@@ -1,0 +1,2 @@
+pub mod LabelCodes
+pub mod PairedClasses
