@@ -15,3 +15,4 @@ pub mod ClassTexts
 pub mod LineTexts
 pub mod TreeShapes
 pub mod OneForm
+pub mod SameNumberings
