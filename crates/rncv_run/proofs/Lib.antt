@@ -5,3 +5,5 @@ mod DocumentVerdict
 mod GoodSchemas
 mod Refusals
 mod UnknownNames
+mod OneAnswer
+mod OneSimpleForm

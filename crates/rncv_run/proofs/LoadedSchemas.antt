@@ -22,7 +22,7 @@ same_parts s t e f g =
     ∙ ap (λ x. record { main = t.main; components = t.components; outer = x }) g
 
 -- files are one schema
-same_schema : (read : TakenFiles) (main : Name) (s t : Schema) → AreSchema read main s → AreSchema read main t → s ≡ t
+pub same_schema : (read : TakenFiles) (main : Name) (s t : Schema) → AreSchema read main s → AreSchema read main t → s ≡ t
 same_schema read main s t a b =
     let same = one_schema (tree_in read) a.tree s t a.is (subst (λ tree. IsSchemaOf (tree_in read) tree t) (same_value b.main_file a.main_file) b.is) in
     same_parts s t same.0 (fun_ext (λ x. (same.1 x).0)) (fun_ext (λ x. (same.1 x).1))

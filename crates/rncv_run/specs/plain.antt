@@ -1,3 +1,4 @@
 -- Plain functions that the code is proved against, and private relations.
 pub mod Compiled
 pub mod Judging
+pub mod SameAnswers

@@ -17,3 +17,4 @@ pub mod ClassTexts
 pub mod LineTexts
 pub mod TreeShapes
 pub mod OneForm
+pub mod SameNumberings

@@ -4,7 +4,7 @@ use Rattle.std.specs.Prelude.{Contains, slice_get}
 use Rattle.std.proofs.Math.Dec.{ltb}
 use Rattle.std.proofs.lemmas.Bool.{ltb-true, lt-ltb}
 use Rattle.std.proofs.lemmas.List.Elements.{All-contains}
-use Rattle.std.proofs.lemmas.Option.{slice_get-get_or}
+use Rattle.std.proofs.lemmas.Option.{get_or_from_slice_get, slice_get-get_or, slice_get_within}
 use Rattle.rng_model.specs.names.Names.{NameClass, any_name}
 use Rattle.rng_model.specs.simple.Leaves.{AreLeavesBelow, renamed}
 use Rattle.rng_model.specs.schema.Schema.{Schema}
@@ -16,7 +16,7 @@ use Rattle.rncv_model.specs.printed.PrintedText.{element_at}
 use Rattle.rng_print.specs.plain.Renumbered.{renumbered, AreSameUpToNumbering}
 use Rattle.rncv_model.specs.printed.SchemaText.{IsPrintedForm}
 use Rattle.rng_print.proofs.FailedTests.{false_true}
-use Rattle.rng_print.proofs.SameText.{same_text}
+use Rattle.rng_print.proofs.SameText.{renumbered_back, same_text}
 use Rattle.rng_print.proofs.TreeShapes.{is_below, paired_tree}
 
 abbrev Row : Type 0
@@ -135,11 +135,20 @@ module _ (s : Schema) (g h : Grammar) (f : SimpleForm) (is : IsSimpleFormOfSchem
   paired : (k : ℕ) → k < n → (pairing k < m) × (other.element (pairing k) ≡ same.element k)
   paired k l = to_is k (ltb k n) refl l
 
+  paired_back : (j : ℕ) → j < m → (back j < n) × (same.element (back j) ≡ other.element j)
+  paired_back j l = from_is j (ltb j m) refl l
+
   there_and_back : (k : ℕ) → k < n → back (pairing k) ≡ k
   there_and_back k l =
       let p = paired k l in
-      let b = from_is (pairing k) (ltb (pairing k) m) refl p.0 in
+      let b = paired_back (pairing k) p.0 in
       same.one_to_one (back (pairing k)) k b.0 l (b.1 ∙ p.1)
+
+  back_and_there : (j : ℕ) → j < m → pairing (back j) ≡ j
+  back_and_there j l =
+      let b = paired_back j l in
+      let p = paired (back j) b.0 in
+      other.one_to_one (pairing (back j)) j p.0 l (p.1 ∙ b.1)
 
   below : (k : ℕ) → k < n → AreLeavesBelow n (as_tree (element_at g k).1)
   below k l = (same.bodies k _ _ (listed k l)).1
@@ -158,15 +167,43 @@ module _ (s : Schema) (g h : Grammar) (f : SimpleForm) (is : IsSimpleFormOfSchem
       let body = paired_body (element_at g k).1 (element_at h j).1 (below k l) (other.bodies j _ _ (there j p.0)).1 (sym (ap (λ r. r.body) e)) in
       ap (λ c. (c, (element_at h j).1)) (ap (λ r. r.class) e) ∙ ap (λ b. ((element_at g k).0, b)) body
 
+  carried : (k : ℕ) (c : NameClass) (p : Simple ℕ) → slice_get g.elements k ≡ Some (c, p) → slice_get h.elements (pairing k) ≡ Some (c, renumbered pairing p)
+  carried k c p e =
+      let l = slice_get_within g.elements k (c, p) e in
+      let is : element_at g k ≡ (c, p) = get_or_from_slice_get g.elements k (c, p) (any_name, s_not_allowed) e in
+      there (pairing k) (paired k l).0 ∙ ap Some (element_paired k l ∙ ap (λ r. (r.0, renumbered pairing r.1)) is)
+
+  start_carried : h.start ≡ renumbered pairing g.start
+  start_carried = paired_body g.start h.start same.start_below other.start_below (sym same.start ∙ other.start)
+
+  carried_back : (j : ℕ) (c : NameClass) (q : Simple ℕ) → slice_get h.elements j ≡ Some (c, q) → slice_get g.elements (back j) ≡ Some (c, renumbered back q)
+  carried_back j c q e =
+      let l = slice_get_within h.elements j (c, q) e in
+      let k = back j in
+      let b = (paired_back j l).0 in
+      let is : element_at h j ≡ (c, q) = get_or_from_slice_get h.elements j (c, q) (any_name, s_not_allowed) e in
+      let pair : ((element_at g k).0, renumbered pairing (element_at g k).1) ≡ (c, q) =
+      sym (element_paired k b) ∙ ap (element_at h) (back_and_there j l) ∙ is in
+      listed k b
+      ∙ ap (λ a. Some ((element_at g k).0, a)) (sym (renumbered_back pairing back n there_and_back (element_at g k).1 (is_below n (element_at g k).1 (below k b))))
+      ∙ ap (λ r. Some (r.0, renumbered back r.1)) pair
+
   pub same_numbering : AreSameUpToNumbering g h
   same_numbering = record {
     pairing = pairing;
     back = back;
-    there_and_back = there_and_back;
-    start = paired_body g.start h.start same.start_below other.start_below (sym same.start ∙ other.start);
-    start_below = is_below n g.start same.start_below;
-    elements = element_paired;
-    bodies_below = λ k l. is_below n (element_at g k).1 (below k l);
+    there = record {
+      start = start_carried;
+      elements = λ k c p e. (carried k c p e, (same.bodies k c p e).1);
+      leads_back = there_and_back;
+      start_below = same.start_below;
+    };
+    back_again = record {
+      start = sym (renumbered_back pairing back n there_and_back g.start (is_below n g.start same.start_below)) ∙ ap (renumbered back) (sym start_carried);
+      elements = λ j c q e. (carried_back j c q e, (other.bodies j c q e).1);
+      leads_back = back_and_there;
+      start_below = other.start_below;
+    };
   }
 
 pub one_form : (s : Schema) (t u : List ℕ) → IsPrintedForm s t → IsPrintedForm s u → t ≡ u

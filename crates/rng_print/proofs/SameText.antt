@@ -4,7 +4,8 @@ use Rattle.std.specs.Prelude.{◌==◌, decimal}
 use Rattle.std.specs.List.{AllByRecursion, filter_map}
 use Rattle.std.specs.Str.{bytes_eq}
 use Rattle.std.proofs.lemmas.Bool.{eqb-true, false_from_ne_true}
-use Rattle.rng_model.specs.names.Names.{NameClass}
+use Rattle.std.proofs.lemmas.Option.{get_or_from_slice_get, slice_get-get_or}
+use Rattle.rng_model.specs.names.Names.{NameClass, any_name}
 use Rattle.rng_model.specs.simple.Tree.{Simple, s_not_allowed, s_empty, s_text, s_leaf, s_attribute, s_list, s_data, s_data_except, s_value, s_one_or_more, s_joined}
 use Rattle.rng_model.specs.simple.Table.{Grammar}
 use Rattle.rncv_model.specs.printed.Numbering.{place_in, first_times}
@@ -12,12 +13,13 @@ use Rattle.rncv_model.specs.printed.Same.{same_tree}
 use Rattle.rncv_model.specs.printed.PrintedText.{Item, element, pattern, same_item, item_of, element_at, parts_of, mentions, IsItemsOf, element_in, pattern_in}
 use Rattle.rncv_model.specs.printed.PrintedText.{item_name, namespaces_of, namespaces, reference, pattern_text, element_text, item_text, item_line, namespace_line, line}
 use Rattle.rncv_model.specs.printed.PrintedText.{lines, text_of, IsPrinted, datatype_text, class_text, connector_text, namespaces_in}
-use Rattle.rng_print.specs.plain.Renumbered.{renumbered, IsBelow, AreSameUpToNumbering}
+use Rattle.rng_print.specs.plain.Renumbered.{renumbered, AreSameUpToNumbering}
 use Rattle.rng_print.proofs.Numberings.{all_append}
 use Rattle.rng_print.proofs.FailedTests.{false_true}
 use Rattle.rng_print.proofs.SameTests.{number_itself, tree_exact, tree_itself, item_exact, item_itself}
 use Rattle.rng_print.proofs.CarriedNumberings.{map_append, place_map, carried}
 use Rattle.rng_print.proofs.OneText.{one_text}
+use Rattle.rng_print.proofs.TreeShapes.{IsBelow, is_below}
 
 -- a test that is exact says of things carried over, and back again, what it says of them
 carried_test : {A B : Type 0} (same : A → A → Bool) (alike : B → B → Bool) → ((a b : A) → same a b ≡ true → a ≡ b) → ((a : A) → same a a ≡ true)
@@ -31,7 +33,7 @@ carried_test same alike exact itself only alone f back a b p q = at_test (same a
         false_from_ne_true (alike (f a) (f b))
         (λ m. false_true (sym e ∙ subst (λ (x : _). same a x ≡ true) (sym p ∙ ap back (only (f a) (f b) m) ∙ q) (itself a)))
 
-renumbered_back : (f back : ℕ → ℕ) (n : ℕ) → ((k : ℕ) → k < n → back (f k) ≡ k) → (a : Simple ℕ) → IsBelow n a → renumbered back (renumbered f a) ≡ a
+pub renumbered_back : (f back : ℕ → ℕ) (n : ℕ) → ((k : ℕ) → k < n → back (f k) ≡ k) → (a : Simple ℕ) → IsBelow n a → renumbered back (renumbered f a) ≡ a
 renumbered_back f back n e s_not_allowed h = refl
 renumbered_back f back n e s_empty h = refl
 renumbered_back f back n e s_text h = refl
@@ -176,8 +178,19 @@ module _ (g h : Grammar) (s : AreSameUpToNumbering g h) where
   abbrev count : ℕ
   count = length g.elements
 
+  element_moved : (k : ℕ) → k < count → element_at h (s.pairing k) ≡ ((element_at g k).0, renumbered s.pairing (element_at g k).1)
+  element_moved k b =
+      get_or_from_slice_get h.elements (s.pairing k) _ (any_name, s_not_allowed)
+      (s.there.elements k _ _ (slice_get-get_or g.elements k (any_name, s_not_allowed) b)).0
+
+  start_below : IsBelow count g.start
+  start_below = is_below count g.start s.there.start_below
+
+  body_below : (k : ℕ) → k < count → IsBelow count (element_at g k).1
+  body_below k b = is_below count (element_at g k).1 (s.there.elements k _ _ (slice_get-get_or g.elements k (any_name, s_not_allowed) b)).1
+
   namespaces_moved : (i : Item) → Below count i → namespaces_of h (moved s.pairing i) ≡ namespaces_of g i
-  namespaces_moved (element k) b = ap (λ (e : NameClass × Simple ℕ). namespaces_in e.0) (s.elements k b)
+  namespaces_moved (element k) b = ap (λ (e : NameClass × Simple ℕ). namespaces_in e.0) (element_moved k b)
   namespaces_moved (pattern s_not_allowed) b = refl
   namespaces_moved (pattern s_empty) b = refl
   namespaces_moved (pattern s_text) b = refl
@@ -198,37 +211,38 @@ module _ (g h : Grammar) (s : AreSameUpToNumbering g h) where
   item_text_moved : (ns : List (List ℕ)) (items : List Item) → AllByRecursion (Below count) items → (i : Item) → Below count i
       → item_text h ns (map (moved s.pairing) items) (moved s.pairing i) ≡ item_text g ns items i
   item_text_moved ns items all (element k) b =
-      ap (element_text ns (map (moved s.pairing) items)) (s.elements k b)
+      ap (element_text ns (map (moved s.pairing) items)) (element_moved k b)
       ∙ ap (λ (x : List ℕ). codes "element " ++ (class_text ns (element_at g k).0 ++ (codes " { " ++ (x ++ codes " }"))))
-      (reference_moved s.pairing s.back count s.there_and_back items all (element_at g k).1 (s.bodies_below k b))
-  item_text_moved ns items all (pattern a) b = text_moved s.pairing s.back count s.there_and_back items all ns a b
+      (reference_moved s.pairing s.back count s.there.leads_back items all (element_at g k).1 (body_below k b))
+  item_text_moved ns items all (pattern a) b = text_moved s.pairing s.back count s.there.leads_back items all ns a b
 
   lines_moved : (ns : List (List ℕ)) (items : List Item) → AllByRecursion (Below count) items → (some : List Item) → AllByRecursion (Below count) some
       → flat_map (item_line h ns (map (moved s.pairing) items)) (map (moved s.pairing) some) ≡ flat_map (item_line g ns items) some
   lines_moved ns items all [] b = refl
   lines_moved ns items all (i ∷ some) b =
-      rw (name_moved s.pairing s.back count s.there_and_back items all i b.0, item_text_moved ns items all i b.0, lines_moved ns items all some b.1) refl
+      rw (name_moved s.pairing s.back count s.there.leads_back items all i b.0, item_text_moved ns items all i b.0, lines_moved ns items all some b.1) refl
 
   mentions_moved : (i : Item) → Below count i → mentions h (moved s.pairing i) ≡ map (moved s.pairing) (mentions g i)
-  mentions_moved (element k) b = ap (λ (e : NameClass × Simple ℕ). item_of e.1) (s.elements k b) ∙ item_moved s.pairing (element_at g k).1
+  mentions_moved (element k) b = ap (λ (e : NameClass × Simple ℕ). item_of e.1) (element_moved k b) ∙ item_moved s.pairing (element_at g k).1
   mentions_moved (pattern a) b = parts_moved s.pairing a
 
   mentions_below : (i : Item) → Below count i → AllByRecursion (Below count) (mentions g i)
-  mentions_below (element k) b = item_below count (element_at g k).1 (s.bodies_below k b)
+  mentions_below (element k) b = item_below count (element_at g k).1 (body_below k b)
   mentions_below (pattern a) b = parts_below count a b
 
   items_moved : (items : List Item) → IsItemsOf g items → AllByRecursion (Below count) items × IsItemsOf h (map (moved s.pairing) items)
   items_moved items n = carried same_item same_item (moved s.pairing) (Below count)
       (λ a b p q. carried_test same_item same_item item_exact item_itself item_exact item_itself (moved s.pairing) (moved s.back) a b
-      (moved_back s.pairing s.back count s.there_and_back a p) (moved_back s.pairing s.back count s.there_and_back b q))
-      (item_of g.start) (mentions g) (item_of h.start) (mentions h) (ap item_of s.start ∙ item_moved s.pairing g.start) mentions_moved
-      (item_below count g.start s.start_below) mentions_below items n
+      (moved_back s.pairing s.back count s.there.leads_back a p) (moved_back s.pairing s.back count s.there.leads_back b q))
+      (item_of g.start) (mentions g) (item_of h.start) (mentions h) (ap item_of s.there.start ∙ item_moved s.pairing g.start) mentions_moved
+      (item_below count g.start start_below) mentions_below items n
 
   texts_same : (items : List Item) → AllByRecursion (Below count) items → text_of h (map (moved s.pairing) items) ≡ text_of g items
   texts_same items all =
       let ns : namespaces h (map (moved s.pairing) items) ≡ namespaces g items = ap (first_times bytes_eq) (all_namespaces items all) in
       let start : reference (map (moved s.pairing) items) h.start ≡ reference items g.start =
-      ap (reference (map (moved s.pairing) items)) s.start ∙ reference_moved s.pairing s.back count s.there_and_back items all g.start s.start_below in
+      ap (reference (map (moved s.pairing) items)) s.there.start
+      ∙ reference_moved s.pairing s.back count s.there.leads_back items all g.start start_below in
       ap (λ (x : List (List ℕ)). lines h x (map (moved s.pairing) items)) ns
       ∙ ap (λ (x : List ℕ). flat_map (namespace_line (namespaces g items)) (namespaces g items)
       ++ (line (codes "start") x ++ flat_map (item_line h (namespaces g items) (map (moved s.pairing) items)) (map (moved s.pairing) items))) start

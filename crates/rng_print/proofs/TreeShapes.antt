@@ -6,7 +6,7 @@ use Rattle.rng_model.specs.simple.Leaves.{LeafIn, here, of_attribute, of_list, o
 use Rattle.rng_model.specs.simple.Tree.{Tree, as_tree, not_allowed, empty, text, leaf, attribute, list, data_of, data_except, value, mixed, optional, zero_or_more}
 use Rattle.rng_model.specs.simple.Tree.{one_or_more, joined}
 use Rattle.rng_model.specs.simple.Tree.{Simple, s_not_allowed, s_empty, s_text, s_leaf, s_attribute, s_list, s_data, s_data_except, s_value, s_one_or_more, s_joined}
-use Rattle.rng_print.specs.plain.Renumbered.{renumbered, IsBelow}
+use Rattle.rng_print.specs.plain.Renumbered.{renumbered}
 use Rattle.rng_print.proofs.Numberings.{all_append}
 
 -- ---- shape and leaves
@@ -91,7 +91,7 @@ module _ {K L : Type 0} (f : K → L) where
   leaves_of (s_one_or_more s) = leaves_of s
   leaves_of (s_joined k s u) = rw (leaves_of s, leaves_of u) (sym (map-append f (leaves s) (leaves u)))
 
-  tree_of : (s : Simple K) → as_tree (renumbered f s) ≡ renamed f (as_tree s)
+  pub tree_of : (s : Simple K) → as_tree (renumbered f s) ≡ renamed f (as_tree s)
   tree_of s_not_allowed = refl
   tree_of s_empty = refl
   tree_of s_text = refl
@@ -103,6 +103,23 @@ module _ {K L : Type 0} (f : K → L) where
   tree_of (s_value d v) = refl
   tree_of (s_one_or_more s) = rw (tree_of s) refl
   tree_of (s_joined k s u) = rw (tree_of s, tree_of u) refl
+
+renumbered_twice : {J K L : Type 0} (f : J → K) (g : K → L) (s : Simple J) → renumbered g (renumbered f s) ≡ renumbered (λ j. g (f j)) s
+renumbered_twice f g s_not_allowed = refl
+renumbered_twice f g s_empty = refl
+renumbered_twice f g s_text = refl
+renumbered_twice f g (s_leaf l) = refl
+renumbered_twice f g (s_attribute c s) = ap (s_attribute c) (renumbered_twice f g s)
+renumbered_twice f g (s_list s) = rw (renumbered_twice f g s) refl
+renumbered_twice f g (s_data d) = refl
+renumbered_twice f g (s_data_except d s) = ap (s_data_except d) (renumbered_twice f g s)
+renumbered_twice f g (s_value d v) = refl
+renumbered_twice f g (s_one_or_more s) = rw (renumbered_twice f g s) refl
+renumbered_twice f g (s_joined k s u) = rw (renumbered_twice f g s, renumbered_twice f g u) refl
+
+-- other names for numbers that were changed are other names for the first
+pub renamed_renumbered : {J K L : Type 0} (f : J → K) (g : K → L) (s : Simple J) → renamed g (as_tree (renumbered f s)) ≡ renamed (λ j. g (f j)) (as_tree s)
+renamed_renumbered f g s = sym (tree_of g (renumbered f s)) ∙ ap as_tree (renumbered_twice f g s) ∙ tree_of (λ j. g (f j)) s
 
 -- ---- among the trees as written
 
@@ -153,6 +170,20 @@ all_leaves P (s_data_except d s) h = all_leaves P s (λ l i. h l (of_except i))
 all_leaves P (s_value d v) h = tt
 all_leaves P (s_one_or_more s) h = all_leaves P s (λ l i. h l (of_one_or_more i))
 all_leaves P (s_joined k s u) h = all_append P (leaves s) (leaves u) (all_leaves P s (λ l i. h l (of_first i))) (all_leaves P u (λ l i. h l (of_second i)))
+
+-- each leaf is one of the first n numbers
+abbrev pub IsBelow : ℕ → Simple ℕ → Type 0
+IsBelow n s_not_allowed = Unit {0}
+IsBelow n s_empty = Unit {0}
+IsBelow n s_text = Unit {0}
+IsBelow n (s_leaf k) = k < n
+IsBelow n (s_attribute c a) = IsBelow n a
+IsBelow n (s_list a) = IsBelow n a
+IsBelow n (s_data d) = Unit {0}
+IsBelow n (s_data_except d a) = IsBelow n a
+IsBelow n (s_value d v) = Unit {0}
+IsBelow n (s_one_or_more a) = IsBelow n a
+IsBelow n (s_joined k a b) = IsBelow n a × IsBelow n b
 
 pub is_below : (n : ℕ) (s : Simple ℕ) → AreLeavesBelow n (as_tree s) → IsBelow n s
 is_below n s_not_allowed h = tt

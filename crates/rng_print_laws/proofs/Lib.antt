@@ -41,5 +41,6 @@ pub mod ReadClasses
 pub mod ReadLines
 pub mod LinesTaken
 pub mod LinesLoaded
+pub mod SameForm
 pub mod PrintedAgain
 pub mod PrintedTwice

@@ -144,7 +144,7 @@ module _ (s r : Schema) (text : List ℕ) (h : IsReprintedAs s r text) where
   few_items : length h.printed.is_printed.items < 2 ^ 64
   few_items = let n = (items_few h.printed.grammar text h.printed.is_printed).0 in let few = h.few in omega (arith, n, few)
 
-  is_reprinted : IsReprinted s r h.printed.grammar h.printed.is_printed.items
+  pub is_reprinted : IsReprinted s r h.printed.grammar h.printed.is_printed.items
   is_reprinted = record { kept = h.kept; form = h.printed.is_form; numbered = h.printed.is_printed.numbered; few = few_items; lines = h.lines }
 
   pub reprinted_text : BreaksNoClause r × IsPrintedForm r text

@@ -19,7 +19,7 @@ use Rattle.rng_print_laws.specs.plain.LinesTree.{lines_tree}
 use Rattle.rng_print_laws.proofs.LinesKept.{reprinted_text}
 use Rattle.rng_print_laws.proofs.LinesTaken.{lines_taken, lines_are_schema}
 
-same_files : {r s : TakenFiles} → are_taken r ≡ are_taken s → r ≡ s
+pub same_files : {r s : TakenFiles} → are_taken r ≡ are_taken s → r ≡ s
 same_files e = cc
 
 file_or_all : {f : Name} {k : ℕ} {r : TakenFiles} → file_breaks f k ≡ are_taken r → ⊥

@@ -25,7 +25,7 @@
 //! name classes as they are written), `SimpleFormParts`, `SimpleDepths` and `GoodGrammars` (what a schema without faults leaves on its
 //! grammar), `LineTrees` (what a line stands for), `RenamedSteps`, `LinesForm` and `LinesGrammar` (the simple form of the
 //! lines), `LinesWritten` and `LinesKept` (their clauses), `ReadClasses`, `ReadLines`, `LinesTaken` and `LinesLoaded` (the file of
-//! the lines), `PrintedAgain` and `PrintedTwice` (answers).
+//! the lines), `SameForm` (which simple form it is of), `PrintedAgain` and `PrintedTwice` (answers).
 #![tactic(auto)]
 
 mod printable;

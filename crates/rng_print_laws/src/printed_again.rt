@@ -2,21 +2,28 @@
 ghost use Rattle.std.specs.Prelude.{◌≡◌, ◌≤◌, ℕ, List, Option, length};
 ghost use Rattle.rnc_model.specs.loading.SchemaFile.{Name, NamedFile, size_limit};
 ghost use Rattle.rng_model.specs.schema.Schema.{Schema};
-ghost use Rattle.rng_print_laws.specs.plain.HandedIn.{IsHandedInAgain, IsPrintedFile, text_alone};
+ghost use Rattle.rng_print_laws.specs.plain.HandedIn.{AreFilesOf, AreOfSameForm, IsHandedInAgain, IsPrintedFile, text_alone};
 ghost use Rattle.rncv_model.specs.answers.Answer.{Answer, printed};
 ghost use Rattle.rncv_model.specs.answers.Run.{IsAnswer};
 ghost use Rattle.rncv_model.specs.declared.command.Command.TheVariants.{Simple};
 
 use crate::printable::printable_laws;
 use crate::reading_back::reading_back_laws;
+use rncv_run::answer_laws;
 
-/// The law of printed texts that are handed in again. It does nothing: its contract is what it is for.
+/// The laws of printed texts that are handed in again. It does nothing: its contract is what it is for.
+///
+/// What `simple` prints for a schema, handed in alone as a file of any name, if it is no longer than a file may be, is a schema
+/// that breaks no clause, and has the same simple form up to the numbers of its elements (`same_form`).
 ///
 /// Where a text is printed for a schema that breaks no clause, and the main file has the tree of its lines, the answer of
 /// `simple` is this text and no other. So it is where the text is handed in alone, if it is no longer than a file may be and
 /// has that tree. What `simple` answers for files has: so its answer for this text alone is the text itself, if it is no
 /// longer than a file may be.
 pub fn printed_again_laws()
+    ensures same_form { (files : List NamedFile) (main : Name) (input_old input_new : Option (List ℕ)) (text : List ℕ)
+        → IsAnswer Simple files main input_old input_new (printed text) → length text ≤ size_limit
+        → (s : Schema) → AreFilesOf s files main → (name : Name) → AreOfSameForm s (text_alone name text) name }
     ensures again { (s : Schema) (text : List ℕ) (files : List NamedFile) (main : Name) → IsHandedInAgain s text files main
         → (input_old input_new : Option (List ℕ)) (answer : Answer) → IsAnswer Simple files main input_old input_new answer → answer ≡ printed text }
     ensures alone { (s : Schema) (text : List ℕ) → IsPrintedFile s text → (main : Name) (input_old input_new : Option (List ℕ)) (answer : Answer)
@@ -27,4 +34,5 @@ pub fn printed_again_laws()
 {
     reading_back_laws();
     printable_laws();
+    answer_laws();
 }

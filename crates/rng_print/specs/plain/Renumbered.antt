@@ -1,8 +1,10 @@
 -- Two simple grammars that differ in the numbers of their elements alone.
-use Rattle.std.specs.Prelude.{◌≡◌, ℕ, ◌<◌, length}
+use Rattle.std.specs.Prelude.{◌≡◌, ℕ, ◌<◌, Some, length, slice_get}
+use Rattle.rng_model.specs.names.Names.{NameClass}
+use Rattle.rng_model.specs.simple.Leaves.{AreLeavesBelow}
 use Rattle.rng_model.specs.simple.Tree.{Simple, s_not_allowed, s_empty, s_text, s_leaf, s_attribute, s_list, s_data, s_data_except, s_value, s_one_or_more, s_joined}
+use Rattle.rng_model.specs.simple.Tree.{as_tree}
 use Rattle.rng_model.specs.simple.Table.{Grammar}
-use Rattle.rncv_model.specs.printed.PrintedText.{element_at}
 
 -- the tree with other names for its leaves
 abbrev pub renumbered : {K L : Type 0} → (K → L) → Simple K → Simple L
@@ -18,26 +20,18 @@ renumbered f (s_value d v) = s_value d v
 renumbered f (s_one_or_more a) = s_one_or_more (renumbered f a)
 renumbered f (s_joined k a b) = s_joined k (renumbered f a) (renumbered f b)
 
--- each leaf is one of the first n numbers
-abbrev pub IsBelow : ℕ → Simple ℕ → Type 0
-IsBelow n s_not_allowed = Unit {0}
-IsBelow n s_empty = Unit {0}
-IsBelow n s_text = Unit {0}
-IsBelow n (s_leaf k) = k < n
-IsBelow n (s_attribute c a) = IsBelow n a
-IsBelow n (s_list a) = IsBelow n a
-IsBelow n (s_data d) = Unit {0}
-IsBelow n (s_data_except d a) = IsBelow n a
-IsBelow n (s_value d v) = Unit {0}
-IsBelow n (s_one_or_more a) = IsBelow n a
-IsBelow n (s_joined k a b) = IsBelow n a × IsBelow n b
+-- Start, name classes and bodies are carried over to the second grammar, by these numbers of its elements for those of the first, and the others lead
+-- back. Each number in the start and in a body is that of an element.
+pub record IsCarriedOver (to back : ℕ → ℕ) (g h : Grammar) : Type 0 where
+  pub start : h.start ≡ renumbered to g.start
+  pub start_below : AreLeavesBelow (length g.elements) (as_tree g.start)
+  pub elements : (k : ℕ) (c : NameClass) (p : Simple ℕ) → slice_get g.elements k ≡ Some (c, p) →
+      (slice_get h.elements (to k) ≡ Some (c, renumbered to p)) × AreLeavesBelow (length g.elements) (as_tree p)
+  pub leads_back : (k : ℕ) → k < length g.elements → back (to k) ≡ k
 
--- a pairing of the elements, one to one, carries start, name classes and bodies over
+-- a pairing of the elements of both grammars, one to one and onto, carries start, name classes and bodies over, either way
 pub record AreSameUpToNumbering (g h : Grammar) : Type 0 where
   pub pairing : ℕ → ℕ
   pub back : ℕ → ℕ
-  pub there_and_back : (k : ℕ) → k < length g.elements → back (pairing k) ≡ k
-  pub start : h.start ≡ renumbered pairing g.start
-  pub start_below : IsBelow (length g.elements) g.start
-  pub elements : (k : ℕ) → k < length g.elements → element_at h (pairing k) ≡ ((element_at g k).0, renumbered pairing (element_at g k).1)
-  pub bodies_below : (k : ℕ) → k < length g.elements → IsBelow (length g.elements) (element_at g k).1
+  pub there : IsCarriedOver pairing back g h
+  pub back_again : IsCarriedOver back pairing h g

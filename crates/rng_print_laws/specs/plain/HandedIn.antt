@@ -1,11 +1,13 @@
 -- What is printed for a schema, handed in as the main file.
-use Rattle.std.specs.Prelude.{◌≡◌, ℕ, ◌<◌, ◌≤◌, ◌^◌, List, [], ◌∷◌, length, Result, MatchResult}
+use Rattle.std.specs.Prelude.{◌≡◌, ◌↔◌, ℕ, ◌<◌, ◌≤◌, ◌^◌, List, [], ◌∷◌, length, Result, MatchResult}
 use Rattle.rng_model.specs.schema.Schema.{Schema}
 use Rattle.rng_model.specs.schema.SchemaClauses.{BreaksNoClause}
+use Rattle.rng_model.specs.simple.SchemaForm.{IsSimpleGrammarOf}
 use Rattle.rng_model.specs.simple.Table.{Grammar}
 use Rattle.rng_model.specs.declared.fault.SchemaFault.{SchemaFault}
 use Rattle.rng_model.specs.declared.fault.SchemaFault.TheVariants as faults
-use Rattle.rnc_model.specs.loading.Loading.{TakenFiles}
+use Rattle.rnc_model.specs.loading.LoadedSchema.{AreSchema}
+use Rattle.rnc_model.specs.loading.Loading.{TakenFiles, are_taken, FilesHaveVerdict, FilesHaveOnlyVerdict}
 use Rattle.rng_load.specs.views.PlacedGrammars.{schema_of}
 use Rattle.rnc_model.specs.loading.SchemaFile.{Name, NamedFile, HasTree, IsSchemaFile, size_limit}
 use Rattle.rng_load.specs.declared.schema.Schema as loaded
@@ -39,3 +41,25 @@ text_alone main text = record { name = main; bytes = text } ∷ []
 -- the schema that is answered breaks no clause, and this is printed for it; unless memory ran out
 abbrev pub IsAgain : List ℕ → Result loaded.Schema SchemaFault → Type 0
 IsAgain text result = MatchResult result (λ r. BreaksNoClause (schema_of r) × IsPrintedForm (schema_of r) text) (λ fault. fault ≡ faults.Memory)
+
+-- ---- which schema files are, and of which simple form
+
+-- the files are this schema: that they are taken is the verdict on them, and the only one
+pub record AreFilesOf (s : Schema) (files : List NamedFile) (main : Name) : Type 0 where
+  pub read : TakenFiles
+  pub taken : FilesHaveOnlyVerdict files main (are_taken read)
+  pub are : AreSchema read main s
+
+-- the simple form of both schemas is the same: a grammar is a simple form of the one, up to numbering, exactly if it is one of the other
+abbrev pub HaveSameForm : Schema → Schema → Type 0
+HaveSameForm s r = (g : Grammar) → IsSimpleGrammarOf s g ↔ IsSimpleGrammarOf r g
+
+-- The files are taken, and are a schema, the only one that they can be. It breaks no clause, and its simple form is that of the first.
+pub record AreOfSameForm (s : Schema) (files : List NamedFile) (main : Name) : Type 0 where
+  pub read : TakenFiles
+  pub taken : FilesHaveVerdict files main (are_taken read)
+  pub schema : Schema
+  pub are : AreSchema read main schema
+  pub only : (r : Schema) → AreFilesOf r files main → r ≡ schema
+  pub kept : BreaksNoClause schema
+  pub form : HaveSameForm s schema

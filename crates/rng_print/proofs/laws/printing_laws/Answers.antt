@@ -1,5 +1,6 @@
 use Rattle.rng_print.proofs.OneForm as form
 use Rattle.rng_print.proofs.OneText as text
+use Rattle.rng_print.proofs.SameNumberings as numbering
 use Rattle.rng_print.proofs.SameText as renumbered
 use Rattle.rng_print.proofs.laws.printing_laws.Goals as goal
 
@@ -11,3 +12,9 @@ returns-clause-same c = renumbered.same_text
 
 pub returns-clause-schema : goal.returns-clause-schema
 returns-clause-schema c = form.one_form
+
+pub returns-clause-as_many : goal.returns-clause-as_many
+returns-clause-as_many c = numbering.as_many
+
+pub returns-clause-form : goal.returns-clause-form
+returns-clause-form c = numbering.is_form_too
