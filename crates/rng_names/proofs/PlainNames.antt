@@ -1,7 +1,8 @@
--- A class that is one name overlaps with those that hold the name.
-use Rattle.std.proofs.Common.{◌≡◌, refl, sym, subst, Bool, IsTrue, IsFalse, Decides}
+-- A class that is one name overlaps with those that hold the name, and which of two classes comes first changes nothing.
+use Rattle.std.proofs.Common.{◌≡◌, refl, sym, subst, Bool, true, false, IsTrue, IsFalse, Decides}
 use Rattle.std.proofs.lemmas.Bool.Decides.{not_from_Decides}
 use Rattle.rng_model.specs.names.Names.{Name, NameClass, In, IsPairOfTexts, Overlap, AreApart, name_is}
+use Rattle.rng_names.specs.plain.EitherWay.{TellsOverlap}
 
 -- the name itself lies in both
 pub plain_common : (r : Bool) (q : Name) (c d : NameClass) → IsPairOfTexts q → c ≡ name_is q → Decides r (In d q) → IsTrue r → Overlap c d
@@ -15,3 +16,10 @@ plain_apart r q c d e decides denied p in_c in_d =
 
 pub swapped : (c d : NameClass) → Overlap c d → Overlap d c
 swapped c d both = (both.0, both.1, both.3, both.2)
+
+-- what tells whether two classes overlap tells the same of them in the other order
+pub either_way : (c d : NameClass) (yes : Bool) → (IsTrue yes → Overlap c d) → (IsFalse yes → AreApart c d) → (back : Bool) → TellsOverlap d c back → back ≡ yes
+either_way c d true common apart true told = refl
+either_way c d true common apart false told = let both = common refl in absurd (told.apart refl both.0 both.3 both.2)
+either_way c d false common apart true told = let both = told.common refl in absurd (apart refl both.0 both.3 both.2)
+either_way c d false common apart false told = refl

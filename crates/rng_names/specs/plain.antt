@@ -3,3 +3,4 @@ pub mod Holding
 pub mod Written
 pub mod Keys
 pub mod WrittenNames
+pub mod EitherWay

@@ -1,8 +1,9 @@
 // Whether two name classes have a name in common.
-ghost use Rattle.std.specs.Prelude.{◌≡◌, ◌<◌, ◌&&◌, length, ◌⊎◌, IfOk, IsOk, IsTrue, IsFalse};
+ghost use Rattle.std.specs.Prelude.{◌≡◌, ◌<◌, ◌&&◌, length, ◌⊎◌, Bool, IfOk, IsOk, IsTrue, IsFalse};
 ghost use Rattle.rng_model.specs.names.Names.{Overlap, AreApart};
 ghost use Rattle.rng_model.specs.names.NameViews.{class_of};
 ghost use Rattle.rng_names.specs.views.Alternatives.{IsFresh, Stands};
+ghost use Rattle.rng_names.specs.plain.EitherWay.{TellsOverlap};
 ghost use Rattle.rng_names.specs.plain.Holding.{pair};
 ghost use Rattle.rng_names.specs.views.PlainNames.{IsPlain};
 ghost use Rattle.rng_names.specs.plain.Written.{both_hold, is_met, longest};
@@ -15,13 +16,15 @@ use std::alloc::Global;
 
 /// Whether some name lies in both classes, a name being any pair of texts.
 ///
-/// RELAX NG Specification, section 7.3. Only want of memory is an error. Where one of the two is a plain name, the cost
-/// is one `contains` of the other, and no memory is taken. Else memory and cost are linear in the size of the two
-/// classes, but for hashing, where no alternative of them has an except; and for each alternative that has one, the cost
-/// is at most two comparisons of each name and each namespace of the classes with each that is written in it.
+/// RELAX NG Specification, section 7.3. Whichever of the two comes first, the answer is the same. Only want of memory is
+/// an error. Where one of the two is a plain name, the cost is one `contains` of the other, and no memory is taken. Else
+/// memory and cost are linear in the size of the two classes, but for hashing, where no alternative of them has an except;
+/// and for each alternative that has one, the cost is at most two comparisons of each name and each namespace of the
+/// classes with each that is written in it.
 pub fn overlap(alloc: Global, a: &NameClass, b: &NameClass) -> Result<bool, OutOfMemory>
     ensures common { IfOk result (λ yes. IsTrue yes → Overlap (class_of a.now) (class_of b.now)) }
     ensures apart { IfOk result (λ yes. IsFalse yes → AreApart (class_of a.now) (class_of b.now)) }
+    ensures either_way { IfOk result (λ yes. (back : Bool) → TellsOverlap (class_of b.now) (class_of a.now) back → back ≡ yes) }
     ensures plain { IsPlain a.now ⊎ IsPlain b.now → IsOk result }
 {
     match (a, b) {

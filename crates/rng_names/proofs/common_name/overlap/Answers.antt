@@ -1,6 +1,7 @@
-use Rattle.std.proofs.Common.{rules}
+use Rattle.std.proofs.Common.{IsTrue, IsFalse, rules}
+use Rattle.rng_model.specs.names.Names.{Overlap, AreApart}
 use Rattle.rng_model.specs.names.NameViews.{class_of, name_of}
-use Rattle.rng_names.proofs.PlainNames.{plain_common, plain_apart, swapped}
+use Rattle.rng_names.proofs.PlainNames.{either_way, plain_common, plain_apart, swapped}
 use Rattle.rng_names.proofs.NameViews.{are_texts, name_class_is}
 use Rattle.rng_names.proofs.common_name.overlap.Goals as goal
 
@@ -12,11 +13,10 @@ returns-in-Name-default-clause-common c =
 pub returns-in_default-Name : goal.returns-in_default-Name
 returns-in_default-Name c =
     let n = c.in_default-Name.name in
+    let a = class_of c.args.a.now in
+    let b = class_of c.args.b.now in
     let is = name_class_is _ n c.in_default-Name.is-1 in
-    record {
-      common = λ told. swapped _ _
-          (plain_common _ (name_of n) (class_of c.args.b.now) (class_of c.args.a.now) (are_texts n) is c.contains-in_default-Name.ensures told);
-      apart = λ denied q in_a in_b. plain_apart _ (name_of n) (class_of c.args.b.now)
-          (class_of c.args.a.now) is c.contains-in_default-Name.ensures denied q in_b in_a;
-      plain = search rules;
-    }
+    let decides = c.contains-in_default-Name.ensures in
+    let common : IsTrue c.contains-in_default-Name.result → Overlap a b = λ told. swapped b a (plain_common _ (name_of n) b a (are_texts n) is decides told) in
+    let apart : IsFalse c.contains-in_default-Name.result → AreApart a b = λ denied q in_a in_b. plain_apart _ (name_of n) b a is decides denied q in_b in_a in
+    record { common = common; apart = apart; either_way = either_way a b _ common apart; plain = search rules }
