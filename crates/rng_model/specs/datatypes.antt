@@ -4,7 +4,6 @@ pub mod DatatypeTests
 pub mod DatatypeViews
 pub mod Datatypes
 pub mod Facets
-pub mod KnownDatatypes
 pub mod Numerals
 pub mod Texts
 pub mod Values

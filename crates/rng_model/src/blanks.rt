@@ -76,7 +76,7 @@ fn is_blank(byte: u8) -> bool
 /// The text with the blanks at both ends dropped, and each run of blanks inside made one space.
 ///
 /// A blank is a space, a tab, a line feed or a carriage return.
-/// XML Schema Part 2, section 4.3.6, `collapse`. `OutOfMemory` is answered where memory is wanting.
+/// XML Schema Part 2, section 4.3.6, `collapse`. The error is want of memory. One pass over the text.
 pub fn collapse(alloc: Global, text: &str) -> Result<String, OutOfMemory>
     ensures { IfOk result (λ t. string_bytes t ≡ collapse text.now) }
 {
@@ -94,7 +94,7 @@ pub fn collapse(alloc: Global, text: &str) -> Result<String, OutOfMemory>
 
 /// The longest runs without blanks, in order, as slices of the text.
 ///
-/// RELAX NG Specification, section 6.2.10. `OutOfMemory` is answered where memory is wanting.
+/// RELAX NG Specification, section 6.2.10. The error is want of memory. One pass over the text.
 pub fn split_blanks<'a>(alloc: Global, text: &'a str) -> Result<Vec<&'a str>, OutOfMemory>
     ensures pieces { IfOk result (λ v. map (λ t. t.now) v.items ≡ pieces text.now) }
     ensures runs { IfOk result (λ v. HasRuns text.now (map (λ t. t.now) v.items)) }

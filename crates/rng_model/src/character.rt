@@ -5,7 +5,7 @@ ghost use Rattle.rng_model.specs.names.Characters.{is_xml_char, is_name_start, i
 
 /// Whether the character may stand in an XML document.
 ///
-/// XML 1.0 Fifth Edition, section 2.2, `Char`.
+/// XML 1.0 Fifth Edition, section 2.2, `Char`. Takes no memory.
 pub fn is_xml_char(c: char) -> bool
     ensures { result ≡ is_xml_char c }
 {
@@ -17,7 +17,7 @@ pub fn is_xml_char(c: char) -> bool
 
 /// Whether a name may begin with the character.
 ///
-/// XML 1.0 Fifth Edition, section 2.3, `NameStartChar`.
+/// XML 1.0 Fifth Edition, section 2.3, `NameStartChar`. Takes no memory.
 pub fn is_name_start(c: char) -> bool
     ensures { result ≡ is_name_start c }
 {
@@ -33,7 +33,7 @@ pub fn is_name_start(c: char) -> bool
 
 /// Whether the character may stand in a name after its first.
 ///
-/// XML 1.0 Fifth Edition, section 2.3, `NameChar`.
+/// XML 1.0 Fifth Edition, section 2.3, `NameChar`. Takes no memory.
 pub fn is_name_char(c: char) -> bool
     ensures { result ≡ is_name_char c }
 {
@@ -46,7 +46,7 @@ pub fn is_name_char(c: char) -> bool
 
 /// Whether the text is a name without a colon: a `NameStartChar` and then `NameChar`s, none of them `:`.
 ///
-/// Namespaces in XML 1.0, section 3, `NCName`. One pass over the text.
+/// Namespaces in XML 1.0, section 3, `NCName`. One pass over the text. Takes no memory.
 pub fn is_ncname(text: &str) -> bool
     ensures { result ≡ is_ncname (chars text.now) }
 {

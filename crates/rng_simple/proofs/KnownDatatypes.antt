@@ -8,7 +8,7 @@ use Rattle.rng_model.specs.simple.Tree.{Connector, Tree, not_allowed, empty, tex
 use Rattle.rng_model.specs.simple.Tree.{zero_or_more, one_or_more, joined, Trees, no_trees, tree_and, as_tree}
 use Rattle.rng_model.specs.simple.Tree.{Simple, s_not_allowed, s_empty, s_text, s_leaf, s_attribute, s_list, s_data, s_data_except, s_value}
 use Rattle.rng_model.specs.simple.Tree.{s_one_or_more, s_joined}
-use Rattle.rng_model.specs.datatypes.Datatypes.{IsKnownDatatype, IsValueDatatype, AreDatatypesKnown}
+use Rattle.rng_model.specs.datatypes.Datatypes.{IsKnownDatatype}
 use Rattle.rng_model.specs.simple.Table.{Grammar}
 use Rattle.rng_model.specs.simple.Leaves.{renamed, LeafIn, LeafAmong}
 use Rattle.rng_model.specs.schema.Patterns as written
@@ -29,7 +29,7 @@ use Rattle.rng_model.specs.schema.Reached.{IsReachedBySimpleForms, from_simple_s
 use Rattle.rng_model.proofs.Unfolding.{some_is}
 use Rattle.rng_schema_checks.proofs.KeptDatatypes.{data_known, data_except_known, value_allowed}
 use Rattle.rng_graph.proofs.ResolvedBodies.{none_is_not_some}
-use Rattle.rng_model.specs.datatypes.KnownDatatypes.{AreGrammarDatatypesKnown}
+use Rattle.rng_simple.specs.plain.KnownDatatypes.{AreDatatypesKnown, AreGrammarDatatypesKnown, IsValueDatatype}
 
 first : {A B : Type 0} → A × B → A
 first p = p.0

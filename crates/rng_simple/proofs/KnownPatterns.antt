@@ -3,8 +3,6 @@ use Rattle.std.proofs.Common.{ℕ, List, [], ◌∷◌, subst, length, get_or, A
 use Rattle.std.proofs.lemmas.List.Elements.{All-from_get_or, All-head, All-tail}
 use Rattle.std.proofs.lemmas.Option.{slice_get-get_or}
 use Rattle.rng_model.specs.simple.Tree.{Simple}
-use Rattle.rng_model.specs.datatypes.Datatypes.{AreDatatypesKnown}
-use Rattle.rng_model.specs.datatypes.KnownDatatypes.{AreGrammarDatatypesKnown}
 use Rattle.rng_model.specs.names.Lists.{Among, here, there}
 use Rattle.rng_model.specs.restrictions.Restrictions as restrictions
 use Rattle.rng_model.specs.restrictions.Restrictions.{IsPart, StandsIn, the_start, a_body}
@@ -14,6 +12,7 @@ use Rattle.rng_model.specs.declared.simple.PatternId.{PatternId}
 use Rattle.rng_model.specs.declared.simple.Simple as declared
 use Rattle.rng_model.specs.declared.simple.Simple.TheVariants as simple
 use Rattle.rng_model.proofs.Table.{tree_at-over_children}
+use Rattle.rng_simple.specs.plain.KnownDatatypes.{AreDatatypesKnown, AreGrammarDatatypesKnown}
 
 -- what is in a tree whose datatypes are known is such a tree
 known_inside : {q p : Simple ℕ} → StandsIn q p → AreDatatypesKnown p → AreDatatypesKnown q

@@ -12,11 +12,11 @@ pub trait Datatype {
     // which texts are equal
     ghost equal: { Self → List ℕ → List ℕ → Bool };
 
-    /// Whether the datatype allows the text.
+    /// Whether the datatype allows the text. A few passes over it. Takes no memory.
     fn allows(&self, text: &str) -> bool
         ensures { result ≡ allows self.now text.now };
 
-    /// Whether the datatype allows both texts and they are equal in it.
+    /// Whether the datatype allows both texts and they are equal in it. A few passes over them. Takes no memory.
     fn equal(&self, a: &str, b: &str) -> bool
         ensures { result ≡ equal self.now a.now b.now };
 

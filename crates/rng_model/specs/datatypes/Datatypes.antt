@@ -5,8 +5,7 @@ use Rattle.std.specs.Prelude.{◌≡◌, ◌⊎◌, codes, ℕ, List, [], ◌∷
 use Rattle.std.specs.List.{list_all}
 use Rattle.std.specs.Option.{option_map}
 use Rattle.std.specs.Str.{chars}
-use Rattle.rng_model.specs.simple.Tree.{Datatype, Simple, s_not_allowed, s_empty, s_text, s_leaf, s_attribute, s_list, s_data, s_data_except, s_value}
-use Rattle.rng_model.specs.simple.Tree.{s_one_or_more, s_joined}
+use Rattle.rng_model.specs.simple.Tree.{Datatype}
 use Rattle.rng_model.specs.names.Characters.{is_name_char, is_ncname}
 use Rattle.rng_model.specs.datatypes.Blanks.{collapse}
 use Rattle.rng_model.specs.datatypes.Values.{Value, text, truth, are_equal, text_if}
@@ -166,24 +165,6 @@ HasUnknownType d = IsKnownLibrary d.library × ¬ (IsKnownType d.library d.name)
 -- the type is known, and does not take its parameters
 abbrev pub HasBadParameters : Datatype → Type 0
 HasBadParameters d = IsKnownType d.library d.name × ¬ (IsKnownDatatype d)
-
--- the datatype of a value: it is known, and has no parameters
-abbrev pub IsValueDatatype : Datatype → Type 0
-IsValueDatatype d = IsKnownDatatype d × (d.parameters ≡ [])
-
--- each datatype of a tree is known, and that of a value has no parameters
-abbrev pub AreDatatypesKnown : {L : Type 0} → Simple L → Type 0
-AreDatatypesKnown s_not_allowed = Unit {0}
-AreDatatypesKnown s_empty = Unit {0}
-AreDatatypesKnown s_text = Unit {0}
-AreDatatypesKnown (s_leaf l) = Unit {0}
-AreDatatypesKnown (s_attribute c s) = AreDatatypesKnown s
-AreDatatypesKnown (s_list s) = AreDatatypesKnown s
-AreDatatypesKnown (s_data d) = IsKnownDatatype d
-AreDatatypesKnown (s_data_except d s) = IsKnownDatatype d × AreDatatypesKnown s
-AreDatatypesKnown (s_value d v) = IsValueDatatype d
-AreDatatypesKnown (s_one_or_more s) = AreDatatypesKnown s
-AreDatatypesKnown (s_joined k s u) = AreDatatypesKnown s × AreDatatypesKnown u
 
 -- ---- what a datatype says of texts; one that is not known allows nothing
 
