@@ -46,8 +46,8 @@ rows-preserved c =
           (skipped l rs reached i places listed ps c.rows.invariant (λ h. true_is_not_false (some_is h is)))
     ]
 
-pub returns-clause-copied : goal.returns-clause-copied
-returns-clause-copied c =
+pub returns : goal.returns
+returns c =
     let rs = c.args.table.now.rows.items in
     let all : c.rows.i ≡ length rs = omega (arith, c.rows-test.false, c.rows.auto.i-end, c.len-i-end.ensures) in
     subst (λ n. AreCopied (finished_labels c.args.table.now) rs c.args.reached.now n c.rows.places.items c.rows.patterns.items c.rows.listed.items) all

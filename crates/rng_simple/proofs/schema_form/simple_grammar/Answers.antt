@@ -20,3 +20,6 @@ returns-clause-simple_form c = λ s is. rw c.new.ensures
 pub returns-clause-only : goal.returns-clause-only
 returns-clause-only c = λ s is. rw c.new.ensures
     (made_is_only_grammar s c.args.graph is c.args.order.items c.requires.order _ c.in_ok-tables.ensures.made.made)
+
+pub returns-clause-used : goal.returns-clause-used
+returns-clause-used c = rw c.new.ensures c.in_ok-tables.ensures.made.used
