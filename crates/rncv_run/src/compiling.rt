@@ -4,7 +4,7 @@ ghost use Rattle.rng_load.specs.views.PlacedGrammars.{schema_of};
 ghost use Rattle.rng_model.specs.schema.SchemaClauses.{BreaksNoClause};
 ghost use Rattle.rng_model.specs.simple.SchemaForm.{IsOnlySimpleGrammarOf, IsSimpleGrammarOf};
 ghost use Rattle.rng_model.specs.matching.SchemaMatching.{AreSameDocuments};
-ghost use Rattle.rng_model.specs.simple.Table.{AreToldApart, grammar_of};
+ghost use Rattle.rng_model.specs.simple.Table.{grammar_of};
 ghost use Rattle.rng_model.specs.restrictions.BreaksNone.{BreaksNone};
 ghost use Rattle.rncv_run.specs.plain.Compiled.{IsCompiled, IsLeastFault};
 
@@ -48,7 +48,6 @@ pub(crate) fn compile(
 fn good_grammar(alloc: Global, schema: Schema) -> Result<SimpleGrammar, SchemaFault>
     ensures form { IfOk result (λ g. IsSimpleGrammarOf (schema_of schema) (grammar_of g)) }
     ensures only { IfOk result (λ g. IsOnlySimpleGrammarOf (schema_of schema) (grammar_of g)) }
-    ensures apart { IfOk result AreToldApart }
     ensures documents { IfOk result (λ g. AreSameDocuments (schema_of schema) (grammar_of g)) }
     ensures restricted { IfOk result (λ g. BreaksNone (grammar_of g)) }
     ensures kept { OnOk result (BreaksNoClause (schema_of schema)) }

@@ -55,9 +55,10 @@ module _ (of : PatternId → tree.Simple ℕ) (f : PatternId → ℕ) where
       let i : datatype_code (datatype_of c.value) ≡ datatype_code (datatype_of d.value) = cc in
       ap₂ tree.s_data_except (same_datatypes (datatype_of c.value) (datatype_of d.value) i) ((t a b x y).0 h)
   same_trees m n (simple.Value v) (simple.Value w) x y u z t e =
-      let i : value_code (without_parameters (string_bytes v.value.library) (string_bytes v.value.name), string_bytes v.value.text)
-      ≡ value_code (without_parameters (string_bytes w.value.library) (string_bytes w.value.name), string_bytes w.value.text) = cc in
-      let s = same_values _ _ i in
+      let old = (without_parameters (string_bytes v.value.library) (string_bytes v.value.name), string_bytes v.value.text) in
+      let new = (without_parameters (string_bytes w.value.library) (string_bytes w.value.name), string_bytes w.value.text) in
+      let i : value_code old ≡ value_code new = cc in
+      let s = same_values old new i in
       ap₂ tree.s_value (ap₂ without_parameters s.0 s.1) s.2
   same_trees m n (simple.OneOrMore a) (simple.OneOrMore b) x y u v t e = let h : f a ≡ f b = cc in ap tree.s_one_or_more ((t a b x y).0 h)
   same_trees m n (simple.Group a c) (simple.Group b d) x y u v t e =

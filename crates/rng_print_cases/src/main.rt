@@ -4,11 +4,10 @@
 //! A row has what is asked for, and files: the name of each, a text, and how often the text stands in it. Texts of one name
 //! stand behind one another. In each of them `^` is its number, from 0, and `^+` the next one. The first file is the main one.
 //! Asked for is `text`, the whole text; `end`, how many lines it has, and the last; `again`, no more than whether it is
-//! printed as itself again; or `written`, what comes of printing the grammar to writers, and nothing else.
+//! printed as itself again; or `written`, what comes of printing the grammar to writers, and nothing else. A row of `table`
+//! has no files, but how many elements a grammar has, and its tables, as `written_grammars` reads them: of it the whole text
+//! is printed.
 #![tactic(auto)]
-
-ghost use Rattle.std.specs.Prelude.{IfOk};
-ghost use Rattle.rng_model.specs.simple.Table.{AreToldApart};
 
 mod writers;
 
@@ -20,6 +19,7 @@ use rng_simple::simplify;
 use std::alloc::Global;
 use std::io;
 use writers::print_to_writers;
+use written_grammars::read_grammar;
 
 fn main(rt: HostRuntime) -> io::Result<()> {
     for row in rows(&rt, "cases.txt")? {
@@ -30,11 +30,22 @@ fn main(rt: HostRuntime) -> io::Result<()> {
 
 /// Prints what is asked for of the text of a row's files.
 fn print_case(rt: &(impl Print + AllocGlobal), row: &Row) -> io::Result<()> {
+    if row.text(0)? == "table" {
+        return print_table(rt, row.text(1)?, row.text(2)?);
+    }
     let files = files_of(rt.alloc(), row)?;
     match row.text(0)? {
         "written" => print_written(rt, files.as_slice(), row.text(1)?),
         asked => print_asked(rt, asked, files.as_slice(), row.text(1)?),
     }
+}
+
+/// Prints the text of the grammar with these tables, and whether it is printed as itself again.
+fn print_table(rt: &(impl Print + AllocGlobal), count: &str, tables: &str) -> io::Result<()> {
+    let Some(grammar) = read_grammar(rt.alloc(), count, tables) else {
+        return println!(rt; "no grammar");
+    };
+    print_answer(rt, "text", text_of_grammar(rt.alloc(), &grammar))
 }
 
 /// Prints what comes of printing the simple grammar of files to writers.
@@ -56,7 +67,16 @@ fn print_asked(
     files: &[(String, Vec<u8>)],
     main: &str,
 ) -> io::Result<()> {
-    match text_of_files(rt.alloc(), files, main) {
+    print_answer(rt, asked, text_of_files(rt.alloc(), files, main))
+}
+
+/// Prints what is asked for of a text, and whether it is printed as itself again; or the fault.
+fn print_answer(
+    rt: &(impl Print + AllocGlobal),
+    asked: &str,
+    answer: Result<String, SchemaFault>,
+) -> io::Result<()> {
+    match answer {
         Ok(text) => {
             print_text(rt, asked, text.as_str())?;
             print_again(rt, text.as_str())
@@ -104,8 +124,12 @@ fn text_of_files(
     files: &[(String, Vec<u8>)],
     main: &str,
 ) -> Result<String, SchemaFault> {
-    let grammar = grammar_of_files(alloc, files, main)?;
-    let bytes = printed_text(alloc, &grammar).map_err(|_| SchemaFault::Memory)?;
+    text_of_grammar(alloc, &grammar_of_files(alloc, files, main)?)
+}
+
+/// The text of a grammar.
+fn text_of_grammar(alloc: Global, grammar: &SimpleGrammar) -> Result<String, SchemaFault> {
+    let bytes = printed_text(alloc, grammar).map_err(|_| SchemaFault::Memory)?;
     String::from_utf8(bytes).map_err(|_| SchemaFault::Memory)
 }
 
@@ -114,9 +138,7 @@ fn grammar_of_files(
     alloc: Global,
     files: &[(String, Vec<u8>)],
     main: &str,
-) -> Result<SimpleGrammar, SchemaFault>
-    ensures { IfOk result (λ grammar. AreToldApart grammar) }
-{
+) -> Result<SimpleGrammar, SchemaFault> {
     let schema = load(alloc, files, main)?;
     simplify(alloc, &schema)
 }

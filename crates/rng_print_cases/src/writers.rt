@@ -1,6 +1,4 @@
 // What a grammar is printed to.
-ghost use Rattle.rng_model.specs.simple.Table.{AreToldApart};
-
 use rng_model::{Device, SimpleGrammar};
 use rng_print::{PrintFault, print};
 use std::io;
@@ -31,9 +29,10 @@ impl Write for Narrow {
 }
 
 /// Prints what comes of printing a grammar by a byte a call, and where the seventh byte fails.
-pub fn print_to_writers(rt: &(impl Print + AllocGlobal), grammar: &SimpleGrammar) -> io::Result<()>
-    requires { AreToldApart grammar.now }
-{
+pub fn print_to_writers(
+    rt: &(impl Print + AllocGlobal),
+    grammar: &SimpleGrammar,
+) -> io::Result<()> {
     print_to_narrow(rt, grammar, "a byte a call", usize::MAX)?;
     print_to_narrow(rt, grammar, "the seventh byte fails", 6)
 }
@@ -44,9 +43,7 @@ fn print_to_narrow(
     grammar: &SimpleGrammar,
     title: &str,
     room: usize,
-) -> io::Result<()>
-    requires { AreToldApart grammar.now }
-{
+) -> io::Result<()> {
     let bytes = Vec::new(rt.alloc());
     let mut device = Device::new(Narrow { bytes, room });
     let answer = match print(rt.alloc(), grammar, &mut device) {

@@ -1,16 +1,13 @@
 //! Prints which restriction the grammar in each row of `cases.txt` breaks first, a line a row.
 //!
-//! A row has how many elements a grammar has, and its tables, as `written_tables` reads them.
+//! A row has how many elements a grammar has, and its tables, as `written_grammars` reads them.
 #![tactic(auto)]
-
-mod grammar_builder;
-mod written_tables;
 
 use case_rows::rows;
 use rng_model::SchemaFault;
 use rng_rules::restrict;
 use std::io;
-use written_tables::read_grammar;
+use written_grammars::read_grammar;
 
 fn main(rt: HostRuntime) -> io::Result<()> {
     for row in rows(&rt, "cases.txt")? {

@@ -2,7 +2,7 @@ use Rattle.std.proofs.Common.{rules, ◌≡◌, ◌++◌, ◌∷◌, [], All, le
 use Rattle.std.proofs.lemmas.List.Elements.{All-push}
 use Rattle.rng_model.specs.simple.Table.{AreChildrenBelow, IsDatatypeKnown}
 use Rattle.rng_model.proofs.Table.{falls_after_push}
-use Rattle.rng_rules_cases.proofs.grammar_builder.GrammarBuilder.add.Goals as goal
+use Rattle.written_grammars.proofs.grammar_builder.GrammarBuilder.add.Goals as goal
 
 pub invariant_of-self-else-is_err : goal.invariant_of-self-else-is_err
 invariant_of-self-else-is_err c =

@@ -1,5 +1,0 @@
-use Rattle.rng_rules_cases.proofs.FoundDatatypes.{known_if_found}
-use Rattle.rng_rules_cases.proofs.grammar_builder.is_known.Goals as goal
-
-pub returns : goal.returns
-returns c = known_if_found _ c.find.result c.find.ensures.found c.is_ok.result c.is_ok.ensures.value
