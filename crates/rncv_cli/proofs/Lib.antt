@@ -1,4 +1,5 @@
 mod FileBeginning
+mod FilesInOrder
 mod CommandLine
 mod CommandLineExamples
 mod ClapWalk

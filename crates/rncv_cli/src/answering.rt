@@ -1,67 +1,91 @@
 // From the words of a command line to one line.
-ghost use Rattle.std.specs.Prelude.{◌<◌, vec_len, IfOk, IfErr};
+ghost use Rattle.std.specs.Prelude.{◌≡◌, ◌≢◌, ◌<◌, vec_len, Err, IfOk, IfErr};
+ghost use Rattle.std.specs.IoError.{error_kind};
+ghost use Rattle.std.specs.Vec.Iter.{into_iter_items};
 ghost use Rattle.rncv_model.specs.answers.Run.{WritesAnswer};
-ghost use Rattle.rncv_cli.specs.plain.Answering.{IsAnswerOver, IsAnswerOverSome, LeavesWritten};
-ghost use Rattle.rncv_cli.specs.views.Faults.{IsFaultOver};
+ghost use Rattle.rncv_cli.specs.plain.Answering.{IsAnswerOver, IsAnswerTo, IsReadBy, LeavesWritten};
+ghost use Rattle.rncv_cli.specs.plain.CommandLine.{words_behind_name};
+ghost use Rattle.rncv_cli.specs.views.Faults.{IsFaultOver, IsFaultTo};
 
-use crate::command_line::words_of;
-use crate::fault::Fault;
+use crate::command_line::words_given;
+use crate::fault::{Fault, fault_of_words};
 use crate::invocation::Words;
 use crate::schema_files::read_files;
 use rncv_run::{Status, run};
 use rng_model::Device;
-use std::io::{Read, Write};
-use std::rt::{Env, Files};
+use std::alloc::Global;
+use std::env::Args;
+use std::io;
+use std::io::{ErrorKind, Read, Write};
 
-/// Does what the words after the program's name ask for: `answer_words` of the words that the environment has. The writer is
-/// given back.
+/// Does what the words after the program's name ask for, as `answer_words` says. The words are given as `std::env::args`
+/// answers them, the program's name first; `open_file` opens the file of a name; `reader` has the document; the answer is written to
+/// `writer`, which is given back.
 ///
-/// Words that are no command line are answered as `Usage`. Whatever the words are, nothing is written but the line of an
-/// answer, or after a failed write or flush a beginning of one.
-pub fn answer_command_line<E: Env + AllocGlobal, F: Files + AllocGlobal, R: Read + Drop, W: Write>(
-    env: &E,
-    rt: &F,
+/// Words that are no command line are answered as `Usage`, and so are those that could not be given, since one is not UTF-8;
+/// those for which there was no memory as `Memory`. Nothing is written but the answer to the words that were given, or after a
+/// failed write or flush a beginning of it. Takes what `answer_words` takes, and copies of the words.
+pub fn answer_command_line<O: Fn(&str) -> io::Result<T>, T: Read + Drop, R: Read + Drop, W: Write>(
+    alloc: Global,
+    given: io::Result<Args>,
+    open_file: O,
     reader: R,
     writer: W,
 ) -> (Result<Status, Fault>, W)
-    ensures answer { IfOk result.0 (λ status. WritesAnswer (IsAnswerOverSome (R.remaining reader))
-        status (W.contents writer) (W.contents result.1)) }
-    ensures written { IfErr result.0 (λ fault. LeavesWritten (IsAnswerOverSome (R.remaining reader))
-        fault (W.contents writer) (W.contents result.1)) }
+    requires { O.IsAlwaysCallable open_file }
+    ensures none { IfErr given (λ error. error_kind error ≢ ErrorKind.OutOfMemory → result ≡ (Err Fault.Usage, writer)) }
+    ensures memory { IfErr given (λ error. error_kind error ≡ ErrorKind.OutOfMemory → result ≡ (Err Fault.Memory, writer)) }
+    ensures answer { IfOk given (λ all. IfOk result.0 (λ status. WritesAnswer
+        (IsAnswerTo (IsReadBy O.Fn open_file T.remaining) (words_behind_name (into_iter_items all)) (R.remaining reader))
+        status (W.contents writer) (W.contents result.1))) }
+    ensures fault { IfOk given (λ all. IfErr result.0 (IsFaultTo (IsReadBy O.Fn open_file T.remaining) (words_behind_name (into_iter_items all)))) }
+    ensures written { IfOk given (λ all. IfErr result.0 (λ fault. LeavesWritten
+        (IsAnswerTo (IsReadBy O.Fn open_file T.remaining) (words_behind_name (into_iter_items all)) (R.remaining reader))
+        fault (W.contents writer) (W.contents result.1))) }
 {
-    match words_of(env) {
-        Ok(words) => answer_words(rt, words, reader, writer),
+    let all = match given {
+        Ok(all) => all,
+        Err(error) => return (Err(fault_of_words(&error)), writer),
+    };
+    match words_given(alloc, all) {
+        Ok(words) => answer_words(alloc, words, open_file, reader, writer),
         Err(fault) => (Err(fault), writer),
     }
 }
 
 /// Reads the files that the words name, does what they ask for with a reader that has the document, writes the answer's line
-/// and flushes the writer, which is given back.
+/// and flushes the writer, which is given back. `open_file` opens the file of a name.
 ///
 /// The line and the status are those that `run` says for the words' command and for what was read of the files, the first
-/// being the main one. The first file that cannot be read is answered as `File`. Where a write or the flush failed, a
-/// beginning of the line was written, or all of it; after another fault nothing was.
-pub fn answer_words<F: Files + AllocGlobal, R: Read + Drop, W: Write>(
-    rt: &F,
+/// being the main one. The first file that cannot be read is answered as `File`, before the document is looked at. A failed
+/// read of the document is `Read`, a failed write or flush `Write`, and want of memory `Memory`. Where a write or the flush
+/// failed, a beginning of the line was written, or all of it; after another fault nothing was. Takes what `read_files` and
+/// `run` take.
+pub fn answer_words<O: Fn(&str) -> io::Result<T>, T: Read + Drop, R: Read + Drop, W: Write>(
+    alloc: Global,
     words: Words,
+    open_file: O,
     reader: R,
     writer: W,
 ) -> (Result<Status, Fault>, W)
-    requires { 0 < vec_len words.files }
-    ensures answer { IfOk result.0 (λ status. WritesAnswer (IsAnswerOver words.command words.files.items (R.remaining reader))
+    requires files { 0 < vec_len words.files }
+    requires opened { O.IsAlwaysCallable open_file }
+    ensures answer { IfOk result.0 (λ status. WritesAnswer
+        (IsAnswerOver (IsReadBy O.Fn open_file T.remaining) words.command words.files.items (R.remaining reader))
         status (W.contents writer) (W.contents result.1)) }
-    ensures fault { IfErr result.0 (IsFaultOver words.files.items) }
-    ensures written { IfErr result.0 (λ fault. LeavesWritten (IsAnswerOver words.command words.files.items (R.remaining reader))
+    ensures fault { IfErr result.0 (IsFaultOver (IsReadBy O.Fn open_file T.remaining) words.files.items) }
+    ensures written { IfErr result.0 (λ fault. LeavesWritten
+        (IsAnswerOver (IsReadBy O.Fn open_file T.remaining) words.command words.files.items (R.remaining reader))
         fault (W.contents writer) (W.contents result.1)) }
 {
-    let files = match read_files(rt, words.files) {
+    let files = match read_files(alloc, words.files, open_file) {
         Ok(files) => files,
         Err(fault) => return (Err(fault), writer),
     };
     let files = files.as_slice();
     let mut input = Device::new(reader);
     let mut output = Device::new(writer);
-    match run(rt.alloc(), words.command, files, &mut input, &mut output) {
+    match run(alloc, words.command, files, &mut input, &mut output) {
         Ok(status) => (Ok(status), output.into_inner()),
         Err(fault) => (Err(Fault::from(fault)), output.into_inner()),
     }

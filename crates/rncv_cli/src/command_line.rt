@@ -1,40 +1,24 @@
 // Reads the words of the command line.
-ghost use Rattle.std.specs.Prelude.{◌≡◌, ◌<◌, List, drop, map, string_bytes, option_map, vec_len, IfOk, IfErr, IsErrOf};
+ghost use Rattle.std.specs.Prelude.{◌≡◌, List, drop, map, string_bytes, option_map, IfOk, IfErr, IsErrOf};
 ghost use Rattle.std.specs.Vec.Iter.{into_iter_items};
 ghost use Rattle.clap.specs.Words.{FailsBy, fault_of, found_of, matches_of, rows_of};
-ghost use Rattle.rncv_cli.specs.plain.CommandLine.{IsCommandLine, Text};
+ghost use Rattle.rncv_cli.specs.plain.CommandLine.{IsCommandLine, Text, words_behind_name};
 ghost use Rattle.rncv_cli.specs.plain.CommandLineForm.{command_in, files_in, form};
 ghost use Rattle.rncv_cli.specs.views.Faults.{IsMemoryOrUsage};
 
-use crate::fault::{Fault, is_want_of_memory};
+use crate::fault::Fault;
 use crate::invocation::Words;
 use clap::error::ErrorKind;
 use clap::{Arg, ArgAction, ArgMatches, Error};
 use rncv_run::Command;
 use std::alloc::{AllocError, Global};
-use std::env;
 use std::env::Args;
-use std::rt::Env;
 
-/// Reads the words after the program's name from its environment.
-///
-/// A word that is not UTF-8 is `Usage`.
-pub fn words_of<E: Env + AllocGlobal>(env: &E) -> Result<Words, Fault>
-    ensures some { IfOk result (λ w. 0 < vec_len w.files) }
-    ensures fault { IfErr result IsMemoryOrUsage }
-{
-    match env::args(env) {
-        Ok(given) => words_given(env.alloc(), given),
-        Err(error) if is_want_of_memory(&error) => Err(Fault::Memory),
-        Err(_) => Err(Fault::Usage),
-    }
-}
-
-/// Reads the words behind the first of these, which is the program's name, as `words` does.
+/// Reads the words behind the first of these, which is the program's name, as `words` does, with its faults and cost.
 pub fn words_given(alloc: Global, given: Args) -> Result<Words, Fault>
-    ensures ok { IfOk result (λ w. IsCommandLine (map string_bytes (drop 1 (into_iter_items given))) w.command (map string_bytes w.files.items)) }
+    ensures ok { IfOk result (λ w. IsCommandLine (words_behind_name (into_iter_items given)) w.command (map string_bytes w.files.items)) }
     ensures usage { IsErrOf result Fault.Usage → (command : Command) (files : List Text) →
-        IsCommandLine (map string_bytes (drop 1 (into_iter_items given))) command files → ⊥ }
+        IsCommandLine (words_behind_name (into_iter_items given)) command files → ⊥ }
     ensures fault { IfErr result IsMemoryOrUsage }
 {
     let Ok(all) = all_but_first(alloc, given) else {
@@ -60,7 +44,7 @@ fn all_but_first(alloc: Global, mut given: Args) -> Result<Vec<String>, AllocErr
 ///
 /// The first `--`, wherever it stands, is dropped. Before it, and anywhere where there is none, no word is an option: a
 /// word that begins with `-` and is longer. The command and the files of a command line are answered, `Usage` only for
-/// words that are none, and `Memory` where there was no memory.
+/// words that are none, and `Memory` where there was no memory. Takes time and memory in the order of the words' bytes.
 pub fn words(alloc: Global, words: &[String]) -> Result<Words, Fault>
     ensures ok { IfOk result (λ w. IsCommandLine (map string_bytes words.now) w.command (map string_bytes w.files.items)) }
     ensures usage { IsErrOf result Fault.Usage → (command : Command) (files : List Text) → IsCommandLine (map string_bytes words.now) command files → ⊥ }

@@ -1,31 +1,27 @@
 // Why the program ends without an answer.
-ghost use Rattle.std.specs.Prelude.{◌≡◌, ◌↔◌, IsTrue};
+ghost use Rattle.std.specs.Prelude.{◌≡◌, ◌≢◌, ◌↔◌, IsTrue, Some};
 ghost use Rattle.std.specs.IoError.{error_kind};
 ghost use Rattle.rncv_cli.specs.views.ExitStatus.{fault_status};
-ghost use Rattle.rncv_cli.specs.views.Faults.{fault_of_run};
+ghost use Rattle.rncv_cli.specs.views.Faults.{fault_of_run, fault_text};
 
 use rncv_run::RunFault;
-use std::io;
+use std::error::Error;
+use std::fmt::{Display, Formatter, Write};
 use std::io::ErrorKind;
-use thiserror::Error;
+use std::{fmt, io};
 
-/// Why the program ends without an answer. It prints as its line on standard error, without the LF.
-#[derive(Debug, Drop, Error)]
+/// Why the program ends without an answer. It prints as its line on standard error, without the LF (`fault_text` of `specs/`).
+#[derive(Debug, Drop)]
 pub enum Fault {
     /// There was no memory for what had to be kept.
-    #[error("rncv: out of memory")]
     Memory,
     /// A read of the document failed.
-    #[error("rncv: read failed")]
     Read,
     /// A write of the answer failed.
-    #[error("rncv: write failed")]
     Write,
     /// The file of this name cannot be read. The name prints as it is, an LF in it too.
-    #[error("rncv: cannot read file {0}")]
     File(String),
     /// The words are no command line of the program.
-    #[error("usage: rncv valid|check|simple FILES..")]
     Usage,
 }
 
@@ -41,6 +37,22 @@ impl Fault {
     }
 }
 
+impl Display for Fault {
+    ghost output = { λ fault. Some (fault_text fault) };
+
+    fn fmt<W: Write>(&self, f: &mut Formatter<W>) -> fmt::Result {
+        match self {
+            Fault::Memory => f.write_str("rncv: out of memory"),
+            Fault::Read => f.write_str("rncv: read failed"),
+            Fault::Write => f.write_str("rncv: write failed"),
+            Fault::File(name) => write!(f, "rncv: cannot read file {name}"),
+            Fault::Usage => f.write_str("usage: rncv valid|check|simple FILES.."),
+        }
+    }
+}
+
+impl Error for Fault {}
+
 impl From<RunFault> for Fault {
     ghost from_gives = { λ cause fault. fault ≡ fault_of_run cause };
 
@@ -51,6 +63,17 @@ impl From<RunFault> for Fault {
             RunFault::Write => Fault::Write,
         }
     }
+}
+
+/// Why there are no words: `Memory` where the call failed for want of memory, else `Usage`.
+pub fn fault_of_words(error: &io::Error) -> Fault
+    ensures memory { error_kind error.now ≡ ErrorKind.OutOfMemory → result ≡ Fault.Memory }
+    ensures usage { error_kind error.now ≢ ErrorKind.OutOfMemory → result ≡ Fault.Usage }
+{
+    if is_want_of_memory(error) {
+        return Fault::Memory;
+    }
+    Fault::Usage
 }
 
 /// Whether a call failed for want of memory.

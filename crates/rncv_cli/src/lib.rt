@@ -1,8 +1,9 @@
 //! What stands around `run` in the program `rncv`: its words, its files, its faults and its exit status.
 //!
-//! `answer_words` writes the one line that `run` says for the words' command and for what was read of the words' files, the
-//! first of them being the main one; after a fault no more than a beginning of that line was written.
-//! `words` accepts the words of a command line and no others, and `exit_of` gives each answer its exit status.
+//! `answer_command_line` writes the one answer that `run` gives to the words of the command line and to what was read of their
+//! files, the first of them being the main one; after a fault no more than a beginning of that answer was written.
+//! `words` accepts the words of a command line and no others, a `Fault` prints as its line on standard error, and `exit_of`
+//! gives each answer its exit status.
 #![tactic(auto)]
 
 mod answering;

@@ -1,31 +1,34 @@
 // Reads the files that the command line names.
-ghost use Rattle.std.specs.Prelude.{◌≡◌, ◌≢◌, ◌≤◌, take, length, IfOk, IfErr, IfSome};
+ghost use Rattle.std.specs.Prelude.{◌≡◌, ◌≢◌, ◌≤◌, ◌⊎◌, take, length, IfOk, IfErr, IfSome};
 ghost use Rattle.std.specs.IoError.{error_kind};
-ghost use Rattle.rncv_cli.specs.plain.Answering.{AreRead, read_limit};
+ghost use Rattle.rncv_cli.specs.plain.Answering.{AreRead, IsReadBy, IsReadOf, read_limit};
 ghost use Rattle.rncv_cli.specs.views.Faults.{IsUnreadable};
 
 use crate::fault::{Fault, is_want_of_memory};
 use std::alloc::Global;
+use std::io;
 use std::io::{ErrorKind, Read};
-use std::rt::Files;
-use std::{fs, io};
 
 /// At most this many bytes of a file are read: one more than a file of a schema may have.
 const READ_LIMIT: usize = 1_048_577;
 
 /// Reads the files of these names, in order, and answers each name with the beginning of its file: at most 1,048,577 bytes.
+/// `open_file` opens the file of a name, and is called once for each.
 ///
-/// The first file that cannot be read is answered as `File`, and want of memory as `Memory`.
-pub fn read_files<R: Files + AllocGlobal>(
-    rt: &R,
+/// The first file that cannot be opened or read is answered as `File`, with its name, and no file behind it is opened. Want of
+/// memory is `Memory`, that of `open_file` and of the readers too. Takes time and memory in the order of the bytes that are read.
+pub fn read_files<O: Fn(&str) -> io::Result<T>, T: Read + Drop>(
+    alloc: Global,
     names: Vec<String>,
+    open_file: O,
 ) -> Result<Vec<(String, Vec<u8>)>, Fault>
-    ensures read { IfOk result (λ files. AreRead names.items files.items) }
-    ensures fault { IfErr result (IsUnreadable names.items) }
+    requires { O.IsAlwaysCallable open_file }
+    ensures read { IfOk result (λ files. AreRead (IsReadBy O.Fn open_file T.remaining) names.items files.items) }
+    ensures fault { IfErr result (IsUnreadable (IsReadBy O.Fn open_file T.remaining) names.items) }
 {
-    let mut files = Vec::new(rt.alloc());
+    let mut files = Vec::new(alloc);
     for name in names {
-        match read_file(rt, name.as_str()) {
+        match bytes_of(alloc, open_file(name.as_str())) {
             Ok(bytes) => files.push((name, bytes)).map_err(|_| Fault::Memory)?,
             Err(error) => return Err(fault_of(&error, name)),
         }
@@ -37,6 +40,7 @@ pub fn read_files<R: Files + AllocGlobal>(
 fn fault_of(error: &io::Error, name: String) -> Fault
     ensures memory { error_kind error.now ≡ ErrorKind.OutOfMemory → result ≡ Fault.Memory }
     ensures file { error_kind error.now ≢ ErrorKind.OutOfMemory → result ≡ Fault.File name }
+    ensures either { (result ≡ Fault.Memory) ⊎ (result ≡ Fault.File name) }
 {
     if is_want_of_memory(error) {
         return Fault::Memory;
@@ -44,12 +48,11 @@ fn fault_of(error: &io::Error, name: String) -> Fault
     Fault::File(name)
 }
 
-/// The beginning of the file of this name.
-fn read_file<R: Files + AllocGlobal>(rt: &R, name: &str) -> io::Result<Vec<u8>>
-    ensures { IfOk result (λ bytes. length bytes.items ≤ read_limit) }
+/// The beginning of the file that was opened.
+fn bytes_of<T: Read + Drop>(alloc: Global, opened: io::Result<T>) -> io::Result<Vec<u8>>
+    ensures { IfOk result (λ bytes. IsReadOf T.remaining opened bytes.items) }
 {
-    let file = fs::open(rt, name)?;
-    beginning_of(rt.alloc(), file)
+    beginning_of(alloc, opened?)
 }
 
 /// As many bytes of a reader as are read of a file.

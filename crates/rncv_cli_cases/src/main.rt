@@ -10,8 +10,8 @@ use case_rows::{Row, rows};
 use devices::{Sink, Source};
 use environment::Environment;
 use rncv_cli::{answer_command_line, exit_of};
-use std::io;
 use std::rt::Files;
+use std::{env, fs, io};
 
 fn main(rt: HostRuntime) -> io::Result<()> {
     for row in rows(&rt, "runs.txt")? {
@@ -25,8 +25,9 @@ fn print_run(rt: &(impl Files + Print + AllocGlobal), row: &Row) -> io::Result<(
     let device = row.text(0)?;
     let source = Source::new(row.bytes(1)?, device);
     let sink = Sink::new(rt.alloc(), device);
-    let env = (Environment(row), rt.alloc());
-    let (answer, sink) = answer_command_line(&env, rt, source, sink);
+    let given = env::args(&(Environment(row), rt.alloc()));
+    let open_file = |name: &str| fs::open(rt, name);
+    let (answer, sink) = answer_command_line(rt.alloc(), given, open_file, source, sink);
     print!(rt; "{:?} {}", exit_of(&answer), sink.text()?)?;
     match answer {
         Ok(_) => Ok(()),

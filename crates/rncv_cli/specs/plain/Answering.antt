@@ -1,12 +1,14 @@
--- What the program writes for a command over files of these names.
-use Rattle.std.specs.Prelude.{◌≡◌, ℕ, ◌≤◌, List, length, map, Option}
+-- What is read of the files of a command line, and what the program writes.
+use Rattle.std.specs.Prelude.{◌≡◌, ℕ, ◌≤◌, List, ◌∷◌, ◌++◌, length, map, take, Option, IfSome, Result, Ok, string_bytes}
+use Rattle.std.specs.Fn.{FnReturnsAt, Shared}
 use Rattle.std.specs.List.{All}
 use Rattle.std.specs.Io.KnownBytes.{Keeps}
-use Rattle.std.proofs.Common.{String, Vec, Global}
+use Rattle.std.proofs.Common.{Bor, String, Vec, Global}
 use Rattle.rnc_model.specs.loading.Files.{named_files}
 use Rattle.rncv_model.specs.answers.Answer.{Answer}
 use Rattle.rncv_model.specs.answers.Run.{IsAnswer, WritesBeginning, main_name}
 use Rattle.rncv_model.specs.declared.command.Command.{Command}
+use Rattle.rncv_cli.specs.plain.CommandLine.{IsCommandLine, Text}
 use Rattle.rncv_cli.specs.declared.fault.Fault.{Fault}
 use Rattle.rncv_cli.specs.declared.fault.Fault.TheVariants.{Memory, Read, Write, File, Usage}
 
@@ -14,21 +16,48 @@ use Rattle.rncv_cli.specs.declared.fault.Fault.TheVariants.{Memory, Read, Write,
 abbrev pub read_limit : ℕ
 read_limit = 1048577
 
--- the files have these names, in order, each with what was read of it
-pub record AreRead (names : List (String Global)) (files : List (String Global × Vec ℕ Global)) : Type 0 where
-  pub named : map (λ file. file.0) files ≡ names
-  pub within : All (λ file. length file.1.items ≤ read_limit) files
+-- These bytes are read of what was opened: no more than the limit, and the first that the reader has where it tells them.
+pub record IsReadOf {R E : Type 0} (remaining : R → Option (List ℕ)) (opened : Result R E) (bytes : List ℕ) : Type 0 where
+  pub reader : R
+  pub is_open : opened ≡ Ok reader
+  pub is_front : IfSome (remaining reader) (λ all. bytes ≡ take read_limit all)
+  pub within : length bytes ≤ read_limit
 
--- the answer that a run gives to the command over files of these names, the first being the main one, and the document that a reader has left
-pub record IsAnswerOver (command : Command) (names : List (String Global)) (input : Option (List ℕ)) (answer : Answer) : Type 0 where
-  pub files : List (String Global × Vec ℕ Global)
-  pub are_read : AreRead names files
-  pub left : Option (List ℕ)
-  pub is : IsAnswer command (named_files files) (main_name files) input left answer
+-- they are read of what this way to open files may give for the name
+pub record IsReadBy {F R E : Type 0} (opener : Shared F (Bor Text × Unit {0}) (Result R E)) (open_file : F) (remaining : R → Option (List ℕ))
+    (name : Text) (bytes : List ℕ) : Type 0 where
+  pub opened : Result R E
+  pub is_opened : FnReturnsAt opener open_file name opened
+  pub is_read : IsReadOf remaining opened bytes
 
--- the same, of some command over files of some names
-abbrev pub IsAnswerOverSome : Option (List ℕ) → Answer → Type 0
-IsAnswerOverSome input answer = (command : Command) × (names : List (String Global)) × IsAnswerOver command names input answer
+-- A relation says which bytes may be read of the file of a name.
+module _ (reads : Text → List ℕ → Type 0) where
+  -- the files have these names, in order, each with what was read of it
+  pub record AreRead (names : List (String Global)) (files : List (String Global × Vec ℕ Global)) : Type 0 where
+    pub named : map (λ file. file.0) files ≡ names
+    pub each : All (λ file. reads (string_bytes file.0) file.1.items) files
+
+  -- all files before the one of this name were read
+  pub record IsFirstUnread (names : List (String Global)) (name : String Global) : Type 0 where
+    pub before : List (String Global)
+    pub after : List (String Global)
+    pub parts : names ≡ before ++ name ∷ after
+    pub files : List (String Global × Vec ℕ Global)
+    pub are_read : AreRead before files
+
+  -- the answer that a run gives to the command over files of these names, the first being the main one, and the document that a reader has left
+  pub record IsAnswerOver (command : Command) (names : List (String Global)) (input : Option (List ℕ)) (answer : Answer) : Type 0 where
+    pub files : List (String Global × Vec ℕ Global)
+    pub are_read : AreRead names files
+    pub left : Option (List ℕ)
+    pub is : IsAnswer command (named_files files) (main_name files) input left answer
+
+  -- the same, of the command and the files of a command line
+  pub record IsAnswerTo (words : List Text) (input : Option (List ℕ)) (answer : Answer) : Type 0 where
+    pub command : Command
+    pub names : List (String Global)
+    pub is_line : IsCommandLine words command (map string_bytes names)
+    pub is : IsAnswerOver command names input answer
 
 -- what a fault leaves written: nothing, or after a failed write a beginning of the line
 abbrev pub LeavesWritten : (Answer → Type 0) → Fault → Option (List ℕ) → Option (List ℕ) → Type 0

@@ -1,11 +1,16 @@
 -- The command lines of the program: a command, and the names of one file or more.
-use Rattle.std.specs.Prelude.{◌≡◌, ◌<◌, ◌++◌, ℕ, List, [], ◌∷◌, codes, length}
+use Rattle.std.specs.Prelude.{◌≡◌, ◌<◌, ◌++◌, ℕ, List, [], ◌∷◌, codes, drop, length, map, string_bytes}
+use Rattle.std.proofs.Common.{String, Global}
 use Rattle.rncv_model.specs.declared.command.Command.{Command}
 use Rattle.rncv_model.specs.declared.command.Command.TheVariants.{Valid, Check, Simple}
 
 -- a text, as its bytes
 abbrev pub Text : Type 0
 Text = List ℕ
+
+-- the words of a program behind the first, which is the program's name
+abbrev pub words_behind_name : List (String Global) → List Text
+words_behind_name words = map string_bytes (drop 1 words)
 
 -- the word is an option: it begins with `-`, and is longer
 abbrev pub IsOption : Text → Type 0
