@@ -168,14 +168,12 @@ outcome_judged g handed old new o taken is =
     }
 
 -- the same, where the outcome is that of a matcher, to which nothing was told at first
-pub matcher_judged : {M : Type 0} (reading : M → Reading) (knows : M → List Event → Type 0) (first full : M) (g : Reading) (old new : Option (List ℕ))
-    (o told : Outcome) → o ≡ told → reading first ≡ g → knows first []
-    → IsTaken (Hands (λ (before after : M) (events : List Event). (reading after ≡ reading before) × knows after events) first full) old new
-    → ((bytes : List ℕ) (d : Placed) → IsPyxDocument bytes d → knows full (events_of d) → IsOutcome (reading full) d o)
+pub matcher_judged : {M : Type 0} (reading : M → Reading) (HasGoneOn : M → M → List Event → Type 0) (first full : M) (g : Reading)
+    (old new : Option (List ℕ)) (o told : Outcome) → o ≡ told → reading first ≡ g → HasGoneOn first first [] → IsTaken (Hands HasGoneOn first full) old new
+    → ((before : M) (bytes : List ℕ) (d : Placed) → IsPyxDocument bytes d → HasGoneOn before full (events_of d) → IsOutcome (reading before) d o)
     → IsJudgedBy (IsValidBy g.grammar (texts_of g.tests)) (IsUnknownTo g.grammar) (verdict_of told) old new
-matcher_judged reading knows first full g old new o told same is start taken says = outcome_judged g _ old new told taken (λ bytes d document handed.
-    let both = handed first [] (refl, start) in
-    subst (λ r. IsOutcome r d told) (both.0 ∙ is) (subst (IsOutcome (reading full) d) same (says bytes d document both.1)))
+matcher_judged reading HasGoneOn first full g old new o told same is start taken says = outcome_judged g _ old new told taken (λ bytes d document handed.
+    subst (λ r. IsOutcome r d told) is (subst (IsOutcome (reading first) d) same (says first bytes d document (handed first [] start))))
 
 -- ---- where the same documents are valid, and no more names unknown
 

@@ -62,9 +62,9 @@ impl<'a> Matcher<'a> {
     /// want of memory, exactly where `event` answered it. Takes no memory. Costs a test of each alternative.
     pub fn finish(self) -> Result<Outcome, OutOfMemory>
         ensures outcome { IfOk result (λ o. (first : Matching) (bytes : List ℕ) (d : Placed) → IsPyxDocument bytes d
-            → HasGoneOn first self (events_of d) → IsOutcome (judges_by first) d o) }
-        ensures lost { OnErr result (HasRunOut self) }
-        ensures again { HasRunOut self → IsErr result }
+            → HasGoneOn first self.entry (events_of d) → IsOutcome (judges_by first) d o) }
+        ensures lost { OnErr result (HasRunOut self.entry) }
+        ensures again { HasRunOut self.entry → IsErr result }
     {
         self.matcher.finish()
     }
