@@ -4,7 +4,7 @@ use Rattle.rng_model.specs.schema.Schema.{Schema}
 use Rattle.rnc_model.specs.loading.Loading.{FilesVerdict, file_breaks, together_break, are_taken}
 use Rattle.rnc_model.specs.loading.SchemaFile.{Name, NamedFile}
 use Rattle.rng_print.proofs.OneForm.{one_form}
-use Rattle.rncv_model.specs.answers.Answer.{Answer, refused, printed, judged}
+use Rattle.rncv_model.specs.answers.Answer.{Answer, refused, printed}
 use Rattle.rncv_model.specs.answers.Input.{IsRead}
 use Rattle.rncv_model.specs.answers.Run.{IsTold, breaks_clause, is_good, has_form, JudgesDocuments, IsJudged, IsAnswerBy, schema_is_told, document_is_judged}
 use Rattle.rncv_model.specs.answers.Run.{IsAnswerTo, IsAnswer, IsUnknownIn}

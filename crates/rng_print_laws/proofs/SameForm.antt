@@ -1,5 +1,5 @@
 -- What is printed for a schema, handed in again, is a schema of the same simple form.
-use Rattle.std.proofs.Common.{◌≡◌, sym, subst, ℕ, List}
+use Rattle.std.proofs.Common.{◌≡◌, subst, ℕ, List}
 use Rattle.rnc_model.specs.loading.LoadedSchema.{AreSchema}
 use Rattle.rnc_model.specs.loading.Loading.{TakenFiles, are_taken, FilesHaveVerdict}
 use Rattle.rnc_model.specs.loading.SchemaFile.{Name, NamedFile}
@@ -11,7 +11,7 @@ use Rattle.rng_print.proofs.OneForm.{same_numbering}
 use Rattle.rng_print.proofs.SameNumberings.{is_form_too}
 use Rattle.rng_simple.proofs.NumberedSchema.{only_simple_grammar}
 use Rattle.rng_print_laws.specs.plain.HandedIn.{IsHandedInAgain, lines_alone, AreFilesOf, HaveSameForm, AreOfSameForm}
-use Rattle.rng_print_laws.specs.plain.LinesSchema.{IsReprintedAs, IsReprinted, schema_of_lines}
+use Rattle.rng_print_laws.specs.plain.LinesSchema.{IsReprinted, schema_of_lines}
 use Rattle.rng_print_laws.proofs.LinesKept.{is_reprinted, reprinted_form, reprinted_kept}
 use Rattle.rng_print_laws.proofs.LinesLoaded.{same_files}
 use Rattle.rng_print_laws.proofs.LinesTaken.{lines_taken, lines_are_schema, schema_is_lines}

@@ -20,8 +20,8 @@ renumbered f (s_value d v) = s_value d v
 renumbered f (s_one_or_more a) = s_one_or_more (renumbered f a)
 renumbered f (s_joined k a b) = s_joined k (renumbered f a) (renumbered f b)
 
--- Start, name classes and bodies are carried over to the second grammar, by these numbers of its elements for those of the first, and the others lead
--- back. Each number in the start and in a body is that of an element.
+-- The first function gives each element of the first grammar a number of the second, and carries start, name classes and bodies over; the other leads
+-- back. Each number in the start or in a body is that of an element.
 pub record IsCarriedOver (to back : ℕ → ℕ) (g h : Grammar) : Type 0 where
   pub start : h.start ≡ renumbered to g.start
   pub start_below : AreLeavesBelow (length g.elements) (as_tree g.start)
