@@ -19,12 +19,12 @@ use std::io;
 use std::io::{ErrorKind, Read, Write};
 
 /// Does what the words after the program's name ask for, as `answer_words` says. The words are given as `std::env::args`
-/// answers them, the program's name first; `open_file` opens the file of a name; `reader` has the document; the answer is written to
-/// `writer`, which is given back.
+/// answers them, the program's name first; `open_file` opens the file of a name, as `std::fs::open` does; `reader` has the
+/// document; the answer is written to `writer`, which is given back.
 ///
-/// Words that are no command line are answered as `Usage`, and so are those that could not be given, since one is not UTF-8;
-/// those for which there was no memory as `Memory`. Nothing is written but the answer to the words that were given, or after a
-/// failed write or flush a beginning of it. Takes what `answer_words` takes, and copies of the words.
+/// Words that are no command line are answered as `Usage`, and so is an error in their place, as for a word that is not
+/// UTF-8, but `Memory` where it tells want of memory. Nothing is written but the answer to the words that were given, or
+/// after a failed write or flush a beginning of it. Takes what `answer_words` takes, and copies of the words.
 pub fn answer_command_line<O: Fn(&str) -> io::Result<T>, T: Read + Drop, R: Read + Drop, W: Write>(
     alloc: Global,
     given: io::Result<Args>,
