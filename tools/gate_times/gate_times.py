@@ -79,7 +79,7 @@ def gate():
     os.makedirs(f"{ROOT}/out", exist_ok=True)
     watch, start = Watch(), time.time()
     with open(f"{ROOT}/out/gate.log", "w", encoding="utf-8") as log:
-        ran = subprocess.Popen(["rt", "ci"], cwd=ROOT, stdout=subprocess.PIPE, stderr=subprocess.STDOUT, text=True, errors="replace")
+        ran = subprocess.Popen(["rt", "ci", "--anew"], cwd=ROOT, stdout=subprocess.PIPE, stderr=subprocess.STDOUT, text=True, errors="replace")
         last = ""
         for last in ran.stdout:
             log.write(f"{time.time() - start:7.0f} {last}")
@@ -88,7 +88,7 @@ def gate():
     clock, seen = time.time() - start, watch.stop()
     with open(f"{ROOT}/out/gate.json", "w", encoding="utf-8") as samples:
         json.dump(sorted(seen, key=lambda it: it["start"]), samples)
-    print(f"`rt ci`: {last.strip()}; {clock / 60:.0f} minutes on the clock with {len(os.sched_getaffinity(0))} processors")
+    print(f"`rt ci --anew`: {last.strip()}; {clock / 60:.0f} minutes on the clock with {len(os.sched_getaffinity(0))} processors")
     table(seen)
 
 
