@@ -54,11 +54,7 @@ pub(crate) fn simple_grammar(
     ensures only { IfOk result (λ h. (s : Schema) → IsGraphOfSchema s graph.entry → IsOnlySimpleGrammarOf s (grammar_of h)) }
 {
     let tables = made_tables(alloc, graph, order)?;
-    Ok(SimpleGrammar::new(
-        tables.patterns,
-        tables.elements,
-        tables.start,
-    ))
+    Ok(SimpleGrammar::new(tables.patterns, tables.elements, tables.start))
 }
 
 /// The tables of the grammar of a graph whose definitions are taken in this order. Once all is in rows, of the graph only the name classes of
