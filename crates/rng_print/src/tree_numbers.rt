@@ -54,7 +54,11 @@ fn pattern_code<'a>(
     ensures { IfOk result (λ code. map part_of code.items ≡ pattern_code (number_at numbers.now) pattern.now) }
 {
     let (kind, first, second) = numbers_of(pattern, numbers);
-    let mut code = vec![in alloc; LabelPart::Number(kind), LabelPart::Number(first), LabelPart::Number(second)]?;
+    let mut code = vec![in alloc;
+        LabelPart::Number(kind),
+        LabelPart::Number(first),
+        LabelPart::Number(second),
+    ]?;
     put_label(&mut code, pattern)?;
     Ok(code)
 }
