@@ -9,15 +9,16 @@ use Rattle.std.specs.Cmp.Lexicographic.{pointwise}
 use Rattle.std.specs.List.{AllByRecursion, IsDistinct, list_any}
 use Rattle.std.specs.Str.{bytes_eq}
 use Rattle.indexmap.specs.IndexSet.{insert_key}
-use Rattle.rng_model.specs.names.Names.{NameClass, any_name, any_except, ns_name, ns_except, name_is, one_of, NameClasses, no_classes, class_and, classes_of, some_of}
+use Rattle.rng_model.specs.names.Names.{NameClass, any_name, any_except, ns_name, ns_except, name_is, one_of, NameClasses, no_classes, class_and}
+use Rattle.rng_model.specs.names.Names.{classes_of, some_of}
 use Rattle.rng_model.specs.schema.Patterns.{without_parameters}
 use Rattle.rng_model.specs.simple.Tree.{Datatype}
 use Rattle.rng_model.specs.names.NameViews.{class_of}
 use Rattle.rng_model.specs.declared.name.NameClass as declared
 use Rattle.rng_model.specs.declared.name.NameClass.{the_lemmas}
 use Rattle.rng_model.specs.declared.name.NameClass.TheVariants as classes
-use Rattle.rng_labels.specs.plain.LabelCodes.{Part, number, text, any, any_but, ns, ns_but, name, either, part_of, class_code, more_code, IsInTwos, AreCodesApart}
-use Rattle.rng_labels.specs.plain.LabelCodes.{parameters_code, datatype_code, value_code}
+use Rattle.rng_labels.specs.plain.LabelCodes.{Part, number, text, any, any_but, ns, ns_but, name, either, part_of, class_code, more_code}
+use Rattle.rng_labels.specs.plain.LabelCodes.{IsInTwos, AreCodesApart, parameters_code, datatype_code, value_code}
 use Rattle.rng_labels.specs.declared.label_codes.LabelPart.{LabelPart}
 use Rattle.rng_labels.specs.declared.label_codes.LabelPart.TheVariants as parts
 use Rattle.rng_labels.specs.contracts.label_codes.LabelPartPartialEq.TheImpl as same

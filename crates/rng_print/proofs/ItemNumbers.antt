@@ -1,5 +1,5 @@
 -- Items of the tables stand for items of the grammar, one to one.
-use Rattle.std.proofs.Common.{◌≡◌, ◌∙◌, ℕ, ◌<◌, Bool, true, false, cond, List, [], ◌∷◌, ◌++◌, length, map, refl, sym, ap, subst, codes}
+use Rattle.std.proofs.Common.{◌≡◌, ◌∙◌, ℕ, ◌<◌, Bool, true, false, cond, List, [], ◌∷◌, ◌++◌, length, map, refl, sym, ap, subst, codes, Option, Some, None}
 use Rattle.std.specs.Prelude.{◌==◌, decimal}
 use Rattle.std.specs.List.{AllByRecursion, filter_map, list_any, position_or_len}
 use Rattle.std.proofs.lemmas.Bool.{eqb-true}
@@ -8,7 +8,7 @@ use Rattle.std.proofs.lemmas.List.Elements.{filter_map-append}
 use Rattle.rng_model.specs.simple.Table.{Table, tree_at}
 use Rattle.rng_model.specs.declared.simple.ElementId.{ElementId}
 use Rattle.rng_model.specs.declared.simple.PatternId.{PatternId}
-use Rattle.rncv_model.specs.printed.Numbering.{has, with_new, and_new, place_in}
+use Rattle.rncv_model.specs.printed.Numbering.{has, and_new, place_in}
 use Rattle.rncv_model.specs.printed.Same.{same_tree}
 use Rattle.rncv_model.specs.printed.PrintedText as text
 use Rattle.rncv_model.specs.printed.PrintedText.{same_item, element_in, pattern_in, item_name}

@@ -18,9 +18,8 @@ use std::io::Write;
 /// RELAX NG Specification, section 5, in the words of the Compact Syntax. First a line for each namespace, then `start = ..`,
 /// then a line for each element and for each pattern that has parts, in the order in which their names are first written:
 /// `e0`, `e1`, .. for elements, and `p0`, `p1`, .. for patterns; equal patterns have one line, whatever their positions. So
-/// grammars that differ in the numbers of their elements
-/// alone have the same text. Answers want of memory, and nothing else. Takes time and memory in the order of the tables and
-/// of the text.
+/// grammars that differ in the numbers of their elements alone have the same text. Answers want of memory, and nothing else.
+/// Takes time and memory in the order of the tables and of the text.
 pub fn printed_text(alloc: Global, grammar: &SimpleGrammar) -> Result<Vec<u8>, OutOfMemory>
     ensures { IfOk result (λ text. IsPrinted (grammar_of grammar.now) text.items) }
 {

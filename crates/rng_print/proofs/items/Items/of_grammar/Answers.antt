@@ -11,8 +11,8 @@ lines-init c =
     let t = c.args.grammar.now in
     none_yet t c.add_written.new.self c.in_ok-add_written.ensures.items
     (c.in_ok-add_written.ensures.added
-    ∙ ap (λ xs. and_new same_item (map (item_at t) xs) (item_of (tree_at t.patterns c.start.result))) c.new.ensures.items
-    ∙ ap (λ id. and_new same_item [] (item_of (tree_at t.patterns id))) c.start.ensures.start)
+    ∙ ap (λ xs. and_new same_item (map (item_at t) xs) (item_of (tree_at t.patterns c.start-start.result))) c.new.ensures.items
+    ∙ ap (λ id. and_new same_item [] (item_of (tree_at t.patterns id))) c.start-start.ensures.start)
 
 pub lines-preserved : goal.lines-preserved
 lines-preserved c =

@@ -15,8 +15,8 @@ returns-in-Element c =
 pub returns-in-Pattern : goal.returns-in-Pattern
 returns-in-Pattern c =
     let keys = c.args.self.now.trees.keys in
-    let number = number_is (λ n. c.number-in-Pattern.result == n) keys _ _ _ c.get_index_of-in-Pattern.ensures.index c.len-in-Pattern.ensures.len
+    let number = number_is (λ n. c.number.result == n) keys _ _ _ c.get_index_of-in-Pattern.ensures.index c.len-in-Pattern.ensures.len
     c.unwrap_or-number-in-Pattern.ensures in
     subst (λ w. OnOk c.write_numbered-in-Pattern.result (c.write_numbered-in-Pattern.new.text.items ≡ c.args.text.now.items ++ w))
-    (ap (λ n. codes "p" ++ decimal n) (number ∙ ap (λ k. position_or_len (λ n. k == n) keys) c.number-in-Pattern.ensures)
+    (ap (λ n. codes "p" ++ decimal n) (number ∙ ap (λ k. position_or_len (λ n. k == n) keys) c.number.ensures)
     ∙ ap (numbered_name c.args.self.now) (sym c.in-Pattern.is)) c.write_numbered-in-Pattern.ensures
