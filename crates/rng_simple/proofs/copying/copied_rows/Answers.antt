@@ -49,6 +49,7 @@ rows-preserved c =
 pub returns : goal.returns
 returns c =
     let rs = c.args.table.now.rows.items in
-    let all : c.rows.i ≡ length rs = omega (arith, c.rows-test.false, c.rows.auto.i-end, c.len-i-end.ensures) in
-    subst (λ n. AreCopied (finished_labels c.args.table.now) rs c.args.reached.now n c.rows.places.items c.rows.patterns.items c.rows.listed.items) all
-    c.rows.invariant
+    let all : c.rows.i ≡ length rs = omega (arith, c.rows-test.false, c.rows.auto.i-end, c.len-i-end.ensures) in record {
+      copied = subst (λ n. AreCopied (finished_labels c.args.table.now) rs c.args.reached.now n c.rows.places.items c.rows.patterns.items c.rows.listed.items)
+          all c.rows.invariant;
+    }
