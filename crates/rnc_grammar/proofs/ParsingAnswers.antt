@@ -15,6 +15,7 @@ use Rattle.rnc_model.specs.tokens.Cut.{Token}
 use Rattle.rnc_grammar.specs.declared.fault.ParseFault.{ParseFault}
 use Rattle.rnc_grammar.specs.declared.fault.ParseFault.TheVariants as faults
 use Rattle.rnc_grammar.specs.declared.file_tree.FileTree as declared
+use Rattle.rnc_model.specs.declarations.DeclarationRules.{BreaksDeclarationRule}
 use Rattle.rnc_model.specs.declarations.Declarations.{file_tree}
 use Rattle.rnc_grammar.specs.views.Fault.{fault_of, tree_or_fault}
 use Rattle.rnc_model.specs.declarations.FileTree.{FileTree}
@@ -23,7 +24,7 @@ use Rattle.rnc_grammar.specs.views.View.{file_of}
 use Rattle.rnc_grammar.proofs.DeclarationRules.{broken_where_none, kept_where_tree, none_where_broken}
 use Rattle.rnc_grammar.proofs.MentionTokens.{mentions_in_order}
 use Rattle.rnc_model.specs.declarations.Parsing.{BreaksDeclarations, IsFileTree}
-use Rattle.rnc_grammar.specs.views.ParsingFaults.{IsFaultOf, unless_memory}
+use Rattle.rnc_grammar.specs.views.ParsingFaults.{IsFaultOf, IsFaultOfTree, IsResolved, unless_memory}
 use Rattle.rng_model.specs.plain.Answers.{Gives}
 
 -- tokens have one file tree at most, as they have one syntax tree
@@ -67,38 +68,56 @@ grammar_told syntax_faults.Memory number reads = tt
 grammar_told syntax_faults.TooDeep number reads = absurd (cc)
 grammar_told (syntax_faults.Unexpected other) number reads = let same : number ≡ other = cc in ap (λ (n : ℕ). Err (faults.At 6 n)) same
 
--- ---- tokens that have this syntax tree
+-- ---- a syntax tree
 
-abbrev answer_of : File → Result FileTree ParseFault
-answer_of f = tree_or_fault (file_tree f)
+module _ (f : File) where
+  abbrev answer : Result FileTree ParseFault
+  answer = tree_or_fault (file_tree f)
 
-module _ (ts : List Lexeme) (file : written.File) (is : IsSyntaxTree ts (syntax.file_of file)) where
-  abbrev f : File
-  f = syntax.file_of file
+  tree_from : (o : Option FileTree) (t : FileTree) → file_tree f ≡ o → tree_or_fault o ≡ Ok t → IsResolved f t
+  tree_from None t e told = absurd (cc)
+  tree_from (Some u) t e told =
+      let tree : file_tree f ≡ Some t = e ∙ (let same : u ≡ t = cc in ap Some same) in record { kept = kept_where_tree f t tree; tree = tree }
 
-  tree_from : (o : Option FileTree) (t : FileTree) → file_tree f ≡ o → tree_or_fault o ≡ Ok t → IsFileTree ts t
-  tree_from None t e answer = absurd (cc)
-  tree_from (Some u) t e answer =
-      let tree : file_tree f ≡ Some t = e ∙ (let same : u ≡ t = cc in ap Some same) in
-      record { nesting = is.nesting; file = f; sentence = is.sentence; kept = kept_where_tree f t tree; tree = tree }
-
-  fault_from : (o : Option FileTree) (e : ParseFault) → file_tree f ≡ o → tree_or_fault o ≡ Err e → IsFaultOf ts e
-  fault_from None e none answer =
-      let same : faults.Clause 8 ≡ e = cc in
-      subst (IsFaultOf ts) same (inr (refl, record { nesting = is.nesting; file = f; sentence = is.sentence; broken = broken_where_none f none }))
-  fault_from (Some u) e tree answer = absurd (cc)
+  fault_from : (o : Option FileTree) (e : ParseFault) → file_tree f ≡ o → tree_or_fault o ≡ Err e → IsFaultOfTree f e
+  fault_from None e none told = let same : faults.Clause 8 ≡ e = cc in subst (IsFaultOfTree f) same (refl, broken_where_none f none)
+  fault_from (Some u) e tree told = absurd (cc)
 
   -- a tree that was returned
-  pub tree_given : (r : Result declared.FileTree ParseFault) → GivesTree r (answer_of f) → IfOk r (λ t. IsFileTree ts (file_of t))
-  tree_given (Ok t) given = tree_from (file_tree f) (file_of t) refl given
+  pub resolved_given : (r : Result declared.FileTree ParseFault) → GivesTree r answer → IfOk r (λ t. IsResolved f (file_of t))
+  resolved_given (Ok t) given = tree_from (file_tree f) (file_of t) refl given
+  resolved_given (Err e) given = tt
+
+  -- a fault that was returned
+  pub broken_given : (r : Result declared.FileTree ParseFault) → GivesTree r answer → IfErr r (IsFaultOfTree f)
+  broken_given (Ok t) given = tt
+  broken_given (Err faults.Memory) given = tt
+  broken_given (Err (faults.At clause number)) given = fault_from (file_tree f) (faults.At clause number) refl given
+  broken_given (Err (faults.Clause clause)) given = fault_from (file_tree f) (faults.Clause clause) refl given
+
+  -- no other tree
+  pub only_resolved : (r : Result declared.FileTree ParseFault) (t : FileTree) → IsResolved f t → GivesTree r answer → GivesTree r (Ok t)
+  only_resolved r t is given = subst (GivesTree r) (ap tree_or_fault is.tree) given
+
+  -- no other clause
+  pub only_broken : (r : Result declared.FileTree ParseFault) → BreaksDeclarationRule f → GivesTree r answer → GivesTree r (Err (faults.Clause 8))
+  only_broken r broken given = subst (GivesTree r) (ap tree_or_fault (none_where_broken f broken)) given
+
+-- ---- tokens that have this syntax tree
+
+module _ (ts : List Lexeme) (f : File) (is : IsSyntaxTree ts f) where
+  -- a tree that was returned
+  pub tree_given : (r : Result declared.FileTree ParseFault) → IfOk r (λ t. IsResolved f (file_of t)) → IfOk r (λ t. IsFileTree ts (file_of t))
+  tree_given (Ok t) given = record { nesting = is.nesting; file = f; sentence = is.sentence; kept = given.kept; tree = given.tree }
   tree_given (Err e) given = tt
 
   -- a fault that was returned
-  pub fault_given : (r : Result declared.FileTree ParseFault) → GivesTree r (answer_of f) → IfErr r (IsFaultOf ts)
+  pub fault_given : (r : Result declared.FileTree ParseFault) → IfErr r (IsFaultOfTree f) → IfErr r (IsFaultOf ts)
   fault_given (Ok t) given = tt
   fault_given (Err faults.Memory) given = tt
-  fault_given (Err (faults.At clause number)) given = fault_from (file_tree f) (faults.At clause number) refl given
-  fault_given (Err (faults.Clause clause)) given = fault_from (file_tree f) (faults.Clause clause) refl given
+  fault_given (Err (faults.At clause number)) given = absurd given
+  fault_given (Err (faults.Clause clause)) given =
+      inr (given.0, record { nesting = is.nesting; file = f; sentence = is.sentence; broken = given.1 })
 
 -- the mentions of a tree that was returned
 pub mentions_given : (ts : List Token) (r : Result declared.FileTree ParseFault) → IfOk r (λ t. IsFileTree (lexemes ts) (file_of t))
@@ -107,21 +126,21 @@ mentions_given ts (Ok t) is = mentions_in_order ts (file_of t) is
 mentions_given ts (Err e) is = tt
 
 module _ (ts : List Lexeme) (file : written.File) (only : (g : File) → IsSyntaxTree ts g → GivesFile (Ok file) (Ok g)) where
-  same_answer : (g : File) → IsSyntaxTree ts g → answer_of (syntax.file_of file) ≡ answer_of g
-  same_answer g is = let reads = only g is in let same : syntax.file_of file ≡ g = cc in ap answer_of same
+  same_tree : (g : File) → IsSyntaxTree ts g → g ≡ syntax.file_of file
+  same_tree g is = let reads = only g is in cc
 
   -- no other tree
-  pub only_tree : (r : Result declared.FileTree ParseFault) (t : FileTree) → IsFileTree ts t → GivesTree r (answer_of (syntax.file_of file))
-      → GivesTree r (Ok t)
-  only_tree r t is given =
-      subst (GivesTree r) (same_answer is.file (record { nesting = is.nesting; sentence = is.sentence }) ∙ ap tree_or_fault is.tree) given
+  pub only_tree : (r : Result declared.FileTree ParseFault) → ((t : FileTree) → IsResolved (syntax.file_of file) t → GivesTree r (Ok t)) → (t : FileTree)
+      → IsFileTree ts t → GivesTree r (Ok t)
+  only_tree r gives t is =
+      let same = same_tree is.file (record { nesting = is.nesting; sentence = is.sentence }) in
+      gives t (subst (λ f. IsResolved f t) same (record { kept = is.kept; tree = is.tree }))
 
   -- no other clause, where declarations break a rule
-  pub only_declarations : (r : Result declared.FileTree ParseFault) → BreaksDeclarations ts → GivesTree r (answer_of (syntax.file_of file))
-      → GivesTree r (Err (faults.Clause 8))
-  only_declarations r is given =
-      let none : answer_of is.file ≡ Err (faults.Clause 8) = ap tree_or_fault (none_where_broken is.file is.broken) in
-      subst (GivesTree r) (same_answer is.file (record { nesting = is.nesting; sentence = is.sentence }) ∙ none) given
+  pub only_declarations : (r : Result declared.FileTree ParseFault) → (BreaksDeclarationRule (syntax.file_of file) → GivesTree r (Err (faults.Clause 8)))
+      → BreaksDeclarations ts → GivesTree r (Err (faults.Clause 8))
+  only_declarations r gives is =
+      gives (subst BreaksDeclarationRule (same_tree is.file (record { nesting = is.nesting; sentence = is.sentence })) is.broken)
 
 -- tokens with a syntax tree break neither the nesting nor the grammar
 pub no_fault : (file : written.File) (e : SyntaxFault) → GivesFile (Ok file) (Err e) → ⊥

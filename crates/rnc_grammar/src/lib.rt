@@ -2,9 +2,9 @@
 //!
 //! `parse` answers the tree exactly where the tokens are a sentence of the grammar of the compact syntax, nest within 128
 //! brackets, and declare and use their prefixes by the rules; such tokens have one tree. Of other tokens it names the
-//! clause that they break, 7 before 6 before 8, and of 6 the token. `FileTree::grammar` tells which files are grammars,
-//! `FileTree::mentioned_files` which other files a file mentions, in the order of their tokens. Only want of memory keeps
-//! an answer back.
+//! clause that they break, 7 before 6 before 8, and of 6 the token. `resolve` answers the tree of a syntax tree that was
+//! read before. `FileTree::grammar` tells which files are grammars, `FileTree::mentioned_files` which other files a file
+//! mentions, in the order of their tokens. Only want of memory keeps an answer back.
 #![tactic(auto)]
 
 mod fault;
@@ -20,5 +20,5 @@ pub use file_tree::{
     Namespace, Pattern,
 };
 pub use mentions::MentionedFile;
-pub use parsing::parse;
+pub use parsing::{parse, resolve};
 pub use rng_model::Method;

@@ -24,7 +24,7 @@ fn fault_of(fault: TextFault) -> ParseFault {
 fn tree_of(alloc: Global, bytes: &[u8]) -> Result<FileTree, ParseFault> {
     let text = read_text(alloc, bytes).map_err(fault_of)?;
     let tokens = tokens(alloc, &text).map_err(fault_of)?;
-    parse(alloc, tokens)
+    parse(alloc, tokens.as_slice())
 }
 
 /// A fault as it is printed.

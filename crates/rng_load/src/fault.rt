@@ -1,9 +1,11 @@
 // Why a file of a schema, or one of its files, has no tree.
 ghost use Rattle.std.specs.Prelude.{◌≡◌};
+ghost use Rattle.rnc_grammar.specs.views.Fault as parsing;
 ghost use Rattle.rng_load.specs.views.FileFaults.{fault_of_parse, fault_of_text};
 ghost use Rattle.rng_load.specs.declared.fault.ReadingFault.TheVariants as readings;
 
 use rnc_grammar::ParseFault;
+use rnc_syntax::SyntaxFault;
 use rnc_text::TextFault;
 use rng_model::OutOfMemory;
 
@@ -35,6 +37,14 @@ impl From<ParseFault> for FileFault {
             ParseFault::At { clause, .. } | ParseFault::Clause(clause) => FileFault::Clause(clause),
             ParseFault::Memory => FileFault::Memory,
         }
+    }
+}
+
+impl From<SyntaxFault> for FileFault {
+    ghost from_gives = { λ cause fault. fault ≡ fault_of_parse (parsing.fault_of cause) };
+
+    fn from(cause: SyntaxFault) -> FileFault {
+        FileFault::from(ParseFault::from(cause))
     }
 }
 

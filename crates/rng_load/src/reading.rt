@@ -5,7 +5,8 @@ ghost use Rattle.rnc_model.specs.loading.Files.{named_files};
 ghost use Rattle.rnc_model.specs.loading.SchemaFile.{IsHandedIn, IsHandedInTwice, IsMissing, ContentHasOnlyVerdict, FileHasOnlyVerdict, BreaksLimit};
 
 use crate::fault::FileFault;
-use rnc_grammar::{FileTree, parse};
+use rnc_grammar::{FileTree, resolve};
+use rnc_syntax::read_syntax;
 use rnc_text::{read_text, tokens};
 use std::alloc::Global;
 
@@ -66,12 +67,16 @@ fn bytes_of<'a>(files: &'a [(String, Vec<u8>)], name: &str) -> Option<&'a [u8]>
     found
 }
 
-/// The tree of bytes of any number. The tokens give their spare room back before their syntax tree is made beside them.
+/// The tree of bytes of any number.
+///
+/// The tokens give their spare room back before their syntax tree is made beside them, and are let go before the file tree is.
 fn tree_of_content(alloc: Global, bytes: &[u8]) -> Result<FileTree, FileFault>
     ensures { IfSome (verdict_of result) (ContentHasOnlyVerdict bytes.now) }
 {
     let text = read_text(alloc, bytes)?;
     let mut tokens = tokens(alloc, &text)?;
     tokens.shrink_to_fit();
-    Ok(parse(alloc, tokens)?)
+    let file = read_syntax(alloc, tokens.as_slice())?;
+    drop(tokens);
+    Ok(resolve(alloc, &file)?)
 }
