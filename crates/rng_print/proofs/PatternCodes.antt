@@ -1,5 +1,5 @@
 -- Patterns are told apart by their codes, where their parts are told apart by their numbers.
-use Rattle.std.proofs.Common.{◌≡◌, ◌↔◌, ◌∙◌, refl, ap, ap₂, ℕ, ◌<◌, [], ◌∷◌, string_bytes, arith}
+use Rattle.std.proofs.Common.{◌≡◌, ◌↔◌, ◌∙◌, refl, ap, ap₂, ℕ, ◌<◌, List, [], ◌∷◌, string_bytes, arith}
 use Rattle.rng_labels.specs.plain.LabelCodes.{class_code, datatype_code, value_code}
 use Rattle.rng_labels.proofs.LabelCodes.{same_classes, same_datatypes, same_values}
 use Rattle.rng_labels.proofs.PairedClasses.{paired_is}
@@ -55,8 +55,8 @@ module _ (of : PatternId → tree.Simple ℕ) (f : PatternId → ℕ) where
       let i : datatype_code (datatype_of c.value) ≡ datatype_code (datatype_of d.value) = cc in
       ap₂ tree.s_data_except (same_datatypes (datatype_of c.value) (datatype_of d.value) i) ((t a b x y).0 h)
   same_trees m n (simple.Value v) (simple.Value w) x y u z t e =
-      let old = (without_parameters (string_bytes v.value.library) (string_bytes v.value.name), string_bytes v.value.text) in
-      let new = (without_parameters (string_bytes w.value.library) (string_bytes w.value.name), string_bytes w.value.text) in
+      let old : tree.Datatype × List ℕ = (without_parameters (string_bytes v.value.library) (string_bytes v.value.name), string_bytes v.value.text) in
+      let new : tree.Datatype × List ℕ = (without_parameters (string_bytes w.value.library) (string_bytes w.value.name), string_bytes w.value.text) in
       let i : value_code old ≡ value_code new = cc in
       let s = same_values old new i in
       ap₂ tree.s_value (ap₂ without_parameters s.0 s.1) s.2
