@@ -58,7 +58,7 @@ class Watch:
             self.processes[key] = {"words": words, "folder": os.readlink(f"/proc/{pid}/cwd"), "parent": fields[1], "start": time.time()}
         self.processes[key] |= {"took": (int(fields[11]) + int(fields[12])) / TICK, "end": time.time()}
 
-    def stop(self):
+    def stop(self, gate):
         self.ends.set()
         self.thread.join()
         by_pid = {pid: it for (pid, _), it in self.processes.items()}
@@ -68,8 +68,8 @@ class Watch:
             while "--crate-name" not in top["words"] and top["parent"] in by_pid and by_pid[top["parent"]] is not top:
                 top = by_pid[top["parent"]]
             words = top["words"]
-            # (another checkout's checks, run beside this, are not the gate's)
-            is_own = top["folder"].startswith(f"{ROOT}/") or "/rt-edit-" in top["folder"]
+            # (another checkout's checks and edits, run beside this, are not the gate's; a folder of an edit has the number of its `rt`)
+            is_own = top["folder"].startswith(f"{ROOT}/") or f"/rt-edit-{gate}-" in top["folder"]
             it["crate"] = words[words.index("--crate-name") + 1] if is_own and "--crate-name" in words else ""
             it["part"] = "edits" if "/rt-edit-" in it["folder"] else "tests" if "--test" in words else "proofs"
         return [it for it in self.processes.values() if it["crate"]]
@@ -85,7 +85,7 @@ def gate():
             log.write(f"{time.time() - start:7.0f} {last}")
             log.flush()
     ran.wait()
-    clock, seen = time.time() - start, watch.stop()
+    clock, seen = time.time() - start, watch.stop(ran.pid)
     with open(f"{ROOT}/out/gate.json", "w", encoding="utf-8") as samples:
         json.dump(sorted(seen, key=lambda it: it["start"]), samples)
     print(f"`rt ci --anew`: {last.strip()}; {clock / 60:.0f} minutes on the clock with {len(os.sched_getaffinity(0))} processors")
