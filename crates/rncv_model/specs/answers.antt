@@ -1,5 +1,6 @@
 -- Verdicts, answers, status.
 pub mod Answer
+pub mod Compiled
 pub mod Input
 pub mod Run
 pub mod Verdict

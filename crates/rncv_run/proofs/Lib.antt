@@ -1,9 +1,7 @@
 mod AnswerLines
+mod FedInput
+mod JudgedInput
 mod LoadedSchemas
-mod Documents
-mod DocumentVerdict
-mod GoodSchemas
-mod Refusals
-mod UnknownNames
 mod OneAnswer
 mod OneSimpleForm
+mod Refusals

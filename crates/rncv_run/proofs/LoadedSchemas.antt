@@ -1,7 +1,9 @@
 -- What is answered of the one schema that files are.
-use Rattle.std.proofs.Common.{◌≡◌, List, ℕ, Option, Some, Result, Ok, Err, IfOk, sym, subst, ap, ◌∙◌}
+use Rattle.std.proofs.Common.{◌≡◌, ◌≢◌, List, ℕ, Option, Some, Result, Ok, Err, IfOk, sym, subst, ap, ◌∙◌}
 use Rattle.std.proofs.Math.Path.{fun_ext}
 use Rattle.rng_model.specs.schema.Schema.{Schema}
+use Rattle.rng_model.specs.schema.SchemaClauses.{BreaksNoClause}
+use Rattle.rng_model.specs.simple.Table.{Table}
 use Rattle.rnc_model.specs.loading.Loading.{TakenFiles, FilesVerdict, are_taken, FilesHaveOnlyVerdict, tree_in}
 use Rattle.rnc_model.specs.loading.LoadedSchema.{AreSchema}
 use Rattle.rnc_model.specs.loading.Places.{IsSchemaOf}
@@ -11,6 +13,8 @@ use Rattle.rncv_run.specs.views.AnswerView.{answer_of}
 use Rattle.rncv_model.specs.answers.Run.{IsAnswer, IsAnswerBy, JudgesDocuments, JudgesNone}
 use Rattle.rncv_run.specs.declared.answer.Answer as declared
 use Rattle.rncv_model.specs.declared.command.Command.{Command}
+use Rattle.rncv_model.specs.declared.command.Command.TheVariants.{Valid}
+use Rattle.rncv_validator.specs.views.Validators.{IsOneFor, Judges}
 
 same_value : {A : Type 0} {o : Option A} {a b : A} → o ≡ Some a → o ≡ Some b → a ≡ b
 same_value e f = cc
@@ -36,9 +40,21 @@ pub judges_none : (command : Command) (main : Name) (read : TakenFiles) (s : Sch
     → are_taken read ≡ verdict → JudgesNone command main verdict → JudgesDocuments command s → ⊥
 judges_none command main read s verdict a e none = judges_none_of command main read s a (subst (JudgesNone command main) (sym e) none)
 
--- the answer by the schema that was loaded is the one for its files
-pub loaded_answer : {E : Type 0} (command : Command) (files : List NamedFile) (main : Name) (read : TakenFiles) (s : Schema) (old new : Option (List ℕ))
-    → FilesHaveOnlyVerdict files main (are_taken read) → AreSchema read main s → (r : Result declared.Answer E)
-    → IfOk r (λ a. IsAnswerBy command s old new (answer_of a)) → IfOk r (λ a. IsAnswer command files main old new (answer_of a))
-loaded_answer command files main read s old new v a (Ok x) is = record { verdict = are_taken read; is_verdict = v; follows = (s, a, is) }
-loaded_answer command files main read s old new v a (Err e) is = tt
+module _ (command : Command) (files : List NamedFile) (main : Name) (g : Table) (one : IsOneFor files main g) where
+  -- where no document is judged by the files, the command judges none
+  pub judges_no_document : (verdict : FilesVerdict) → FilesHaveOnlyVerdict files main verdict → JudgesNone command main verdict → command ≢ Valid
+  judges_no_document verdict is none = λ e.
+      let taken = one.are.are in
+      judges_none command main taken.read one.schema verdict taken.are (taken.is_verdict.only verdict is.is) none
+      (record { command_is = e; breaks_none = one.are.good })
+
+  -- the answer by the schema is the one for its files
+  pub answer_to_files : {E : Type 0} (old new : Option (List ℕ)) (r : Result declared.Answer E)
+      → IfOk r (λ a. (s : Schema) → BreaksNoClause s → Judges g s → IsAnswerBy command s old new (answer_of a))
+      → IfOk r (λ a. IsAnswer command files main old new (answer_of a))
+  answer_to_files old new (Ok x) is = record {
+    verdict = are_taken one.are.are.read;
+    is_verdict = one.are.are.is_verdict;
+    follows = (one.schema, one.are.are.are, is one.schema one.are.good one.judges);
+  }
+  answer_to_files old new (Err e) is = tt

@@ -1,4 +1,2 @@
 -- Plain functions that the code is proved against, and private relations.
-pub mod Compiled
-pub mod Judging
 pub mod SameAnswers

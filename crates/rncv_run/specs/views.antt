@@ -1,4 +1,3 @@
 -- Views of types, and invariants.
 pub mod AnswerView
-pub mod MalformedVerdict
-pub mod TakenDocuments
+pub mod DocumentInput

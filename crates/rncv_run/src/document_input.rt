@@ -1,56 +1,123 @@
-// Taking a document from a device.
-ghost use Rattle.std.specs.Prelude.{◌≡◌, ◌-◌, ◌^◌, ◌<◌, IfErr, OnOk, IsErrOf};
-ghost use Rattle.rng_model.specs.documents.Handing.{Hands};
+// Judging the document that a device has left.
+ghost use Rattle.std.specs.Prelude.{◌≡◌, ◌-◌, ◌^◌, ◌<◌, [], IfErr, IfOk, OnOk, IsErrOf};
+ghost use Rattle.rng_model.specs.schema.Schema.{Schema};
 ghost use Rattle.rng_model.specs.devices.Device.{device_inner, device_failures};
-ghost use Rattle.rncv_run.specs.views.TakenDocuments.{IsFaultOfInput, IsTaken};
+ghost use Rattle.rncv_model.specs.answers.Run.{IsJudged};
+ghost use Rattle.rncv_validator.specs.views.Documents.{HasBeenFed};
+ghost use Rattle.rncv_validator.specs.views.Validators.{Judges};
+ghost use Rattle.rncv_run.specs.declared.document_input.JudgeFault.TheVariants as faults;
+ghost use Rattle.rncv_run.specs.views.DocumentInput.{IsFaultOfInput, IsFedWhole, fault_of_judging, malformed_by};
 
-use pyx::{PyxFault, Reader};
-use rng_model::{Device, Events};
+use rncv_model::{RunFault, Verdict};
+use rncv_validator::{Document, DocumentFault, Validator};
+use rng_model::{Device, OutOfMemory};
 use std::alloc::Global;
 use std::io::Read;
 
 /// How many bytes are read at once, at most.
 const PIECE: usize = 32768;
 
-/// Why a document was not taken to its end.
+/// Why a document was not judged.
 #[derive(Clone, Copy)]
-pub enum DocumentFault {
+pub(crate) enum JudgeFault {
     /// A read failed.
     Read,
-    /// A line breaks a clause, or there was no memory.
-    Pyx(PyxFault),
+    /// There was no memory.
+    Memory,
 }
 
-/// Hands the events of the document that a reader has left to what takes them, piece by piece.
+impl From<OutOfMemory> for JudgeFault {
+    ghost from_gives = { λ cause fault. fault ≡ faults.Memory };
+
+    fn from(_cause: OutOfMemory) -> JudgeFault {
+        JudgeFault::Memory
+    }
+}
+
+impl From<JudgeFault> for RunFault {
+    ghost from_gives = { λ cause fault. fault ≡ fault_of_judging cause };
+
+    fn from(cause: JudgeFault) -> RunFault {
+        match cause {
+            JudgeFault::Read => RunFault::Read,
+            JudgeFault::Memory => RunFault::Memory,
+        }
+    }
+}
+
+/// Why a document was not fed to its end.
+#[derive(Clone, Copy)]
+pub enum InputFault {
+    /// A read failed.
+    Read,
+    /// A piece was not taken.
+    Document(DocumentFault),
+}
+
+/// What the document that an input has left is by the schema of a validator: the verdict of `Document::finish`.
+///
+/// It is read to its end, or in pieces of 32,768 bytes to the one with the first fault.
+pub(crate) fn judge<R: Read>(
+    alloc: Global,
+    validator: Validator,
+    input: &mut Device<R>,
+) -> Result<Verdict, JudgeFault>
+    requires { device_failures input.old < 2 ^ 64 - 1 }
+    ensures judged { IfOk result (λ v. (s : Schema) → Judges validator s → IsJudged s v (R.remaining (device_inner input.old)) (R.remaining (device_inner input.new))) }
+    ensures calm { OnOk result (device_failures input.new ≡ device_failures input.old) }
+    ensures read { IsErrOf result JudgeFault.Read → device_failures input.old < device_failures input.new }
+    ensures memory { IsErrOf result JudgeFault.Memory → device_failures input.new ≡ device_failures input.old }
+{
+    let mut document = validator.document(alloc);
+    match feed_whole(&mut document, input) {
+        Ok(()) => {}
+        Err(InputFault::Read) => {
+            drop(document);
+            return Err(JudgeFault::Read);
+        }
+        Err(InputFault::Document(fault)) => {
+            drop(document);
+            return malformed(fault);
+        }
+    }
+    let (validator, verdict) = document.finish();
+    drop(validator);
+    Ok(verdict?)
+}
+
+/// The verdict of a fault.
+fn malformed(fault: DocumentFault) -> Result<Verdict, JudgeFault>
+    ensures { result ≡ malformed_by fault }
+{
+    match fault {
+        DocumentFault::Malformed { clause, line } => Ok(Verdict::Malformed { clause, line }),
+        DocumentFault::Memory => Err(JudgeFault::Memory),
+    }
+}
+
+/// Feeds a document with what an input has left.
 ///
 /// It reads to the end, or to the piece with the first line that breaks a clause.
-pub fn take_document<R: Read, E: Events>(
-    alloc: Global,
-    input: &mut Device<R>,
-    events: &mut E,
-) -> Result<(), DocumentFault>
-    requires { device_failures input.old < 2 ^ 64 - 1 }
-    ensures taken { OnOk result (IsTaken (Hands E.stands events.old events.new) (R.remaining (device_inner input.old)) (R.remaining (device_inner input.new))) }
+fn feed_whole<R: Read>(document: &mut Document, input: &mut Device<R>) -> Result<(), InputFault>
+    requires begun { HasBeenFed document.old [] }
+    requires input { device_failures input.old < 2 ^ 64 - 1 }
+    ensures grammar { document.new.grammar ≡ document.old.grammar }
+    ensures fed { OnOk result (IsFedWhole (HasBeenFed document.new) (R.remaining (device_inner input.old)) (R.remaining (device_inner input.new))) }
     ensures fault { IfErr result (IsFaultOfInput (R.remaining (device_inner input.old)) (R.remaining (device_inner input.new))) }
     ensures calm { OnOk result (device_failures input.new ≡ device_failures input.old) }
-    ensures read { IsErrOf result DocumentFault.Read → device_failures input.old < device_failures input.new }
-    ensures pyx { (f : PyxFault) → IsErrOf result (DocumentFault.Pyx f) → device_failures input.new ≡ device_failures input.old }
+    ensures read { IsErrOf result InputFault.Read → device_failures input.old < device_failures input.new }
+    ensures document { (f : DocumentFault) → IsErrOf result (InputFault.Document f) → device_failures input.new ≡ device_failures input.old }
 {
-    let mut reader = Reader::new(alloc);
     let mut piece = [0u8; PIECE];
     'pieces: loop {
         let Ok(n) = input.read(&mut piece) else {
-            return Err(DocumentFault::Read);
+            return Err(InputFault::Read);
         };
         if n == 0 {
-            break;
+            return Ok(());
         }
-        if let Err(fault) = reader.feed(&piece[..n], events) {
-            return Err(DocumentFault::Pyx(fault));
+        if let Err(fault) = document.feed(&piece[..n]) {
+            return Err(InputFault::Document(fault));
         }
-    }
-    match reader.finish(events) {
-        Ok(()) => Ok(()),
-        Err(fault) => Err(DocumentFault::Pyx(fault)),
     }
 }

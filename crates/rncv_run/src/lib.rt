@@ -11,9 +11,7 @@
 #![tactic(auto)]
 
 mod answer;
-mod compiling;
 mod document_input;
-mod judging;
 mod laws;
 mod running;
 

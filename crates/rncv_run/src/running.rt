@@ -1,18 +1,20 @@
 // From files and a document to an answer.
-ghost use Rattle.std.specs.Prelude.{◌≡◌, ◌-◌, ◌^◌, ◌<◌, Some, length, true, IfOk, IfErr, OnOk, IsErrOf};
+ghost use Rattle.std.specs.Prelude.{◌≡◌, ◌≢◌, ◌-◌, ◌^◌, ◌<◌, Some, length, true, IfOk, IfErr, OnOk, IsErrOf};
 ghost use Rattle.rng_model.specs.devices.Device.{device_inner, device_failures, device_flushed};
 ghost use Rattle.rncv_run.specs.views.AnswerView.{answer_of, refusal_of};
 ghost use Rattle.rnc_model.specs.loading.Files.{named_files};
 ghost use Rattle.rnc_model.specs.loading.Loading.{FilesVerdict, FilesHaveOnlyVerdict};
-ghost use Rattle.rng_load.specs.views.PlacedGrammars.{schema_of};
-ghost use Rattle.rncv_model.specs.answers.Run.{IsAnswer, IsAnswerBy, JudgesDocuments, JudgesNone, WritesAnswer, WrittenAfter, main_name};
+ghost use Rattle.rng_model.specs.schema.Schema.{Schema};
+ghost use Rattle.rng_model.specs.schema.SchemaClauses.{BreaksNoClause};
+ghost use Rattle.rncv_validator.specs.views.Validators.{Judges};
+ghost use Rattle.rncv_model.specs.declared.command.Command.{Command};
+ghost use Rattle.rncv_model.specs.answers.Run.{IsAnswer, IsAnswerBy, JudgesNone, WritesAnswer, WrittenAfter, main_name};
 
 use crate::answer::Answer;
-use crate::compiling::{Compiled, compile};
-use crate::judging::{JudgeFault, document_verdict};
+use crate::document_input::{JudgeFault, judge};
 use rncv_model::{Command, RunFault, Status};
-use rng_load::{Schema, load};
-use rng_model::{Device, OutOfMemory, SchemaFault, write_whole};
+use rncv_validator::{CompileFault, Validator};
+use rng_model::{Device, OutOfMemory, write_whole};
 use std::alloc::Global;
 use std::io::{Read, Write};
 
@@ -66,7 +68,7 @@ pub fn run<R: Read, W: Write>(
         (IsAnswer command (named_files files.now) (main_name files.now) (R.remaining (device_inner input.old)) (R.remaining (device_inner input.new)))
         fault (W.contents (device_inner output.old)) (W.contents (device_inner output.new))) }
 {
-    let answer = answer_for(alloc, command, files, first_name(files), input)?;
+    let answer = answer_for(alloc, command, files, input)?;
     let status = answer.status();
     let Ok(text) = answer.into_output(alloc) else {
         return Err(RunFault::Memory);
@@ -80,69 +82,56 @@ pub fn run<R: Read, W: Write>(
     Ok(status)
 }
 
-/// The name of the first file.
-fn first_name(files: &[(String, Vec<u8>)]) -> &str
-    requires { 0 < length files.now }
-    ensures { result.now ≡ main_name files.now }
-{
-    match files {
-        [(name, _), ..] => name.as_str(),
-        [] => unreachable!(),
-    }
-}
-
-/// What is to be said of the document by the schema of these files, of which the main one has this name.
+/// What is to be said of the files, of which the first is the main one, and of the document by them.
 fn answer_for<R: Read>(
     alloc: Global,
     command: Command,
     files: &[(String, Vec<u8>)],
-    main: &str,
     input: &mut Device<R>,
 ) -> Result<Answer, JudgeFault>
-    requires { device_failures input.old < 2 ^ 64 - 1 }
+    requires files { 0 < length files.now }
+    requires input { device_failures input.old < 2 ^ 64 - 1 }
     ensures calm { OnOk result (device_failures input.new ≡ device_failures input.old) }
-    ensures unread { (verdict : FilesVerdict) → FilesHaveOnlyVerdict (named_files files.now) main.now verdict → JudgesNone command main.now verdict → input.new ≡ input.old }
+    ensures unread { (verdict : FilesVerdict) → FilesHaveOnlyVerdict (named_files files.now) (main_name files.now) verdict → JudgesNone command (main_name files.now) verdict → input.new ≡ input.old }
     ensures read { IsErrOf result JudgeFault.Read → device_failures input.old < device_failures input.new }
     ensures memory { IsErrOf result JudgeFault.Memory → device_failures input.new ≡ device_failures input.old }
-    ensures answer { IfOk result (λ answer. IsAnswer command (named_files files.now) main.now (R.remaining (device_inner input.old)) (R.remaining (device_inner input.new)) (answer_of answer)) }
+    ensures answer { IfOk result (λ answer. IsAnswer command (named_files files.now) (main_name files.now) (R.remaining (device_inner input.old)) (R.remaining (device_inner input.new)) (answer_of answer)) }
 {
-    match load(alloc, files, main) {
-        Ok(schema) => answer_by(alloc, command, schema, input),
+    match Validator::compile(alloc, files) {
+        Ok(validator) => answer_by(alloc, command, validator, input),
         Err(fault) => Ok(refusal(fault)?),
     }
 }
 
-/// What is to be said of the document by a schema.
+/// What is to be said of a schema that breaks no clause, and of the document by it.
 fn answer_by<R: Read>(
     alloc: Global,
     command: Command,
-    schema: Schema,
+    validator: Validator,
     input: &mut Device<R>,
 ) -> Result<Answer, JudgeFault>
     requires { device_failures input.old < 2 ^ 64 - 1 }
     ensures calm { OnOk result (device_failures input.new ≡ device_failures input.old) }
-    ensures unread { ¬ (JudgesDocuments command (schema_of schema)) → input.new ≡ input.old }
+    ensures unread { command ≢ Command.Valid → input.new ≡ input.old }
     ensures read { IsErrOf result JudgeFault.Read → device_failures input.old < device_failures input.new }
     ensures memory { IsErrOf result JudgeFault.Memory → device_failures input.new ≡ device_failures input.old }
-    ensures answer { IfOk result (λ answer. IsAnswerBy command (schema_of schema) (R.remaining (device_inner input.old)) (R.remaining (device_inner input.new)) (answer_of answer)) }
+    ensures answer { IfOk result (λ answer. (s : Schema) → BreaksNoClause s → Judges validator s
+        → IsAnswerBy command s (R.remaining (device_inner input.old)) (R.remaining (device_inner input.new)) (answer_of answer)) }
 {
-    match compile(alloc, command, schema) {
-        Ok(Compiled::Grammar(grammar)) => {
-            Ok(Answer::Judged(document_verdict(alloc, &grammar, input)?))
-        }
-        Ok(Compiled::Good) => Ok(Answer::SchemaOk),
-        Ok(Compiled::Printed(text)) => Ok(Answer::Printed(text)),
-        Err(fault) => Ok(refusal(fault)?),
+    match command {
+        Command::Check => Ok(Answer::SchemaOk),
+        Command::Simple => Ok(Answer::Printed(validator.simple_text(alloc)?)),
+        Command::Valid => Ok(Answer::Judged(judge(alloc, validator, input)?)),
     }
 }
 
 /// The answer that tells a fault of a schema.
-fn refusal(fault: SchemaFault) -> Result<Answer, OutOfMemory>
+fn refusal(fault: CompileFault) -> Result<Answer, OutOfMemory>
     ensures { IfOk result (λ answer. refusal_of fault ≡ Some (answer_of answer)) }
 {
     match fault {
-        SchemaFault::File { clause, name } => Ok(Answer::RefusedFile { clause, name }),
-        SchemaFault::Clause(clause) => Ok(Answer::Refused(clause)),
-        SchemaFault::Memory => Err(OutOfMemory),
+        CompileFault::File { clause, name } => Ok(Answer::RefusedFile { clause, name }),
+        CompileFault::Clause(clause) => Ok(Answer::Refused(clause)),
+        CompileFault::Memory => Err(OutOfMemory),
     }
 }

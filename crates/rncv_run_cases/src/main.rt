@@ -1,13 +1,14 @@
 //! Prints what `run` answers and writes for each row of `data/cases.txt`, `data/sizes.txt` and `data/files.txt`, by a reader
 //! that gives all that it has at once, and after it each other answer by readers that give 1, 2, 3 and 4,096 bytes at
 //! most, which there is not to be; then for each document of `data/documents.txt` a line with a letter for each schema of `data/schemas.txt`, V for valid
-//! and I for invalid.
+//! and I for invalid, and after it the letters of validators that judge all these documents one after the other, in pieces, where they differ.
 //!
 //! The documents, the schemas and their letters come from a second program, `tools/all_splits`.
 #![tactic(auto)]
 
 use case_rows::{Row, rows};
 use rncv_run::{Command, Status, run};
+use rncv_validator::{Validator, Verdict};
 use rng_model::Device;
 use std::alloc::Global;
 use std::io;
@@ -44,9 +45,14 @@ fn main(rt: HostRuntime) -> io::Result<()> {
         print!(rt; "{line}")?;
     }
     let schemas = rows(&rt, "schemas.txt")?;
+    let mut validators = validators_of(rt.alloc(), schemas.as_slice())?;
     for document in rows(&rt, "documents.txt")? {
         let letters = letters_of(rt.alloc(), schemas.as_slice(), document.bytes(0)?)?;
         println!(rt; "{letters}")?;
+        let others = letters_by(rt.alloc(), &mut validators, document.bytes(0)?)?;
+        if letters.as_str() != others.as_str() {
+            println!(rt; "by validators {others}")?;
+        }
     }
     Ok(())
 }
@@ -172,4 +178,52 @@ fn letters_of(alloc: Global, schemas: &[Row], document: &[u8]) -> io::Result<Str
         })?;
     }
     Ok(letters)
+}
+
+/// A validator for each schema, or none where the schema is refused.
+fn validators_of(alloc: Global, schemas: &[Row]) -> io::Result<Vec<Option<Validator>>> {
+    let mut validators = Vec::new(alloc);
+    for schema in schemas {
+        let file = file_of(alloc, "s.rnc", schema.bytes(0)?)?;
+        validators.push(Validator::compile(alloc, &[file]).ok())?;
+    }
+    Ok(validators)
+}
+
+/// A letter for each validator.
+fn letters_by(
+    alloc: Global,
+    validators: &mut Vec<Option<Validator>>,
+    document: &[u8],
+) -> io::Result<String> {
+    let mut letters = String::new(alloc);
+    for held in validators.iter_mut() {
+        let letter = match held.take() {
+            Some(validator) => {
+                let (validator, letter) = judged(alloc, validator, document)?;
+                *held = Some(validator);
+                letter
+            }
+            None => 'R',
+        };
+        letters.push(letter)?;
+    }
+    Ok(letters)
+}
+
+/// The validator, and a letter for what it says of a document, in pieces of three bytes.
+fn judged(alloc: Global, validator: Validator, bytes: &[u8]) -> io::Result<(Validator, char)> {
+    let mut document = validator.document(alloc);
+    for piece in bytes.chunks(3) {
+        if document.feed(piece).is_err() {
+            break;
+        }
+    }
+    let (validator, verdict) = document.finish();
+    match verdict {
+        Ok(Verdict::Valid) => Ok((validator, 'V')),
+        Ok(Verdict::Invalid(_)) => Ok((validator, 'I')),
+        Ok(Verdict::Malformed { .. }) => Ok((validator, 'M')),
+        Err(_) => Err(io::Error::from(io::ErrorKind::Other)),
+    }
 }

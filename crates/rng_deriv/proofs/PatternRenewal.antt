@@ -56,6 +56,7 @@ module _ (t : Table) (old new : List Node) (ms ns : List PatternNumber) (same : 
       let long = zip_length (IsSameTree t old new) ms ns same in
       let ready = served.ready in
       record {
+        keeps = served.keeps;
         ready = record {
           grammar = ready.grammar;
           long = long ∙ ready.long;

@@ -61,6 +61,7 @@ trees_longer t old new longer =
 
 pub served_longer : (t : Table) (old new : List Node) (ns : List PatternNumber) → Longer old new → IsServed t old ns → IsServed t new ns
 served_longer t old new ns longer served = record {
+  keeps = served.keeps;
   ready = ready_longer t old new ns longer served.ready;
   bodies = bodies_longer t old new ns longer served.ready served.bodies;
 }
@@ -76,6 +77,7 @@ module _ (t : Table) (ns : List Node) (numbers : List PatternNumber) (keeps : Br
     (long : length numbers ≡ length t.patterns) (taken : AreTaken t ns numbers) (alike : AreRestrictedAlike t ns numbers) where
   pub served_first : IsServed t ns numbers
   served_first = record {
+    keeps = keeps;
     ready = record { grammar = valid; long = long; taken = taken; kept = kept_at t ns numbers alike };
     bodies = λ k e found.
         let there = body_inside t k e valid found in
@@ -84,8 +86,11 @@ module _ (t : Table) (ns : List Node) (numbers : List PatternNumber) (keeps : Br
         record { restricted = alike.restricted e.1 inside body.restricted; typed = alike.typed e.1 inside body.typed };
   }
 
+-- ---- the number of its start
+
+module _ (t : Table) (ns : List Node) (numbers : List PatternNumber) (served : IsServed t ns numbers) where
   start_there : t.start.0 < length numbers
-  start_there = let there = valid.start in omega (arith, there, long)
+  start_there = let there = served.ready.grammar.start in let long = served.ready.long in omega (arith, there, long)
 
   module _ (n : PatternNumber) (read : n ≡ slice_index_or numbers t.start.0 n) where
     start_is : slice_index_or numbers t.start.0 (record { 0 = 0 }) ≡ n
@@ -93,13 +98,13 @@ module _ (t : Table) (ns : List Node) (numbers : List PatternNumber) (keeps : Br
 
     pub start_inside : IsInside (trees t ns) n
     start_inside = subst (IsInside (trees t ns)) start_is (record {
-      below = let at = taken.inside t.start.0 start_there in let same = length-trees t ns in omega (arith, at, same);
-      restricted = alike.restricted t.start start_there (start_restricted (grammar_of t) keeps);
+      below = let at = served.ready.taken.inside t.start.0 start_there in let same = length-trees t ns in omega (arith, at, same);
+      restricted = served.ready.kept places.Content t.start start_there (start_restricted (grammar_of t) served.keeps);
     })
 
     pub start_same : Same (reading_of t) (tree_of t ns n.0) (tree_at t.patterns t.start)
     start_same = subst (λ (n : PatternNumber). Same (reading_of t) (tree_of t ns n.0) (tree_at t.patterns t.start)) start_is
-        (taken.same t.start.0 start_there (reading_of t))
+        (served.ready.taken.same t.start.0 start_there (reading_of t))
 
 -- ---- what contracts see of a table, unless memory was wanting
 

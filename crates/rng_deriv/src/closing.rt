@@ -19,6 +19,7 @@ pub fn after_elements<D: Derivatives>(
 ) -> Result<(), OutOfMemory>
     requires { IsStateInside (D.trees derivatives.old) state.old }
     ensures reading { OnOk result (D.reading derivatives.new ≡ D.reading derivatives.old) }
+    ensures grammar { OnOk result (D.grammar derivatives.new ≡ D.grammar derivatives.old) }
     ensures ended { OnOk result (AddsState (EndsIf (D.reading derivatives.old) (EndsNow (D.reading derivatives.old))
         (state_of (D.trees derivatives.old) state.old)) (D.trees derivatives.old) (D.trees derivatives.new) state.new) }
 {
@@ -37,6 +38,7 @@ pub fn after_lone_string<D: Derivatives>(
     requires state { IsStateInside (D.trees derivatives.old) state.old }
     requires string { IsHeldInside (D.trees derivatives.old) (length state.old.now.items) string }
     ensures reading { OnOk result (D.reading derivatives.new ≡ D.reading derivatives.old) }
+    ensures grammar { OnOk result (D.grammar derivatives.new ≡ D.grammar derivatives.old) }
     ensures ended { OnOk result (AddsState (λ n. (s : List ℕ) → IsHeld (D.reading derivatives.old) (D.trees derivatives.old) state.old.now.items string s
         → EndsIf (D.reading derivatives.old) (EndsWith (D.reading derivatives.old) s) (state_of (D.trees derivatives.old) state.old) n)
         (D.trees derivatives.old) (D.trees derivatives.new) state.new) }

@@ -1,5 +1,8 @@
 // What the matcher asks about patterns.
-ghost use Rattle.std.specs.Prelude.{◌≡◌, ℕ, List, All, IfOk, OnOk, map};
+ghost use Rattle.std.specs.Prelude.{◌≡◌, ◌↔◌, ℕ, List, [], All, IfOk, OnOk, map};
+ghost use Rattle.rng_model.specs.matching.Document.{Item};
+ghost use Rattle.rng_deriv_laws.specs.plain.Taking.{Takes};
+ghost use Rattle.rng_model.specs.simple.Table.{Table};
 ghost use Rattle.rng_model.specs.simple.Tree.{Simple};
 ghost use Rattle.rng_model.specs.documents.DocumentViews.{attribute_of};
 ghost use Rattle.rng_model.specs.names.NameViews.{name_of};
@@ -35,11 +38,20 @@ impl Default for StartWay {
 /// RELAX NG Specification, sections 6.2 and 7. Only patterns that obey the restrictions are asked, and what is answered obeys
 /// them. After want of memory nothing is known of the table.
 pub trait Derivatives {
+    /// The tables of the grammar.
+    ghost grammar: { Self → Table };
+
     /// The grammar, with the tests of texts.
     ghost reading: { Self → Reading };
 
     /// The trees of the patterns, by number.
     ghost trees: { Self → List (Simple ℕ) };
+
+    /// The pattern that the root is to match. The error is want of memory, that of an earlier call.
+    fn start(&self) -> Result<PatternNumber, OutOfMemory>
+        ensures inside { IfOk result (IsInside (trees self.now)) }
+        ensures start { IfOk result (λ n. (ns : List Item) → Takes (reading self.now) (tree_of (trees self.now) n) [] ns
+            ↔ Takes (reading self.now) (reading self.now).grammar.start [] ns) };
 
     /// Whether the pattern needs no attribute and no item.
     fn is_nullable(&self, pattern: PatternNumber) -> bool
@@ -59,6 +71,7 @@ pub trait Derivatives {
     ) -> Result<PatternNumber, OutOfMemory>
         requires { All (IsInside (trees self.old)) members.now }
         ensures reading { OnOk result (reading self.new ≡ reading self.old) }
+        ensures grammar { OnOk result (grammar self.new ≡ grammar self.old) }
         ensures choice { IfOk result (Adds (IsChoiceOf (reading self.old) (trees self.old) members.now) (trees self.old) (trees self.new)) };
 
     /// What is left after a string. The error is want of memory.
@@ -70,6 +83,7 @@ pub trait Derivatives {
     ) -> Result<PatternNumber, OutOfMemory>
         requires { IsInside (trees self.old) pattern }
         ensures reading { OnOk result (reading self.new ≡ reading self.old) }
+        ensures grammar { OnOk result (grammar self.new ≡ grammar self.old) }
         ensures after { IfOk result
             (Adds (IsAfterText (reading self.old) text.now (tree_of (trees self.old) pattern)) (trees self.old) (trees self.new)) };
 
@@ -82,6 +96,7 @@ pub trait Derivatives {
     ) -> Result<PatternNumber, OutOfMemory>
         requires { IsInside (trees self.old) body }
         ensures reading { OnOk result (reading self.new ≡ reading self.old) }
+        ensures grammar { OnOk result (grammar self.new ≡ grammar self.old) }
         ensures after { IfOk result
             (Adds (IsAfterTag (reading self.old) (map attribute_of attrs.now) (tree_of (trees self.old) body)) (trees self.old) (trees self.new)) };
 
@@ -94,6 +109,7 @@ pub trait Derivatives {
     ) -> Result<Ways, OutOfMemory>
         requires { IsInside (trees self.old) pattern }
         ensures reading { OnOk result (reading self.new ≡ reading self.old) }
+        ensures grammar { OnOk result (grammar self.new ≡ grammar self.old) }
         ensures starts { IfOk result (λ ways. AddsStarts (reading self.old) (name_of name.now) (trees self.old) (trees self.new)
             (tree_of (trees self.old) pattern) ways.items) };
 
@@ -111,5 +127,6 @@ pub trait Derivatives {
     ) -> Result<Vec<PatternNumber>, OutOfMemory>
         requires { All (IsInside (trees self.old)) held.now }
         ensures reading { OnOk result (reading self.new ≡ reading self.old) }
+        ensures grammar { OnOk result (grammar self.new ≡ grammar self.old) }
         ensures kept { IfOk result (λ numbers. AreRenewed (trees self.old) (trees self.new) held.now numbers.items) };
 }

@@ -95,6 +95,7 @@ fn joined<D: Derivatives>(
     requires first { IsInside (D.trees derivatives.old) first }
     requires second { IsInside (D.trees derivatives.old) second }
     ensures reading { OnOk result (D.reading derivatives.new ≡ D.reading derivatives.old) }
+    ensures grammar { OnOk result (D.grammar derivatives.new ≡ D.grammar derivatives.old) }
     ensures choice { IfOk result (Adds (IsChoiceOf (D.reading derivatives.old) (D.trees derivatives.old) (first ∷ second ∷ []))
         (D.trees derivatives.old) (D.trees derivatives.new)) }
 {
@@ -115,6 +116,7 @@ fn leave<D: Derivatives>(
     requires outside { All (IsInside (D.trees derivatives.old)) outside.old.items }
     requires link { IsRestWithin (D.trees derivatives.old) (length outside.old.items) link }
     ensures reading { OnOk result (D.reading derivatives.new ≡ D.reading derivatives.old) }
+    ensures grammar { OnOk result (D.grammar derivatives.new ≡ D.grammar derivatives.old) }
     ensures leaves { OnOk result (LeavesBy (D.reading derivatives.old) good.now (D.trees derivatives.old) (D.trees derivatives.new) link
         outside.old.items outside.new.items) }
 {
@@ -152,6 +154,7 @@ pub fn ended<D: Derivatives>(
 ) -> Result<Numbers, OutOfMemory>
     requires { All (IsRestWithin (D.trees derivatives.old) around) links.now }
     ensures reading { OnOk result (D.reading derivatives.new ≡ D.reading derivatives.old) }
+    ensures grammar { OnOk result (D.grammar derivatives.new ≡ D.grammar derivatives.old) }
     ensures ended { IfOk result (λ outside. AddsEnded (D.reading derivatives.old) good.now around (D.trees derivatives.old)
         (D.trees derivatives.new) links.now outside.items) }
 {

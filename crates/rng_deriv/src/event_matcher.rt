@@ -1,13 +1,11 @@
 // A matcher by any derivatives.
-ghost use Rattle.std.specs.Prelude.{◌≡◌, ◌↔◌, ℕ, List, [], ◌∷◌, ◌++◌, IfOk, IsErr, OnErr, OnOk, map};
+ghost use Rattle.std.specs.Prelude.{◌≡◌, ℕ, List, [], ◌∷◌, ◌++◌, IfOk, IsErr, OnErr, OnOk, map};
 ghost use Rattle.rng_model.specs.documents.EventView.{event_of};
-ghost use Rattle.rng_model.specs.matching.Document.{Item};
 ghost use Rattle.rng_model.specs.documents.PyxTrees as trees;
 ghost use Rattle.rng_model.specs.documents.PyxTrees.{IsPyxDocument, Placed, events_of};
-ghost use Rattle.rng_deriv_laws.specs.plain.Taking.{Takes};
-ghost use Rattle.rng_deriv.specs.views.Numbers.{IsInside, tree_of};
 ghost use Rattle.rng_model.specs.matching.Outcomes.{IsOutcome};
-ghost use Rattle.rng_deriv.specs.views.Positions.{IsKnown, IsLost};
+ghost use Rattle.rng_deriv.specs.views.Positions.{IsFailed, IsKnown, IsLost, IsProgressInside};
+ghost use Rattle.rng_model.specs.declared.outcome.Outcome.{Outcome};
 
 use crate::derivatives::Derivatives;
 use crate::ends::some_end;
@@ -15,7 +13,6 @@ use crate::position::Position;
 use crate::progress::{Progress, take_event};
 use crate::state::State;
 use rng_model::{Event, OutOfMemory, Outcome};
-use rng_pattern_table::PatternNumber;
 use smallvec::SmallVec;
 use std::alloc::Global;
 use std::marker::Model;
@@ -42,15 +39,13 @@ impl<D: Derivatives + Drop> Model for EventMatcher<D> {
 }
 
 impl<D: Derivatives + Drop> EventMatcher<D> {
-    /// A matcher of documents whose root is to match the pattern of this number. The error is want of memory.
-    pub fn new(alloc: Global, derivatives: D, start: PatternNumber) -> Result<Self, OutOfMemory>
-        requires inside { IsInside (D.trees derivatives) start }
-        requires start { (ns : List Item) → Takes (D.reading derivatives) (tree_of (D.trees derivatives) start) [] ns
-            ↔ Takes (D.reading derivatives) (D.reading derivatives).grammar.start [] ns }
-        ensures reading { IfOk result (λ m. D.reading m.0 ≡ D.reading derivatives) }
+    /// A matcher to which nothing was told yet. The error is want of memory, now or in an earlier call of the derivatives.
+    pub fn new(alloc: Global, derivatives: D) -> Result<Self, OutOfMemory>
+        ensures derivatives { IfOk result (λ m. m.0 ≡ derivatives) }
         ensures stands { IfOk result (λ m. IsKnown (D.reading m.0) (D.trees m.0) m.1 []) }
         ensures kept { IfOk result (λ m. ¬ (IsLost m.1)) }
     {
+        let start = derivatives.start()?;
         let now = SmallVec::from_slice(alloc, &[start])?;
         let state = State {
             now,
@@ -68,41 +63,67 @@ impl<D: Derivatives + Drop> EventMatcher<D> {
         })
     }
 
-    /// What is to be said of the document whose events were told. The error is want of memory.
-    pub fn finish(self) -> Result<Outcome, OutOfMemory>
-        ensures outcome { IfOk result (λ o. (bytes : List ℕ) (d : Placed) → IsPyxDocument bytes d → IsKnown (D.reading self.0) (D.trees self.0) self.1 (events_of d)
-            → IsOutcome (D.reading self.0) d o) }
-        ensures lost { OnErr result (IsLost self.1) }
-        ensures again { IsLost self.1 → IsErr result }
+    /// A matcher to which nothing was told yet, by the same derivatives. The error is want of memory, now or in an earlier call.
+    pub fn begin_anew(self) -> Result<Self, OutOfMemory>
+        ensures derivatives { IfOk result (λ m. m.0 ≡ self.0) }
+        ensures stands { IfOk result (λ m. IsKnown (D.reading m.0) (D.trees m.0) m.1 []) }
+        ensures kept { IfOk result (λ m. ¬ (IsLost m.1)) }
     {
-        let EventMatcher {
+        EventMatcher::new(self.alloc, self.derivatives)
+    }
+
+    /// A matcher that has this for what it knows.
+    pub fn of_parts(alloc: Global, derivatives: D, progress: Progress) -> Self
+        requires { IsProgressInside (D.trees derivatives) progress }
+        ensures { result ≡ (derivatives, progress) }
+    {
+        EventMatcher {
+            alloc,
             derivatives,
             progress,
-            ..
-        } = self;
-        match progress {
+        }
+    }
+
+    /// The derivatives, and what is known of the document.
+    pub fn into_parts(self) -> (D, Progress)
+        ensures parts { result ≡ self }
+        ensures inside { IsProgressInside (D.trees result.0) result.1 }
+    {
+        (self.derivatives, self.progress)
+    }
+
+    /// What is to be said of the document whose events were told. The error is want of memory.
+    pub fn outcome(&self) -> Result<Outcome, OutOfMemory>
+        ensures outcome { IfOk result (λ o. (bytes : List ℕ) (d : Placed) → IsPyxDocument bytes d
+            → IsKnown (D.reading self.now.0) (D.trees self.now.0) self.now.1 (events_of d) → IsOutcome (D.reading self.now.0) d o) }
+        ensures failed { (line : ℕ) → IsFailed line self.now.1 → IfOk result (λ o. o ≡ Outcome.Invalid line) }
+        ensures lost { OnErr result (IsLost self.now.1) }
+        ensures again { IsLost self.now.1 → IsErr result }
+    {
+        match &self.progress {
             Progress::Going { position, line } => {
-                if some_end(&derivatives, position.state.now.as_slice()) {
+                if some_end(&self.derivatives, position.state.now.as_slice()) {
                     return Ok(Outcome::Valid);
                 }
-                Ok(Outcome::Invalid(line))
+                Ok(Outcome::Invalid(*line))
             }
-            Progress::Failed(line) => Ok(Outcome::Invalid(line)),
+            Progress::Failed(line) => Ok(Outcome::Invalid(*line)),
             Progress::Lost => Err(OutOfMemory),
         }
     }
 
     /// Takes the next event. The error is want of memory, and so it is after one.
     pub fn take(&mut self, event: Event<'_>) -> Result<(), OutOfMemory>
+        ensures grammar { OnOk result (D.grammar self.new.0 ≡ D.grammar self.old.0) }
         ensures reading { OnOk result (D.reading self.new.0 ≡ D.reading self.old.0) }
         ensures known { OnOk result ((events : List trees.Event) → IsKnown (D.reading self.old.0) (D.trees self.old.0) self.old.1 events
             → IsKnown (D.reading self.new.0) (D.trees self.new.0) self.new.1 (events ++ event_of event.entry ∷ [])) }
+        ensures failed { (line : ℕ) → IsFailed line self.old.1 → OnOk result (IsFailed line self.new.1) }
         ensures kept { OnOk result (¬ (IsLost self.new.1)) }
         ensures lost { OnErr result (IsLost self.new.1) }
         ensures again { IsLost self.old.1 → IsErr result }
     {
-        let taken = take_event(&mut self.derivatives, self.alloc, &mut self.progress, event);
-        if taken.is_ok() {
+        if let Ok(()) = take_event(&mut self.derivatives, self.alloc, &mut self.progress, event) {
             return Ok(());
         }
         self.progress = Progress::Lost;

@@ -36,6 +36,7 @@ pub fn hold<D: Derivatives>(
 ) -> Result<Held, OutOfMemory>
     requires { All (IsInside (D.trees derivatives.old)) now.now }
     ensures reading { OnOk result (D.reading derivatives.new ≡ D.reading derivatives.old) }
+    ensures grammar { OnOk result (D.grammar derivatives.new ≡ D.grammar derivatives.old) }
     ensures held { IfOk result (λ h. AddsHeld (λ s. s ≡ text.now) (D.reading derivatives.old) (D.trees derivatives.old)
         (D.trees derivatives.new) now.now h) }
 {
@@ -56,6 +57,7 @@ pub fn held_or_empty<D: Derivatives>(
     requires now { All (IsInside (D.trees derivatives.old)) now.now }
     requires string { IsHeldInside (D.trees derivatives.old) (length now.now) string }
     ensures reading { OnOk result (D.reading derivatives.new ≡ D.reading derivatives.old) }
+    ensures grammar { OnOk result (D.grammar derivatives.new ≡ D.grammar derivatives.old) }
     ensures held { IfOk result (λ h. AddsHeld (IsHeld (D.reading derivatives.old) (D.trees derivatives.old) now.now string)
         (D.reading derivatives.old) (D.trees derivatives.old) (D.trees derivatives.new) now.now h) }
 {

@@ -69,6 +69,7 @@ fn renew_state<D: Derivatives>(
 ) -> Result<(), OutOfMemory>
     requires { IsStateInside (D.trees derivatives.old) state.old }
     ensures reading { OnOk result (D.reading derivatives.new ≡ D.reading derivatives.old) }
+    ensures grammar { OnOk result (D.grammar derivatives.new ≡ D.grammar derivatives.old) }
     ensures renewed { OnOk result (IsStateRenewed (D.trees derivatives.old) (D.trees derivatives.new) state.old state.new) }
 {
     let mut held = Vec::new(alloc);
@@ -91,6 +92,7 @@ pub fn renew<D: Derivatives>(
 ) -> Result<(), OutOfMemory>
     requires { IsPositionInside (D.trees derivatives.old) position.old }
     ensures reading { OnOk result (D.reading derivatives.new ≡ D.reading derivatives.old) }
+    ensures grammar { OnOk result (D.grammar derivatives.new ≡ D.grammar derivatives.old) }
     ensures renewed { OnOk result (IsPositionRenewed (D.trees derivatives.old) (D.trees derivatives.new) position.old position.new) }
 {
     if position.held.is_some() || !derivatives.is_crowded() {

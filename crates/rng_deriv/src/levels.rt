@@ -20,6 +20,7 @@ pub fn entered<D: Derivatives>(
 ) -> Result<Numbers, OutOfMemory>
     requires { All (IsInside (D.trees derivatives.old)) bodies.now }
     ensures reading { OnOk result (D.reading derivatives.new ≡ D.reading derivatives.old) }
+    ensures grammar { OnOk result (D.grammar derivatives.new ≡ D.grammar derivatives.old) }
     ensures entered { IfOk result (λ all. AddsEach (IsAfterTag (D.reading derivatives.old) (map attribute_of attrs.now))
         (D.trees derivatives.old) (D.trees derivatives.new) bodies.now all.items) }
 {
@@ -39,6 +40,7 @@ pub fn after_string<D: Derivatives>(
 ) -> Result<Numbers, OutOfMemory>
     requires { All (IsInside (D.trees derivatives.old)) patterns.now }
     ensures reading { OnOk result (D.reading derivatives.new ≡ D.reading derivatives.old) }
+    ensures grammar { OnOk result (D.grammar derivatives.new ≡ D.grammar derivatives.old) }
     ensures after { IfOk result (λ all. AddsEach (IsAfterText (D.reading derivatives.old) text.now)
         (D.trees derivatives.old) (D.trees derivatives.new) patterns.now all.items) }
 {

@@ -82,6 +82,7 @@ pub fn started<D: Derivatives>(
 ) -> Result<Opened, OutOfMemory>
     requires { All (IsInside (D.trees derivatives.old)) now.now }
     ensures reading { OnOk result (D.reading derivatives.new ≡ D.reading derivatives.old) }
+    ensures grammar { OnOk result (D.grammar derivatives.new ≡ D.grammar derivatives.old) }
     ensures opened { IfOk result (λ o. AddsOpened (D.reading derivatives.old) (name_of name.now) (D.trees derivatives.old) (D.trees derivatives.new)
         now.now o.bodies.items o.links.items) }
 {

@@ -53,6 +53,7 @@ pub fn after_start<D: Derivatives>(
 ) -> Result<(), OutOfMemory>
     requires { IsPositionInside (D.trees derivatives.old) position.old }
     ensures reading { OnOk result (D.reading derivatives.new ≡ D.reading derivatives.old) }
+    ensures grammar { OnOk result (D.grammar derivatives.new ≡ D.grammar derivatives.old) }
     ensures step { OnOk result (AddsStep (D.reading derivatives.old) (trees.a_start (name_of name.now) (map attribute_of attrs.now))
         (D.trees derivatives.old) (D.trees derivatives.new) position.old position.new) }
 {
@@ -71,6 +72,7 @@ pub fn after_text<D: Derivatives>(
 ) -> Result<(), OutOfMemory>
     requires { IsPositionInside (D.trees derivatives.old) position.old }
     ensures reading { OnOk result (D.reading derivatives.new ≡ D.reading derivatives.old) }
+    ensures grammar { OnOk result (D.grammar derivatives.new ≡ D.grammar derivatives.old) }
     ensures step { OnOk result (AddsStep (D.reading derivatives.old) (trees.a_string text.now)
         (D.trees derivatives.old) (D.trees derivatives.new) position.old position.new) }
 {
@@ -87,6 +89,7 @@ pub fn after_end<D: Derivatives>(
 ) -> Result<(), OutOfMemory>
     requires { IsPositionInside (D.trees derivatives.old) position.old }
     ensures reading { OnOk result (D.reading derivatives.new ≡ D.reading derivatives.old) }
+    ensures grammar { OnOk result (D.grammar derivatives.new ≡ D.grammar derivatives.old) }
     ensures step { OnOk result (AddsStep (D.reading derivatives.old) trees.an_end
         (D.trees derivatives.old) (D.trees derivatives.new) position.old position.new) }
 {

@@ -5,7 +5,7 @@ ghost use Rattle.rng_model.specs.documents.EventView.{event_of, kind_of};
 ghost use Rattle.rng_model.specs.documents.PyxTrees as trees;
 ghost use Rattle.rng_deriv_laws.specs.plain.Derivatives.{is_not_allowed};
 ghost use Rattle.rng_deriv.specs.views.Numbers.{IsInside, tree_of};
-ghost use Rattle.rng_deriv.specs.views.Positions.{AddsProgress, AddsStep, HasCome, IsKnown, IsLost, IsPositionInside, IsProgressInside, progress_at};
+ghost use Rattle.rng_deriv.specs.views.Positions.{AddsProgress, AddsStep, HasCome, IsFailed, IsKnown, IsLost, IsPositionInside, IsProgressInside, progress_at};
 
 use crate::derivatives::Derivatives;
 use crate::level_renewal::renew;
@@ -47,6 +47,7 @@ fn step<D: Derivatives>(
 ) -> Result<(), OutOfMemory>
     requires { IsPositionInside (D.trees derivatives.old) position.old }
     ensures reading { OnOk result (D.reading derivatives.new ≡ D.reading derivatives.old) }
+    ensures grammar { OnOk result (D.grammar derivatives.new ≡ D.grammar derivatives.old) }
     ensures step { OnOk result (AddsStep (D.reading derivatives.old) (kind_of kind.entry)
         (D.trees derivatives.old) (D.trees derivatives.new) position.old position.new) }
 {
@@ -66,6 +67,7 @@ fn go_on<D: Derivatives>(
 ) -> Result<bool, OutOfMemory>
     requires { IsPositionInside (D.trees derivatives.old) position.old }
     ensures reading { OnOk result (D.reading derivatives.new ≡ D.reading derivatives.old) }
+    ensures grammar { OnOk result (D.grammar derivatives.new ≡ D.grammar derivatives.old) }
     ensures progress { IfOk result (λ well. AddsProgress (D.reading derivatives.old) (event_of event.entry)
         (λ events. (line : ℕ) × HasCome (D.reading derivatives.old) (D.trees derivatives.old) position.old line events) (D.trees derivatives.new)
         (progress_at well position.new event.entry.line)) }
@@ -87,8 +89,10 @@ pub fn take_event<D: Derivatives>(
 ) -> Result<(), OutOfMemory>
     requires { IsProgressInside (D.trees derivatives.old) progress.old }
     ensures reading { OnOk result (D.reading derivatives.new ≡ D.reading derivatives.old) }
+    ensures grammar { OnOk result (D.grammar derivatives.new ≡ D.grammar derivatives.old) }
     ensures progress { OnOk result (AddsProgress (D.reading derivatives.old) (event_of event.entry)
         (IsKnown (D.reading derivatives.old) (D.trees derivatives.old) progress.old) (D.trees derivatives.new) progress.new) }
+    ensures failed { (line : ℕ) → IsFailed line progress.old → OnOk result (IsFailed line progress.new) }
     ensures kept { OnOk result (¬ (IsLost progress.new)) }
     ensures again { IsLost progress.old → IsErr result }
 {

@@ -39,6 +39,7 @@ pub fn enter<D: Derivatives>(
 ) -> Result<(), OutOfMemory>
     requires { IsStateInside (D.trees derivatives.old) state.old }
     ensures reading { OnOk result (D.reading derivatives.new ≡ D.reading derivatives.old) }
+    ensures grammar { OnOk result (D.grammar derivatives.new ≡ D.grammar derivatives.old) }
     ensures state { OnOk result (AddsState (StartsLevel (D.reading derivatives.old) (name_of name.now) (map attribute_of attrs.now)
         (state_of (D.trees derivatives.old) state.old)) (D.trees derivatives.old) (D.trees derivatives.new) state.new) }
 {
@@ -59,6 +60,7 @@ pub fn close<D: Derivatives>(
 ) -> Result<(), OutOfMemory>
     requires { IsStateInside (D.trees derivatives.old) state.old }
     ensures reading { OnOk result (D.reading derivatives.new ≡ D.reading derivatives.old) }
+    ensures grammar { OnOk result (D.grammar derivatives.new ≡ D.grammar derivatives.old) }
     ensures state { OnOk result (AddsState (EndsBy (D.reading derivatives.old) good.now (state_of (D.trees derivatives.old) state.old))
         (D.trees derivatives.old) (D.trees derivatives.new) state.new) }
 {

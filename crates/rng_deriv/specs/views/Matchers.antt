@@ -1,13 +1,16 @@
 -- A matcher, as its callers see it.
-use Rattle.std.specs.Prelude.{◌≡◌, List}
+use Rattle.std.specs.Prelude.{◌≡◌, ℕ, List, ◌++◌, Option, Some, None}
 use Rattle.rng_model.specs.simple.Table.{Table}
 use Rattle.rng_model.specs.documents.PyxTrees.{Event}
 use Rattle.rng_model.specs.matching.Reading.{Reading}
 use Rattle.rng_model.specs.matching.GrammarReading.{reading_of}
 use Rattle.rng_pattern_table.specs.views.Node.{Node}
 use Rattle.rng_pattern_table.specs.views.Trees.{trees}
-use Rattle.rng_deriv.specs.views.Positions.{IsKnown, IsLost}
+use Rattle.rng_deriv.specs.views.Positions.{IsFailed, IsKnown, IsLost, IsProgressInside}
+use Rattle.rng_deriv.specs.views.Serving.{Serves, nodes_of}
+use Rattle.rng_deriv.specs.declared.matcher_state.MatcherState.{MatcherState}
 use Rattle.rng_deriv.specs.declared.progress.Progress.{Progress}
+use Rattle.rng_deriv.specs.declared.progress.Progress.TheVariants as progress
 
 -- a grammar, the patterns that were made of it, and what is known of a document by them
 pub record Matching : Type 0 where
@@ -26,10 +29,32 @@ judges_by m = reading_of m.grammar
 abbrev pub Knows : Matching → List Event → Type 0
 Knows m es = IsKnown (judges_by m) (trees m.grammar m.patterns) m.progress es
 
--- the first came to the second by these events, and both judge by one grammar
-abbrev pub HasGoneOn : Matching → Matching → List Event → Type 0
-HasGoneOn first m es = (judges_by m ≡ judges_by first) × Knows m es
+-- nothing valid can begin so, from this line on
+abbrev pub HasFailedAt : Matching → ℕ → Type 0
+HasFailedAt m line = IsFailed line m.progress
+
+-- the first came to the second by these events: they have one grammar, what the first knew stands for the events that it had and these, and
+-- where the first had failed, the second has
+pub record HasGoneOn (first m : Matching) (es : List Event) : Type 0 where
+  pub grammar : m.grammar ≡ first.grammar
+  pub knows : (before : List Event) → Knows first before → Knows m (before ++ es)
+  pub failed : (line : ℕ) → HasFailedAt first line → HasFailedAt m line
 
 -- memory was wanting
 abbrev pub HasRunOut : Matching → Type 0
 HasRunOut m = IsLost m.progress
+
+-- the line from which on nothing valid can begin, where it is known
+abbrev pub failed_line : Progress → Option ℕ
+failed_line (progress.Going p line) = None
+failed_line (progress.Failed line) = Some line
+failed_line progress.Lost = None
+
+-- a state, with the grammar
+abbrev pub matching_in : Table → MatcherState → Matching
+matching_in t s = record { grammar = t; patterns = nodes_of s.learned; progress = s.progress }
+
+-- the state is that of a matcher by this grammar
+pub record IsStateBy (t : Table) (s : MatcherState) : Type 0 where
+  pub serves : Serves t s.learned
+  pub inside : IsProgressInside (trees t (nodes_of s.learned)) s.progress

@@ -57,6 +57,10 @@ IsProgressInside trees (progress.Going p line) = IsPositionInside trees p
 IsProgressInside trees (progress.Failed line) = ⊤
 IsProgressInside trees progress.Lost = ⊤
 
+-- nothing valid can begin so, from this line on
+abbrev pub IsFailed : ℕ → Progress → Type 0
+IsFailed line p = p ≡ progress.Failed line
+
 -- memory was wanting
 abbrev pub IsLost : Progress → Type 0
 IsLost p = p ≡ progress.Lost

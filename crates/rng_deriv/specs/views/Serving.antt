@@ -4,17 +4,20 @@ use Rattle.smallvec.specs.SmallVec.{SmallVec}
 use Rattle.std.specs.HashMap.{HashMap}
 use Rattle.rng_names.specs.plain.Keys.{Keys, KeysServe}
 use Rattle.rng_deriv.specs.declared.derivatives.StartWay.{StartWay}
-use Rattle.rng_model.specs.simple.Table.{Table}
+use Rattle.rng_model.specs.simple.Table.{Table, grammar_of}
+use Rattle.rng_model.specs.restrictions.BreaksNone.{BreaksNone}
 use Rattle.rng_pattern_table.specs.views.Node.{Node}
 use Rattle.rng_pattern_table.specs.declared.pattern.PatternNumber.{PatternNumber}
 use Rattle.rng_pattern_derivatives.specs.views.KnownWays.{AreAllKnown}
 use Rattle.rng_pattern_derivatives.specs.plain.Starting.{IsReady, HasRestrictedBodies}
 use Rattle.rng_pattern_derivatives.specs.declared.known.Known.{Known}
 use Rattle.rng_deriv.specs.views.StartMemo.{AreAnswers}
+use Rattle.rng_deriv.specs.declared.learned.Learned.{Learned}
 use Rattle.rng_deriv.specs.declared.start_memo.StartKey.{StartKey}
 
--- the patterns of the grammar stand in the table by these numbers, and there the bodies of its elements obey the restrictions
+-- the grammar obeys the restrictions, its patterns stand in the table by these numbers, and there the bodies of its elements obey them, too
 pub record IsServed (t : Table) (ns : List Node) (numbers : List PatternNumber) : Type 0 where
+  pub keeps : BreaksNone (grammar_of t)
   pub ready : IsReady t ns numbers
   pub bodies : HasRestrictedBodies t ns numbers
 
@@ -27,3 +30,11 @@ IsServedBy t keys false ns numbers memo known = IsServed t ns numbers × KeysSer
 abbrev pub nodes_unless : Bool → List Node → List Node
 nodes_unless true ns = []
 nodes_unless false ns = ns
+
+-- those of what was worked out
+abbrev pub nodes_of : Learned → List Node
+nodes_of l = nodes_unless l.lost l.table
+
+-- it was worked out for this grammar
+abbrev pub Serves : Table → Learned → Type 0
+Serves t l = IsServedBy t l.keys l.lost l.table l.numbers.items l.memo l.known

@@ -11,6 +11,7 @@ alternatives-preserved g c =
     let before = c.alternatives.invariant in
     record {
       same = c.in_ok-ways.ensures.reading ∙ before.same;
+      grammar = c.in_ok-ways.ensures.grammar ∙ before.grammar;
       first = opens_at (reading c.alternatives.derivatives) (reading c.args.derivatives.now) (name_of c.args.name.now) (trees c.args.derivatives.now)
           (trees c.alternatives.derivatives) (trees c.starts.new.self) c.args.now.now c.alternatives.outer _ c.in_ok-ways.ways.items
           c.alternatives.bodies.items c.add_links.new.bodies.items c.alternatives.links.items c.add_links.new.links.items before.same before.first

@@ -8,6 +8,7 @@ invariant-alternatives g l =
     let trees = g.D.Derivatives.trees in
     let reading = g.D.Derivatives.reading in record {
       same : reading l.derivatives ≡ reading l.fn.derivatives;
+      grammar : g.D.Derivatives.grammar l.derivatives ≡ g.D.Derivatives.grammar l.fn.derivatives;
       first : AddsOpened (reading l.fn.derivatives) (name_of l.name) (trees l.fn.derivatives) (trees l.derivatives)
           (take l.outer l.now) l.bodies.items l.links.items;
     }

@@ -7,20 +7,20 @@ use Rattle.rng_deriv.proofs.grammar_derivatives.GrammarDerivativesDerivatives.ch
 pub choice-requires : goal.choice-requires
 choice-requires c =
     let d = c.self.inside in
-    all_below_there d.grammar.now d.lost d.table c.args.self.now c.if-self.false c.self.view_is c.args.members.now c.requires
+    all_below_there d.grammar.now d.learned.lost d.learned.table c.args.self.now c.if-self.false c.self.view_is c.args.members.now c.requires
 
 pub invariant_of-self-2 : goal.invariant_of-self-2
 invariant_of-self-2 c =
     let d = c.self.inside in
-    serves_longer d.grammar.now d.table c.choice.new.self d.keys c.choice.ensures.longer d.numbers.items d.memo d.known
-    (there_served d.grammar.now d.keys d.lost d.table d.numbers.items d.memo d.known c.if-self.false c.self.invariant) d.known
-    (all_longer d.grammar.now d.keys d.table c.choice.new.self c.choice.ensures.longer d.known
-    (there_served d.grammar.now d.keys d.lost d.table d.numbers.items d.memo d.known c.if-self.false c.self.invariant).3)
+    serves_longer d.grammar.now d.learned.table c.choice.new.self d.learned.keys c.choice.ensures.longer d.learned.numbers.items d.learned.memo d.learned.known
+    (there_served d.grammar.now d.learned.keys d.learned.lost d.learned.table d.learned.numbers.items d.learned.memo d.learned.known c.if-self.false c.self.invariant) d.learned.known
+    (all_longer d.grammar.now d.learned.keys d.learned.table c.choice.new.self c.choice.ensures.longer d.learned.known
+    (there_served d.grammar.now d.learned.keys d.learned.lost d.learned.table d.learned.numbers.items d.learned.memo d.learned.known c.if-self.false c.self.invariant).3)
 
 pub returns-clause-choice : goal.returns-clause-choice
 returns-clause-choice c =
     let t = c.self.inside.grammar.now in
-    let old = c.self.inside.table in
+    let old = c.self.inside.learned.table in
     let now = c.in_ok-number.ensures in
-    choice_added t old c.choice.new.self c.args.self.now (seen_there t c.self.inside.lost old c.args.self.now c.if-self.false c.self.view_is)
+    choice_added t old c.choice.new.self c.args.self.now (seen_there t c.self.inside.learned.lost old c.args.self.now c.if-self.false c.self.view_is)
     c.choice.ensures.longer c.args.members.now c.in_ok-number.number now.inside (now.matches t (reading_of t)) (now.restricted t) c.requires

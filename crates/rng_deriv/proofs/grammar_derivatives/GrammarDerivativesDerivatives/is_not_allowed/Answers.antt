@@ -3,8 +3,8 @@ use Rattle.rng_deriv.proofs.grammar_derivatives.GrammarDerivativesDerivatives.is
 
 pub is_not_allowed-requires : goal.is_not_allowed-requires
 is_not_allowed-requires c =
-    below_there c.self.inside.grammar.now c.self.inside.lost c.self.inside.table c.args.self.now c.if-self.false c.self.view_is c.args.pattern c.requires
+    below_there c.self.inside.grammar.now c.self.inside.learned.lost c.self.inside.learned.table c.args.self.now c.if-self.false c.self.view_is c.args.pattern c.requires
 
 pub returns-then-self : goal.returns-then-self
 returns-then-self c =
-    absurd (none_there c.self.inside.grammar.now c.self.inside.lost c.self.inside.table c.args.self.now c.args.pattern c.if-self.true c.self.view_is c.requires)
+    absurd (none_there c.self.inside.grammar.now c.self.inside.learned.lost c.self.inside.learned.table c.args.self.now c.args.pattern c.if-self.true c.self.view_is c.requires)

@@ -1,0 +1,264 @@
+-- What is known of the bytes that were fed of a document, and of the verdict on it.
+use Rattle.std.proofs.Common.{◌≡◌, ◌⊎◌, inl, inr, ℕ, List, [], ◌∷◌, ◌++◌, Option, Some, None, Result, Ok, Err, IfOk, IfSome, refl, ap, sym, subst, ◌∙◌, append_assoc}
+use Rattle.std.proofs.lemmas.List.{append-nil}
+use Rattle.rng_model.specs.documents.Lines.{lines}
+use Rattle.rng_model.specs.datatypes.DatatypeTests.{text_tests}
+use Rattle.rng_model.specs.datatypes.Texts.{texts_of}
+use Rattle.rng_model.specs.declared.fault.OutOfMemory.{OutOfMemory}
+use Rattle.rng_model.specs.declared.outcome.Outcome.{Outcome}
+use Rattle.rng_model.specs.declared.outcome.Outcome.TheVariants as outcome
+use Rattle.rng_model.specs.declared.pyx_fault.PyxFault.{PyxFault}
+use Rattle.rng_model.specs.declared.pyx_fault.PyxFault.TheVariants as pyx
+use Rattle.rng_model.specs.documents.Documents.{IsTheDocument}
+use Rattle.rng_model.specs.documents.Handing.{Hands}
+use Rattle.rng_model.specs.documents.PyxClauses.{IsFirstFault}
+use Rattle.rng_model.specs.documents.PyxFaults.{Fault}
+use Rattle.rng_model.specs.documents.PyxTrees.{Event, Placed, IsPyxDocument, events_of, item_of}
+use Rattle.rng_model.specs.matching.GrammarReading.{reading_of}
+use Rattle.rng_model.specs.matching.Outcomes.{FailsAt, IsOutcome}
+use Rattle.rng_model.specs.matching.SchemaMatching.{IsValidBySchema}
+use Rattle.rng_model.specs.schema.Schema.{Schema}
+use Rattle.rng_model.specs.simple.Table.{IsValidBy, Table, grammar_of}
+use Rattle.rncv_model.specs.answers.Compiled.{IsVerdictOn}
+use Rattle.rncv_model.specs.answers.Run.{IsUnknownIn}
+use Rattle.rncv_model.specs.answers.Verdict.{IsMalformed, IsValidDocument, IsVerdict}
+use Rattle.rncv_model.specs.declared.verdict.Verdict.{Verdict}
+use Rattle.rncv_model.specs.declared.verdict.Verdict.TheVariants.{Malformed, Invalid}
+use Rattle.pyx.specs.plain.DocumentReader.{Turn, document_read, followed, go_on}
+use Rattle.pyx.specs.plain.Pieces.{finished, nothing_fed, read}
+use Rattle.pyx.specs.views.Calls as calls
+use Rattle.pyx.specs.views.ReaderAfterPiece.{Kept, Stands}
+use Rattle.pyx.proofs.DocumentComplete.{complete}
+use Rattle.pyx.proofs.LineTurns.{read_append}
+use Rattle.pyx.proofs.ReaderAfterPiece.{fed_stuck}
+use Rattle.pyx.proofs.ReaderOutcome.{is_fault_after}
+use Rattle.pyx.proofs.WholeBytes.{in_pieces}
+use Rattle.rng_deriv.specs.declared.matcher_state.MatcherState.{MatcherState}
+use Rattle.rng_deriv.specs.declared.progress.Progress.{Progress}
+use Rattle.rng_deriv.specs.declared.progress.Progress.TheVariants as progress
+use Rattle.rng_deriv.specs.views.Positions.{IsKnown}
+use Rattle.rng_pattern_table.specs.views.Trees.{trees}
+use Rattle.rng_deriv.specs.views.Matchers.{HasFailedAt, HasGoneOn, IsStateBy, Knows, Matching, failed_line, judges_by, matching_in}
+use Rattle.rncv_validator.specs.plain.Judging.{IsUnknownTo, verdict_of}
+use Rattle.rncv_validator.specs.declared.fault.DocumentFault.{DocumentFault}
+use Rattle.rncv_validator.specs.declared.fault.DocumentFault.TheVariants as faults
+use Rattle.rncv_validator.specs.views.Documents.{HasBeenFed, IsFaultOfFed, IsFaultOfReader, IsKeptFault, Judging, UnlessMemory, failed_since, matching_of, told_by, verdict_by}
+use Rattle.rncv_validator.specs.views.Validators.{Judges}
+use Rattle.rncv_validator.proofs.DocumentVerdict.{one_verdict, outcome_verdict, same_verdict}
+use Rattle.rncv_validator.proofs.UnknownNames.{unknown_to_grammar}
+
+-- ---- the events of a beginning
+
+-- what comes next adds to the events
+followed_begins : {A B : Type 0} (t : Turn A) (f : A → Turn B) → (more : List Event) × ((followed t f).1 ≡ t.1 ++ more)
+followed_begins {A = A} {B = B} t f = by_result t.0 t.1 where
+  by_result : (r : Result A Fault) (es : List Event) → (more : List Event) × ((go_on r es f).1 ≡ es ++ more)
+  by_result (Ok s) es = ((f s).1, refl)
+  by_result (Err e) es = ([], sym (append-nil es))
+
+-- the events of a document that begins with what was read begin with those that were handed out
+pub events_begin : (k : Kept) (bytes rest : List ℕ) (es : List Event) (d : Placed) → Stands k bytes es → IsPyxDocument (bytes ++ rest) d
+    → (more : List Event) × (events_of d ≡ es ++ more)
+events_begin k bytes rest es d stands is =
+    let first = read bytes nothing_fed in
+    let both = followed first (read rest) in
+    let whole : document_read (lines (bytes ++ rest)) ≡ followed both finished = in_pieces (bytes ++ rest)
+    ∙ ap (λ t. followed t finished) (read_append bytes rest nothing_fed) in
+    let b = followed_begins first (read rest) in
+    let c = followed_begins both finished in
+    let told : events_of d ≡ (followed both finished).1 = sym (ap (λ t. t.1) (complete (bytes ++ rest) d is).is) ∙ ap (λ t. t.1) whole in
+    (b.0 ++ c.0, told ∙ c.1 ∙ ap (λ xs. xs ++ c.0) b.1 ∙ append_assoc first.1 b.0 c.0 ∙ ap (λ xs. xs ++ (b.0 ++ c.0)) stands.events)
+
+-- ---- the verdict
+
+module _ (s : Schema) (bytes : List ℕ) where
+  -- it is the only one
+  on_schema : (v : Verdict) → IsVerdict (IsValidBySchema s) (IsUnknownIn s) bytes v → IsVerdictOn s bytes v
+  on_schema v is = record { is = is; only = λ w. one_verdict (IsValidBySchema s) (IsUnknownIn s) bytes v w is }
+
+  -- one by the grammar is one by the schema
+  by_grammar : (g : Table) → Judges g s → (v : Verdict) → IsVerdict (IsValidBy (grammar_of g) (texts_of text_tests)) (IsUnknownTo (grammar_of g)) bytes v
+      → IsVerdictOn s bytes v
+  by_grammar g judges v is = on_schema v (same_verdict _ _ _ _ judges.documents (unknown_to_grammar s (grammar_of g) judges.only) bytes v is)
+
+-- what a matcher says of each document whose events were told
+abbrev pub Says : Matching → Outcome → Type 0
+Says m o = (bytes : List ℕ) (t : Placed) → IsPyxDocument bytes t → Knows m (events_of t) → IsOutcome (judges_by m) t o
+
+-- what was handed the events has gone on by them
+pub gone : (a b : Matching) (es : List Event) → Hands HasGoneOn a b es → HasGoneOn a b es
+gone a b es h = h a [] (record { grammar = refl; knows = λ before k. subst (Knows a) (sym (append-nil before)) k; failed = λ line f. f })
+
+module _ (d : Judging) (old new : Matching) (there : old ≡ d.matching) (s : Schema) (judges : Judges d.grammar s) (bytes : List ℕ)
+    (fed : HasBeenFed d bytes) where
+  taken : (es : List Event) (o : Outcome) → Hands HasGoneOn old new es → IsTheDocument bytes (fed.events ++ es) → Says new o → IsVerdictOn s bytes (verdict_of o)
+  taken es o handed document says =
+      let t = document.tree in
+      let on = gone old new es handed in
+      let known = on.knows fed.events (subst (λ (m : Matching). Knows m fed.events) (sym there) fed.knows) in
+      let outcome = says bytes t document.document (subst (Knows new) (sym document.events_are) known) in
+      let same : new.grammar ≡ d.grammar = on.grammar ∙ ap (λ (m : Matching). m.grammar) there ∙ fed.by_grammar in
+      by_grammar s bytes d.grammar judges (verdict_of o)
+      (outcome_verdict (reading_of d.grammar) bytes t document.document o (subst (λ (g : Table). IsOutcome (reading_of g) t o) same outcome))
+
+-- the verdict on a document that has ended
+pub ended_verdict : {A : Type 0} (d : Judging) (old new : Matching) → old ≡ d.matching → (ended : Result A PyxFault)
+    (outcome : Result Outcome OutOfMemory) → calls.UnlessMemory ended (calls.Ends (Hands HasGoneOn old new) d.reader ended) → IfOk outcome (Says new)
+    → IfOk (verdict_by ended outcome) (λ v. (s : Schema) (bytes : List ℕ) → Judges d.grammar s → HasBeenFed d bytes → IsVerdictOn s bytes v)
+ended_verdict d old new there (Ok x) (Ok outcome.Valid) ends says = λ s bytes judges fed.
+    taken d old new there s judges bytes fed ends.0 outcome.Valid ends.1 (ends.2 bytes fed.events fed.reads) says
+ended_verdict d old new there (Ok x) (Ok (outcome.Invalid line)) ends says = λ s bytes judges fed.
+    taken d old new there s judges bytes fed ends.0 (outcome.Invalid line) ends.1 (ends.2 bytes fed.events fed.reads) says
+ended_verdict d old new there (Ok x) (Err e) ends says = tt
+ended_verdict d old new there (Err pyx.Memory) o ends says = tt
+ended_verdict d old new there (Err (pyx.At clause line)) o ends says = λ s bytes judges fed.
+    on_schema s bytes (Malformed clause line) (ends.2 bytes fed.events fed.reads).first
+
+-- where there is a verdict, the matcher has gone on
+pub ended_grammar : {A : Type 0} (k : Kept) (old new : Matching) (ended : Result A PyxFault) (outcome : Result Outcome OutOfMemory) (v : Verdict)
+    → calls.UnlessMemory ended (calls.Ends (Hands HasGoneOn old new) k ended) → verdict_by ended outcome ≡ Ok v → new.grammar ≡ old.grammar
+ended_grammar k old new (Ok x) o v ends e = (gone old new ends.0 ends.1).grammar
+ended_grammar k old new (Err pyx.Memory) o v ends e = absurd (cc)
+ended_grammar k old new (Err (pyx.At clause line)) o v ends e = (gone old new ends.0 ends.1).grammar
+
+-- ---- one piece more
+
+-- what holds of what is there, if it is
+pub of_some : {A : Type 0} {P : A → Type 0} (o : Option A) → ((x : A) → o ≡ Some x → P x) → IfSome o P
+of_some None h = tt
+of_some (Some x) h = h x refl
+
+failed_at : (p : Progress) (line : ℕ) → failed_line p ≡ Some line → p ≡ progress.Failed line
+failed_at (progress.Going p at) line f = absurd (cc)
+failed_at (progress.Failed at) line f = cc
+failed_at progress.Lost line f = absurd (cc)
+
+module _ (d e : Judging) (old new : Matching) (there : old ≡ d.matching) (now : new ≡ e.matching) (same : e.matching.grammar ≡ e.grammar)
+    (piece : List ℕ) (longer : calls.Extends (Hands HasGoneOn old new) d.reader e.reader piece) where
+  pub piece_fed : (bytes : List ℕ) → HasBeenFed d bytes → HasBeenFed e (bytes ++ piece)
+  piece_fed bytes fed =
+      let on = gone old new longer.0 longer.1 in
+      record {
+        by_grammar = same;
+        events = fed.events ++ longer.0;
+        reads = longer.2 bytes fed.events fed.reads;
+        knows = subst (λ (m : Matching). Knows m (fed.events ++ longer.0)) now
+            (on.knows fed.events (subst (λ (m : Matching). Knows m fed.events) (sym there) fed.knows));
+      }
+
+  -- where nothing valid can begin any more, it stays so
+  pub stays_failed : (line : ℕ) → failed_since d ≡ Some line → failed_since e ≡ Some line
+  stays_failed line f =
+      let on = gone old new longer.0 longer.1 in
+      let was : HasFailedAt old line = subst (λ (m : Matching). HasFailedAt m line) (sym there) (failed_at d.matching.progress line f) in
+      ap failed_line (subst (λ (m : Matching). HasFailedAt m line) now (on.failed line was))
+
+  pub since_kept : IfSome (failed_since d) (λ line. failed_since e ≡ Some line)
+  since_kept = of_some (failed_since d) stays_failed
+
+-- the matcher that a document goes on with is what is known of it
+pub resumed : (g now : Table) (o : Option MatcherState) (s : MatcherState) (m : Matching) (k : Kept) (f : Option DocumentFault) (d : Judging)
+    → ◌≡◌ {A = Judging} (record { grammar = g; reader = k; matching = matching_of g o; fault = f }) d → o ≡ Some s → now ≡ g → m ≡ matching_in now s
+    → m ≡ d.matching
+resumed g now o s m k f d view there same is =
+    is ∙ ap (λ t. matching_in t s) same ∙ ap (matching_of g) (sym there) ∙ ap (λ (d : Judging). d.matching) view
+
+-- what it leaves is kept for the grammar
+module _ (g now : Table) (s kept : MatcherState) (old new : Matching) (same : now ≡ g) (is : old ≡ matching_in now s) (on : new.grammar ≡ old.grammar) where
+  grammar_kept : new.grammar ≡ g
+  grammar_kept = on ∙ ap (λ (m : Matching). m.grammar) is ∙ same
+
+  pub state_kept : IsStateBy new.grammar kept → IsStateBy g kept
+  state_kept state = subst (λ (t : Table). IsStateBy t kept) grammar_kept state
+
+  module _ (place : Option MatcherState) (put : place ≡ Some kept) where
+    pub state_put : IsStateBy new.grammar kept → IfSome place (IsStateBy g)
+    state_put state = subst (λ o. IfSome o (IsStateBy g)) (sym put) (state_kept state)
+
+    pub known_put : matching_in new.grammar kept ≡ new → new ≡ matching_of g place
+    known_put e = sym e ∙ ap (λ t. matching_in t kept) grammar_kept ∙ ap (matching_of g) (sym put)
+
+    pub grammar_put : (matching_of g place).grammar ≡ g
+    grammar_put = ap (λ o. (matching_of g o).grammar) put
+
+    pub fault_put : (k : Kept) (f : Option DocumentFault) → IfSome f (IsFaultOfReader k) → IsKeptFault k place f
+    fault_put k f is = subst (λ o. IsKeptFault k o f) (sym put) is
+
+-- a reader that has a fault stays as it is
+pub stuck_fed : (d : Judging) (f : DocumentFault) → IsFaultOfReader d.reader f → (piece : List ℕ)
+    → UnlessMemory {A = Unit {0}} (Err f) ((bytes : List ℕ) → HasBeenFed d bytes → HasBeenFed d (bytes ++ piece))
+stuck_fed d faults.Memory of piece = tt
+stuck_fed d (faults.Malformed clause line) of piece = λ bytes fed.
+    piece_fed d d d.matching d.matching refl refl fed.by_grammar piece
+    (fed_stuck (Unit {0}) HasGoneOn d.matching d.reader piece (pyx.At clause line) of) bytes fed
+
+-- ---- the fault
+
+-- a fault of the reader is that of all bytes that begin with those that were fed
+pub fault_of_fed : (d : Judging) (f : DocumentFault) → IsFaultOfReader d.reader f → IsFaultOfFed d f
+fault_of_fed d faults.Memory of = tt
+fault_of_fed d (faults.Malformed clause line) of = λ bytes rest fed.
+    (is_fault_after d.reader (pyx.At clause line) of bytes fed.events fed.reads rest).first
+
+-- ---- the line from which on nothing valid can begin
+
+-- no document that begins with the bytes is valid
+pub none_begins : (d : Judging) (line : ℕ) (s : Schema) (bytes rest : List ℕ) → failed_since d ≡ Some line → Judges d.grammar s → HasBeenFed d bytes
+    → ¬ (IsValidDocument (IsValidBySchema s) (bytes ++ rest))
+none_begins d line s bytes rest f judges fed valid =
+    let m = d.matching in
+    let fails : FailsAt (judges_by m) fed.events line = subst (λ p. IsKnown (judges_by m) (trees m.grammar m.patterns) p fed.events)
+    (failed_at m.progress line f) fed.knows in
+    let e : Event = record { line = line; kind = fails.kind } in
+    let t = valid.0 in
+    let begins = events_begin d.reader bytes rest fed.events t fed.reads valid.1 in
+    let parts : events_of t ≡ (fails.before ++ e ∷ []) ++ (fails.behind ++ begins.0) = begins.1 ∙ ap (λ (l : List Event). l ++ begins.0) fails.parts
+    ∙ append_assoc fails.before (e ∷ fails.behind) begins.0 ∙ sym (append_assoc fails.before (e ∷ []) (fails.behind ++ begins.0)) in
+    let by_grammar = (judges.documents (item_of t)).1 valid.2 in
+    fails.cannot (fails.behind ++ begins.0) (bytes ++ rest) t valid.1 parts
+    (subst (λ (g : Table). IsValidBy (grammar_of g) (texts_of text_tests) (item_of t)) (sym fed.by_grammar) by_grammar)
+
+-- ---- what a document keeps
+
+pub if_none : (o : Option DocumentFault) (P : DocumentFault → Type 0) → o ≡ None → IfSome o P
+if_none None P e = tt
+if_none (Some f) P e = absurd (cc)
+
+-- a fault that is kept is the reader's, or want of memory
+pub fault_there : (k : Kept) (o : Option MatcherState) (kept : Option DocumentFault) (f : DocumentFault) → kept ≡ Some f → IsKeptFault k o kept
+    → IsFaultOfReader k f
+fault_there k None kept f e is = subst (IsFaultOfReader k) (same (sym is ∙ e)) tt where
+  same : {a b : DocumentFault} → Some a ≡ Some b → a ≡ b
+  same e = cc
+fault_there k (Some s) kept f e is = subst (λ o. IfSome o (IsFaultOfReader k)) e is
+
+-- ---- what is told at the end
+
+-- the verdict that a fault is told by is that on the bytes
+pub fault_verdict : (d : Judging) (f : DocumentFault) → IsFaultOfReader d.reader f
+    → IfOk (told_by f) (λ v. (s : Schema) (bytes : List ℕ) → Judges d.grammar s → HasBeenFed d bytes → IsVerdictOn s bytes v)
+fault_verdict d faults.Memory of = tt
+fault_verdict d (faults.Malformed clause line) of = λ s bytes judges fed.
+    let first = fault_of_fed d (faults.Malformed clause line) of bytes [] fed in
+    on_schema s bytes (Malformed clause line)
+    (subst (λ b. IsFirstFault (lines b) (record { clause = clause; line = line })) (append-nil bytes) first)
+
+pub fault_since : (f : DocumentFault) (o : Option ℕ) → IfSome o (λ line. IfOk (told_by f) (λ v. IsMalformed v ⊎ (v ≡ Invalid line)))
+fault_since faults.Memory o = of_some o (λ line e. tt)
+fault_since (faults.Malformed clause line) o = of_some o (λ n e. inl tt)
+
+pub ended_since : {A : Type 0} (d : Judging) (old new : Matching) → old ≡ d.matching → (ended : Result A PyxFault) (o : Result Outcome OutOfMemory)
+    → calls.UnlessMemory ended (calls.Ends (Hands HasGoneOn old new) d.reader ended)
+    → ((line : ℕ) → HasFailedAt new line → IfOk o (λ told. told ≡ outcome.Invalid line))
+    → IfSome (failed_since d) (λ line. IfOk (verdict_by ended o) (λ v. IsMalformed v ⊎ (v ≡ Invalid line)))
+ended_since d old new there (Ok x) (Ok o) ends says = of_some (failed_since d) (λ line f.
+    let was : HasFailedAt old line = subst (λ (m : Matching). HasFailedAt m line) (sym there) (failed_at d.matching.progress line f) in
+    let now = (gone old new ends.0 ends.1).failed line was in
+    told o line (says line now))
+  where
+    told : (o : Outcome) (line : ℕ) → o ≡ outcome.Invalid line → IfOk (verdict_by (Ok x) (Ok o)) (λ v. IsMalformed v ⊎ (v ≡ Invalid line))
+    told outcome.Valid line e = absurd (cc)
+    told (outcome.Invalid n) line e = inr (cc)
+ended_since d old new there (Ok x) (Err e) ends says = of_some (failed_since d) (λ line f. tt)
+ended_since d old new there (Err pyx.Memory) o ends says = of_some (failed_since d) (λ line f. tt)
+ended_since d old new there (Err (pyx.At clause at)) o ends says = of_some (failed_since d) (λ line f. inl tt)

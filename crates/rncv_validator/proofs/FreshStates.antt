@@ -1,0 +1,15 @@
+-- The state of a matcher to which nothing was told.
+use Rattle.std.proofs.Common.{◌≡◌, ◌∙◌, [], ap, sym, subst}
+use Rattle.rng_model.specs.simple.Table.{Table}
+use Rattle.rng_deriv.specs.views.Matchers.{HasRunOut, IsStateBy, Knows, Matching, matching_in}
+use Rattle.rng_deriv.specs.declared.matcher_state.MatcherState.{MatcherState}
+use Rattle.rncv_validator.specs.views.Documents.{IsFresh}
+
+pub fresh : (t : Table) (m : Matching) (s : MatcherState) → m.grammar ≡ t → Knows m [] → ¬ (HasRunOut m) → IsStateBy m.grammar s
+    → matching_in m.grammar s ≡ m → IsFresh t s
+fresh t m s is stands kept state same =
+    let now : m ≡ matching_in t s = sym same ∙ ap (λ (g : Table). matching_in g s) is in record {
+      state = subst (λ (g : Table). IsStateBy g s) is state;
+      knows = subst (λ (m : Matching). Knows m []) now stands;
+      kept = subst (λ (m : Matching). ¬ (HasRunOut m)) now kept;
+    }

@@ -1,0 +1,67 @@
+-- The clauses of a schema together: those that come before its simple form, and the restrictions on this.
+use Rattle.std.proofs.Common.{ℕ, ◌≤◌, arith}
+use Rattle.rng_model.specs.schema.Least.{IsLeast}
+use Rattle.rng_model.specs.restrictions.Restrictions as r
+use Rattle.rng_model.specs.restrictions.Restrictions.{BreaksRestriction, IsLeastRestriction}
+use Rattle.rng_model.specs.schema.Schema.{Schema}
+use Rattle.rng_model.specs.schema.SchemaClauses as c
+use Rattle.rng_model.specs.schema.SchemaClauses.{BreaksSchemaClause, BreaksClause, BreaksNoClause, IsLeastClause, in_schema, in_restriction}
+use Rattle.rng_model.specs.simple.SchemaForm.{IsSimpleGrammarOf}
+use Rattle.rng_model.specs.simple.Table.{Grammar}
+use Rattle.rng_model.specs.declared.fault.SchemaFault.{SchemaFault}
+use Rattle.rng_model.specs.declared.fault.SchemaFault.TheVariants as faults
+use Rattle.rng_model.specs.restrictions.Restricted.{IsRestrictionFault}
+use Rattle.rncv_validator.specs.views.Validators.{IsLeastFault}
+use Rattle.rng_model.specs.simple.SimplifiedSchema.{IsSchemaFault}
+use Rattle.rng_simple.proofs.SameRestrictions.{same_restrictions}
+
+at_most : {s : Schema} {clause : ℕ} → BreaksSchemaClause s clause → clause ≤ 17
+at_most (c.in_name_class b) = omega arith
+at_most (c.in_datatype b) = omega arith
+at_most (c.in_combination b) = omega arith
+at_most (c.without_start b) = omega arith
+at_most (c.in_ref b) = omega arith
+at_most (c.in_expansion b) = omega arith
+at_most (c.in_depth b) = omega arith
+
+at_least : {g : Grammar} {clause : ℕ} → BreaksRestriction g clause → 18 ≤ clause
+at_least (r.in_attribute_of i b) = omega arith
+at_least (r.in_one_or_more_of i b) = omega arith
+at_least (r.in_list_of i b) = omega arith
+at_least (r.in_except_of i b) = omega arith
+at_least (r.in_start b) = omega arith
+at_least (r.in_content i b) = omega arith
+at_least (r.in_attribute_names i b) = omega arith
+at_least (r.in_wildcard i b) = omega arith
+at_least (r.in_element_names i b) = omega arith
+at_least (r.in_text i b) = omega arith
+
+not_less : (s : Schema) (clause : ℕ) → IsLeast (BreaksSchemaClause s) clause → (other : ℕ) → BreaksClause s other → clause ≤ other
+not_less s clause b other (in_schema o) = b.least other o
+not_less s clause b other (in_restriction is o) = omega (arith, at_most b.broken, at_least o)
+
+-- the least of the first is the least of all
+least_before : (s : Schema) (clause : ℕ) → IsLeast (BreaksSchemaClause s) clause → IsLeastClause s clause
+least_before s clause b = record { broken = in_schema b.broken; least = not_less s clause b }
+
+pub schema_fault : (s : Schema) (fault : SchemaFault) → IsSchemaFault s fault → IsLeastFault s fault
+schema_fault s (faults.Clause clause) is = least_before s clause is
+schema_fault s (faults.File clause name) is = is
+schema_fault s faults.Memory is = tt
+
+module _ (s : Schema) (kept : (clause : ℕ) → ¬ (BreaksSchemaClause s clause)) (g : Grammar) (is : IsSimpleGrammarOf s g) where
+  restriction_of : (clause : ℕ) → BreaksClause s clause → BreaksRestriction g clause
+  restriction_of clause (in_schema b) = absurd (kept clause b)
+  restriction_of clause (in_restriction {g = h} other b) = same_restrictions s h g other is clause b
+
+  -- where none of the first is broken, the restrictions on one simple grammar decide
+  least_restriction : (clause : ℕ) → IsLeastRestriction g clause → IsLeastClause s clause
+  least_restriction clause b = record { broken = in_restriction is b.broken; least = λ other o. b.least other (restriction_of other o) }
+
+  pub none_broken : ((clause : ℕ) → ¬ (BreaksRestriction g clause)) → BreaksNoClause s
+  none_broken restricted clause b = restricted clause (restriction_of clause b)
+
+  pub restriction_fault : (fault : SchemaFault) → IsRestrictionFault g fault → IsLeastFault s fault
+  restriction_fault (faults.Clause clause) b = least_restriction clause b
+  restriction_fault (faults.File clause name) b = b
+  restriction_fault faults.Memory b = tt

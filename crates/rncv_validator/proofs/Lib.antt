@@ -1,0 +1,6 @@
+pub mod RefusedFiles
+pub mod DocumentVerdict
+pub mod FedDocuments
+pub mod FreshStates
+pub mod GoodSchemas
+pub mod UnknownNames

@@ -1,0 +1,60 @@
+use Rattle.std.proofs.Common.{◌≡◌, ◌⊎◌, ◌∙◌, ℕ, List, Result, IfOk, IfSome, subst, sym}
+use Rattle.pyx.specs.views.Calls.{Ends, UnlessMemory}
+use Rattle.rng_model.specs.declared.fault.OutOfMemory.{OutOfMemory}
+use Rattle.rng_model.specs.documents.Handing.{Hands}
+use Rattle.rng_model.specs.schema.Schema.{Schema}
+use Rattle.rncv_model.specs.answers.Compiled.{IsVerdictOn}
+use Rattle.rncv_model.specs.answers.Verdict.{IsMalformed}
+use Rattle.rncv_model.specs.declared.verdict.Verdict.{Verdict}
+use Rattle.rncv_model.specs.declared.verdict.Verdict.TheVariants.{Invalid}
+use Rattle.rng_deriv.specs.views.Matchers.{HasGoneOn}
+use Rattle.rncv_validator.specs.views.Documents.{HasBeenFed, IsFaultOfReader, Judging, failed_since}
+use Rattle.rncv_validator.specs.views.Validators.{Judges}
+use Rattle.rncv_validator.proofs.FedDocuments.{ended_grammar, ended_since, ended_verdict, fault_there, fault_verdict, resumed, state_kept}
+use Rattle.rncv_validator.proofs.document.Document.finish.Goals as goal
+
+pub invariant_of-result-in-Ok : goal.invariant_of-result-in-Ok
+invariant_of-result-in-Ok c =
+    let d = c.self.inside in
+    let old = c.resume-matcher.result in
+    let new = c.finish-ended.new.events in (
+      c.self.invariant.0,
+      state_kept d.grammar.value c.deref.result.now c.in-Some.state c.into_state.result old new c.deref.ensures c.resume-matcher.ensures
+          (ended_grammar d.reader old new c.finish-ended.result c.outcome.result c.in-Ok.verdict c.finish-ended.ensures.document
+          (sym c.verdict.ensures ∙ c.in-Ok.is)) c.into_state.ensures.state,
+    )
+
+pub returns-in-Ok-clause-verdict : goal.returns-in-Ok-clause-verdict
+returns-in-Ok-clause-verdict c =
+    let d = c.self.inside in
+    let old = c.resume-matcher.result in
+    let new = c.finish-ended.new.events in
+    let there = resumed d.grammar.value c.deref.result.now d.state c.in-Some.state old d.reader d.fault c.args.self c.self.view_is c.in-Some.is c.deref.ensures
+    c.resume-matcher.ensures in
+    let ends = subst (λ (j : Judging). UnlessMemory c.finish-ended.result (Ends (Hands HasGoneOn old new) j.reader c.finish-ended.result)) c.self.view_is
+    c.finish-ended.ensures.document in
+    subst (λ (r : Result Verdict OutOfMemory). IfOk r (λ v. (s : Schema) (bytes : List ℕ) → Judges c.args.self.grammar s → HasBeenFed c.args.self bytes → IsVerdictOn s bytes v))
+    (sym c.verdict.ensures ∙ c.in-Ok.is)
+    (ended_verdict c.args.self old new there c.finish-ended.result c.outcome.result ends c.outcome.ensures.outcome)
+
+pub returns-in-Ok-clause-since : goal.returns-in-Ok-clause-since
+returns-in-Ok-clause-since c =
+    let d = c.self.inside in
+    let old = c.resume-matcher.result in
+    let new = c.finish-ended.new.events in
+    let there = resumed d.grammar.value c.deref.result.now d.state c.in-Some.state old d.reader d.fault c.args.self c.self.view_is c.in-Some.is c.deref.ensures
+    c.resume-matcher.ensures in
+    let ends = subst (λ (j : Judging). UnlessMemory c.finish-ended.result (Ends (Hands HasGoneOn old new) j.reader c.finish-ended.result)) c.self.view_is
+    c.finish-ended.ensures.document in
+    subst (λ (r : Result Verdict OutOfMemory). IfSome (failed_since c.args.self) (λ line. IfOk r (λ v. IsMalformed v ⊎ (v ≡ Invalid line))))
+    (sym c.verdict.ensures ∙ c.in-Ok.is)
+    (ended_since c.args.self old new there c.finish-ended.result c.outcome.result ends c.outcome.ensures.failed)
+
+pub returns-in-Some-fault-clause-verdict : goal.returns-in-Some-fault-clause-verdict
+returns-in-Some-fault-clause-verdict c =
+    let d = c.self.inside in
+    let f = c.in-Some-fault.fault in
+    let of = subst (λ (j : Judging). IsFaultOfReader j.reader f) c.self.view_is
+    (fault_there d.reader d.state d.fault f c.in-Some-fault.is c.self.invariant.2) in
+    subst (λ (r : Result Verdict OutOfMemory). IfOk r (λ v. (s : Schema) (bytes : List ℕ) → Judges c.args.self.grammar s → HasBeenFed c.args.self bytes → IsVerdictOn s bytes v))
+    (sym c.told.ensures) (fault_verdict c.args.self f of)

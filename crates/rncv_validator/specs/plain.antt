@@ -1,0 +1,2 @@
+-- Plain functions that the code is proved against, and private relations.
+pub mod Judging

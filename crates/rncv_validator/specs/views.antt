@@ -1,0 +1,3 @@
+-- Views of types, and what they stand for.
+pub mod Documents
+pub mod Validators

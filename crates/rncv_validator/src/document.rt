@@ -1,0 +1,221 @@
+// A document that is judged piece by piece.
+ghost use Rattle.std.specs.Prelude.{◌≡◌, ◌⊎◌, ◌+◌, ◌^◌, ◌<◌, ◌++◌, ℕ, List, IfErr, IfOk, IfSome, Some, Err, length};
+ghost use Rattle.std.specs.Bool.{OnTrue};
+ghost use Rattle.rng_model.specs.schema.Schema.{Schema};
+ghost use Rattle.rncv_model.specs.answers.Compiled.{IsVerdictOn};
+ghost use Rattle.rncv_model.specs.answers.Verdict.{IsMalformed, IsValidDocument};
+ghost use Rattle.rng_model.specs.matching.SchemaMatching.{IsValidBySchema};
+ghost use Rattle.rncv_model.specs.declared.verdict.Verdict.{Verdict};
+ghost use Rattle.rncv_validator.specs.views.Validators.{Judges};
+ghost use Rattle.rncv_validator.specs.views.Documents.{HasBeenFed, IsFaultOfFed, IsFaultOfReader, UnlessMemory, failed_since, told_by, verdict_by};
+ghost use Rattle.pyx.specs.views.Calls.{Extends};
+ghost use Rattle.rng_model.specs.documents.Handing.{Hands};
+ghost use Rattle.rng_deriv.specs.views.Matchers.{HasGoneOn};
+
+use crate::fault::DocumentFault;
+use crate::validator::Validator;
+use pyx::Reader;
+use rncv_model::Verdict;
+use rng_deriv::{Matcher, MatcherState, Outcome};
+use rng_model::{OutOfMemory, PyxFault, SimpleGrammar};
+use std::alloc::Global;
+use std::marker::Model;
+use std::sync::Arc;
+
+/// A document has fewer bytes than this.
+const TOO_MANY_BYTES: u64 = 1 << 63;
+
+/// A document that is judged piece by piece by the schema of a validator.
+///
+/// No more is kept of it than a tag, a text, the open elements, and what the matcher keeps.
+#[derive(Drop)]
+pub struct Document {
+    pub(crate) alloc: Global,
+    pub(crate) grammar: Arc<SimpleGrammar>,
+    pub(crate) reader: Reader,
+    /// What the matcher keeps. It is away while the matcher is at work, and once memory was wanting.
+    pub(crate) state: Option<MatcherState>,
+    /// What every call answers.
+    pub(crate) fault: Option<DocumentFault>,
+}
+
+impl Model for Document {
+    ghost use Rattle.std.specs.Prelude.{IfSome};
+    ghost use Rattle.rng_model.specs.simple.Table.{grammar_of};
+    ghost use Rattle.rng_model.specs.restrictions.BreaksNone.{BreaksNone};
+    ghost use Rattle.rng_deriv.specs.views.Matchers.{IsStateBy};
+    ghost use Rattle.rncv_validator.specs.views.Documents.{IsKeptFault, Judging, matching_of};
+    ghost use Rattle.rng_model.specs.contracts.name.NameClass as classes;
+    ghost use Rattle.std.specs.Coded.{codes};
+
+    ghost Value = { Judging };
+
+    ghost coded = { Prim.hlevel (codes, classes.the_row.coded) };
+
+    ghost view = { λ d. record { grammar = d.grammar.value; reader = d.reader; matching = matching_of d.grammar.value d.state; fault = d.fault } };
+
+    ghost invariant = { λ d. (BreaksNone (grammar_of d.grammar.value)) × (IfSome d.state (IsStateBy d.grammar.value)) × (IsKeptFault d.reader d.state d.fault) };
+}
+
+impl Document {
+    /// Takes the next piece, of any length.
+    ///
+    /// An error is `Malformed`, with the broken clause of least line and of least number there, whatever comes behind, or `Memory`, which is also
+    /// answered where the document would come to 2^63 bytes. After an error every call answers it. One pass over the piece.
+    ///
+    /// XML 1.0, sections 2.2 and 3.1; Namespaces in XML 1.0, sections 3 to 6; RELAX NG Specification, section 6.
+    pub fn feed(&mut self, piece: &[u8]) -> Result<(), DocumentFault>
+        ensures grammar { self.new.grammar ≡ self.old.grammar }
+        ensures fed { UnlessMemory result ((bytes : List ℕ) → HasBeenFed self.old bytes → HasBeenFed self.new (bytes ++ piece.now)) }
+        ensures fault { IfErr result (λ f. (self.new.fault ≡ Some f) × IsFaultOfFed self.new f) }
+        ensures sticky { IfSome self.old.fault (λ f. (result ≡ Err f) × (self.new ≡ self.old)) }
+        ensures since { IfSome (failed_since self.old) (λ line. UnlessMemory result (failed_since self.new ≡ Some line)) }
+    {
+        if let Some(fault) = self.fault {
+            return Err(fault);
+        }
+        let Some(state) = self.state.take() else {
+            unreachable!();
+        };
+        let mut matcher = Matcher::resume(self.alloc, &self.grammar, state);
+        match read_piece(&mut self.reader, piece, &mut matcher) {
+            Ok(()) => {
+                put_back(&mut self.state, matcher.into_state());
+                Ok(())
+            }
+            Err(DocumentFault::Malformed { clause, line }) => {
+                put_back(&mut self.state, matcher.into_state());
+                let fault = DocumentFault::Malformed { clause, line };
+                self.fault = Some(fault);
+                Err(fault)
+            }
+            Err(DocumentFault::Memory) => {
+                drop(matcher);
+                self.fault = Some(DocumentFault::Memory);
+                Err(DocumentFault::Memory)
+            }
+        }
+    }
+
+    /// The line from which on nothing valid can begin, from 1, once it is known: what is fed is then no beginning of a valid document, and
+    /// `finish` answers `Invalid` with this line, or `Malformed`.
+    ///
+    /// It is known once the pattern that is left matches nothing; before, the start of no element with a name that no element of the schema's
+    /// simple form may have was fed. Takes no memory.
+    pub fn invalid_since(&self) -> Option<u64>
+        ensures value { result ≡ failed_since self.now }
+        ensures hopeless { IfSome result (λ line. (s : Schema) (bytes rest : List ℕ) → Judges self.now.grammar s → HasBeenFed self.now bytes
+            → ¬ (IsValidDocument (IsValidBySchema s) (bytes ++ rest))) }
+    {
+        self.state.as_ref()?.failed_at()
+    }
+
+    /// The document has ended: the verdict on it, and the validator, for the next one.
+    ///
+    /// The verdict is `Malformed` with the first fault where the bytes that were fed are no document; else `Valid` exactly if it matches the
+    /// schema by the rules of section 6 of the RELAX NG Specification, read over the files as they are written; else `Invalid` with a line:
+    /// nothing that begins with the lines up to it is valid, and the start of no element with a name that no element of the schema's simple
+    /// form may have is told before it. The error is want of memory, and comes after it.
+    pub fn finish(self) -> (Validator, Result<Verdict, OutOfMemory>)
+        ensures grammar { result.0 ≡ self.grammar }
+        ensures verdict { IfOk result.1 (λ v. (s : Schema) (bytes : List ℕ) → Judges self.grammar s → HasBeenFed self bytes → IsVerdictOn s bytes v) }
+        ensures sticky { IfSome self.fault (λ f. result.1 ≡ told_by f) }
+        ensures since { IfSome (failed_since self) (λ line. IfOk result.1 (λ v. IsMalformed v ⊎ (v ≡ Verdict.Invalid line))) }
+    {
+        let Document {
+            alloc,
+            grammar,
+            reader,
+            state,
+            fault,
+        } = self;
+        let Some(state) = state else {
+            return (
+                Validator {
+                    grammar,
+                    state: None,
+                },
+                Err(OutOfMemory),
+            );
+        };
+        if let Some(fault) = fault {
+            drop(reader);
+            let state = Some(state);
+            return (Validator { grammar, state }, told(fault));
+        }
+        let mut matcher = Matcher::resume(alloc, &grammar, state);
+        let ended = reader.finish(&mut matcher);
+        if let Ok(verdict) = verdict(ended, matcher.outcome()) {
+            let state = Some(matcher.into_state());
+            return (Validator { grammar, state }, Ok(verdict));
+        }
+        drop(matcher);
+        (
+            Validator {
+                grammar,
+                state: None,
+            },
+            Err(OutOfMemory),
+        )
+    }
+}
+
+/// Puts a state back in its place.
+fn put_back(place: &mut Option<MatcherState>, state: MatcherState)
+    ensures { place.new ≡ Some state }
+{
+    *place = Some(state);
+}
+
+/// Reads the next piece, and hands its events to the matcher.
+fn read_piece(
+    reader: &mut Reader,
+    piece: &[u8],
+    matcher: &mut Matcher<'_>,
+) -> Result<(), DocumentFault>
+    ensures extends { UnlessMemory result (Extends (Hands HasGoneOn matcher.old matcher.new) reader.old reader.new piece.now) }
+    ensures fault { IfErr result (IsFaultOfReader reader.new) }
+{
+    if !has_room(reader, piece) {
+        return Err(DocumentFault::Memory);
+    }
+    match reader.feed(piece, matcher) {
+        Ok(()) => Ok(()),
+        Err(PyxFault::At { clause, line }) => Err(DocumentFault::Malformed { clause, line }),
+        Err(PyxFault::Memory) => Err(DocumentFault::Memory),
+    }
+}
+
+/// Whether the document has fewer than 2^63 bytes with this piece.
+fn has_room(reader: &Reader, piece: &[u8]) -> bool
+    ensures { OnTrue result (reader.now.fed + length piece.now < 2 ^ 63) }
+{
+    (piece.len() as u64) < TOO_MANY_BYTES.saturating_sub(reader.fed())
+}
+
+/// The verdict that a fault is told by.
+fn told(fault: DocumentFault) -> Result<Verdict, OutOfMemory>
+    ensures { result ≡ told_by fault }
+{
+    match fault {
+        DocumentFault::Malformed { clause, line } => Ok(Verdict::Malformed { clause, line }),
+        DocumentFault::Memory => Err(OutOfMemory),
+    }
+}
+
+/// The verdict on a document by how it ended, and what its matcher says.
+fn verdict(
+    ended: Result<(), PyxFault>,
+    outcome: Result<Outcome, OutOfMemory>,
+) -> Result<Verdict, OutOfMemory>
+    ensures { result ≡ verdict_by ended outcome }
+{
+    match ended {
+        Ok(()) => match outcome? {
+            Outcome::Valid => Ok(Verdict::Valid),
+            Outcome::Invalid(line) => Ok(Verdict::Invalid(line)),
+        },
+        Err(PyxFault::At { clause, line }) => Ok(Verdict::Malformed { clause, line }),
+        Err(PyxFault::Memory) => Err(OutOfMemory),
+    }
+}

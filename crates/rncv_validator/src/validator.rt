@@ -1,0 +1,157 @@
+// A schema that was compiled.
+ghost use Rattle.std.specs.Prelude.{◌≡◌, ◌<◌, [], length, IfErr, IfOk, IfSome, Some};
+ghost use Rattle.rng_model.specs.schema.Schema.{Schema};
+ghost use Rattle.rng_model.specs.simple.Table.{grammar_of};
+ghost use Rattle.rng_model.specs.restrictions.BreaksNone.{BreaksNone};
+ghost use Rattle.rnc_model.specs.loading.Files.{named_files};
+ghost use Rattle.rncv_model.specs.answers.Compiled.{AreGoodSchema, IsRefusal};
+ghost use Rattle.rncv_model.specs.answers.Run.{main_name};
+ghost use Rattle.rncv_model.specs.printed.SchemaText.{IsPrintedForm};
+ghost use Rattle.rncv_validator.specs.views.Validators.{IsOneFor, Judges};
+ghost use Rattle.rncv_validator.specs.views.Documents.{HasBeenFed, IsFresh};
+ghost use Rattle.rncv_validator.specs.declared.fault.DocumentFault.{DocumentFault};
+ghost use Rattle.rng_deriv.specs.views.Matchers.{HasRunOut, IsStateBy};
+
+use crate::compiling::good_grammar;
+use crate::document::Document;
+use crate::fault::DocumentFault;
+use pyx::Reader;
+use rng_deriv::{Matcher, MatcherState};
+use rng_load::load;
+use rng_model::{OutOfMemory, SchemaFault, SimpleGrammar};
+use rng_print::printed_text;
+use std::alloc::Global;
+use std::marker::Model;
+use std::sync::Arc;
+
+/// A schema that was compiled, with what was worked out of it by the documents that it has judged.
+///
+/// What is kept from one document to the next makes the next one cheaper and changes no answer. It is bounded as for one document.
+#[derive(Drop)]
+pub struct Validator {
+    pub(crate) grammar: Arc<SimpleGrammar>,
+    pub(crate) state: Option<MatcherState>,
+}
+
+impl Model for Validator {
+    ghost use Rattle.std.specs.Prelude.{IfSome};
+    ghost use Rattle.rng_model.specs.simple.Table.{Table, grammar_of};
+    ghost use Rattle.rng_model.specs.restrictions.BreaksNone.{BreaksNone};
+    ghost use Rattle.rng_deriv.specs.views.Matchers.{IsStateBy};
+    ghost use Rattle.rng_model.specs.contracts.name.NameClass as classes;
+    ghost use Rattle.std.specs.Coded.{codes};
+
+    ghost Value = { Table };
+
+    ghost coded = { Prim.hlevel (codes, classes.the_row.coded) };
+
+    ghost view = { λ v. v.grammar.value };
+
+    ghost invariant = { λ v. (BreaksNone (grammar_of v.grammar.value)) × (IfSome v.state (IsStateBy v.grammar.value)) };
+}
+
+impl Validator {
+    /// Compiles the schema of these files, of which the first is the main one.
+    ///
+    /// It is `Ok` exactly if the files are a schema that breaks no clause. Else the fault is what is told: `File` where a file breaks a clause
+    /// from 1 to 8 by itself, with the first such file in load order and the clause that it breaks first; else `Clause` with the clause that
+    /// the files break together, 9 before 10; else `Clause` with the least clause that their schema breaks, 11 to 27. `Memory` says nothing
+    /// of the files. Costs what `load`, `simplify` and `restrict` take.
+    ///
+    /// RELAX NG Specification, sections 4, 5 and 7; the limits are of the profile (docs/LANGUAGE.md).
+    pub fn compile(alloc: Global, files: &[(String, Vec<u8>)]) -> Result<Validator, SchemaFault>
+        requires { 0 < length files.now }
+        ensures compiled { IfOk result (λ v. IsOneFor (named_files files.now) (main_name files.now) v) }
+        ensures refused { IfErr result (IsRefusal (named_files files.now) (main_name files.now)) }
+    {
+        let schema = load(alloc, files, first_name(files))?;
+        let grammar = good_grammar(alloc, schema)?;
+        match Arc::new(alloc, grammar) {
+            Ok(grammar) => Ok(Validator {
+                grammar,
+                state: None,
+            }),
+            Err(_) => Err(SchemaFault::Memory),
+        }
+    }
+
+    /// A document begins. It takes the validator, and gives it back when it is finished.
+    ///
+    /// Takes memory for the first document, in proportion to the schema; where there is none, each call of the document answers
+    /// that. Costs for the first document a look-up by hashing for each pattern of the schema, and nothing for the next.
+    pub fn document(self, alloc: Global) -> Document
+        ensures grammar { result.grammar ≡ self }
+        ensures begun { HasBeenFed result [] }
+        ensures fault { IfSome result.fault (λ f. f ≡ DocumentFault.Memory) }
+        ensures kept { HasRunOut result.matching → result.fault ≡ Some DocumentFault.Memory }
+    {
+        let Validator { grammar, state } = self;
+        let state = fresh_state(alloc, &grammar, state);
+        let fault = match state {
+            Some(_) => None,
+            None => Some(DocumentFault::Memory),
+        };
+        Document {
+            alloc,
+            grammar,
+            reader: Reader::new(alloc),
+            state,
+            fault,
+        }
+    }
+
+    /// Another validator by the same schema, which is shared, for another thread, say. What was worked out is not shared. The error is
+    /// want of memory.
+    pub fn share(&self) -> Result<Validator, OutOfMemory>
+        ensures { IfOk result (λ v. v ≡ self.now) }
+    {
+        match Arc::try_clone(&self.grammar) {
+            Ok(grammar) => Ok(Validator {
+                grammar,
+                state: None,
+            }),
+            Err(_) => Err(OutOfMemory),
+        }
+    }
+
+    /// The simple form of the schema, printed (`printed_text` of `rng_print`). The error is want of memory.
+    ///
+    /// RELAX NG Specification, section 5.
+    pub fn simple_text(&self, alloc: Global) -> Result<Vec<u8>, OutOfMemory>
+        ensures { IfOk result (λ text. (s : Schema) → Judges self.now s → IsPrintedForm s text.items) }
+    {
+        printed_text(alloc, &self.grammar)
+    }
+}
+
+/// The name of the first file.
+fn first_name(files: &[(String, Vec<u8>)]) -> &str
+    requires { 0 < length files.now }
+    ensures { result.now ≡ main_name files.now }
+{
+    match files {
+        [(name, _), ..] => name.as_str(),
+        [] => unreachable!(),
+    }
+}
+
+/// The state of a matcher to which nothing was told, with what an earlier one has worked out, if there was one. None where there is no memory.
+fn fresh_state(
+    alloc: Global,
+    grammar: &SimpleGrammar,
+    earlier: Option<MatcherState>,
+) -> Option<MatcherState>
+    requires restricted { BreaksNone (grammar_of grammar.now) }
+    requires earlier { IfSome earlier (IsStateBy grammar.now) }
+    ensures { IfSome result (IsFresh grammar.now) }
+{
+    if let Some(state) = earlier {
+        if let Ok(matcher) = Matcher::resume(alloc, grammar, state).begin_anew() {
+            return Some(matcher.into_state());
+        }
+    }
+    match Matcher::new(alloc, grammar) {
+        Ok(matcher) => Some(matcher.into_state()),
+        Err(_) => None,
+    }
+}
