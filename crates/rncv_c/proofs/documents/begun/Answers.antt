@@ -1,0 +1,5 @@
+-- What was fed is nothing, and then nothing more.
+use Rattle.rncv_c.proofs.documents.begun.Goals as goal
+
+pub returns-in-Ok-clause-done : goal.returns-in-Ok-clause-done
+returns-in-Ok-clause-done c = λ done. c.in-Ok.ensures.fed _ c.document-document.ensures.begun

@@ -1,0 +1,64 @@
+-- What calls of a document answer in numbers, by what its own functions answer.
+use Rattle.std.specs.Prelude.{◌≡◌, ◌⊎◌, ℕ, ℤ, List, ◌++◌, Some, Result, Ok, Err, IfErr, IfOk, IfSome, unwrap_or}
+use Rattle.rng_model.specs.schema.Schema.{Schema}
+use Rattle.rng_model.specs.declared.fault.OutOfMemory.{OutOfMemory}
+use Rattle.rncv_model.specs.answers.Compiled.{IsVerdictOn}
+use Rattle.rng_model.specs.matching.SchemaMatching.{IsValidBySchema}
+use Rattle.rncv_model.specs.answers.Verdict.{IsMalformed, IsValidDocument}
+use Rattle.rncv_model.specs.declared.verdict.Verdict.{Verdict}
+use Rattle.rncv_model.specs.declared.verdict.Verdict.TheVariants.{Invalid}
+use Rattle.rncv_validator.specs.views.Documents.{HasBeenFed, IsFaultOfFed, Judging, UnlessMemory, failed_since, told_by}
+use Rattle.rncv_validator.specs.views.Validators.{Judges}
+use Rattle.rncv_validator.specs.declared.fault.DocumentFault.{DocumentFault}
+use Rattle.rncv_validator.specs.declared.fault.DocumentFault.TheVariants as faults
+use Rattle.rncv_c.specs.views.Held.{code_of}
+use Rattle.rncv_c.specs.views.Told.{judgement_of}
+use Rattle.rncv_c.specs.declared.status.Status.{Status}
+use Rattle.rncv_c.specs.declared.status.Status.TheVariants as status
+use Rattle.rncv_c.specs.declared.told.Judgement.{Judgement}
+
+-- the status that goes with what `Document::feed` answers
+abbrev pub status_of_feed : Result (Unit {0}) DocumentFault → Status
+status_of_feed (Ok x) = status.Done
+status_of_feed (Err (faults.Malformed clause line)) = status.Malformed
+status_of_feed (Err faults.Memory) = status.Memory
+
+-- A piece was handed to the document, and this number was answered: as `Document::feed` promises.
+pub record HasTaken (piece : List ℕ) (number : ℤ) (old new : Judging) : Type 0 where
+  pub answer : Result (Unit {0}) DocumentFault
+  pub number_is : number ≡ code_of (status_of_feed answer)
+  pub grammar : new.grammar ≡ old.grammar
+  pub fed : UnlessMemory answer ((bytes : List ℕ) → HasBeenFed old bytes → HasBeenFed new (bytes ++ piece))
+  pub fault : IfErr answer (λ f. (new.fault ≡ Some f) × IsFaultOfFed new f)
+  pub sticky : IfSome old.fault (λ f. (answer ≡ Err f) × (new ≡ old))
+  pub since : IfSome (failed_since old) (λ line. UnlessMemory answer (failed_since new ≡ Some line))
+
+-- the status that goes with what `Document::finish` answers
+abbrev pub status_of_end : Result Verdict OutOfMemory → Status
+status_of_end (Ok verdict) = status.Done
+status_of_end (Err e) = status.Memory
+
+-- what C is told at the end; where memory was wanting it is left as it was
+abbrev pub told_at_end : Judgement → Result Verdict OutOfMemory → Judgement
+told_at_end old (Ok verdict) = judgement_of verdict
+told_at_end old (Err e) = old
+
+-- this is what `Document::finish` may answer
+pub record IsEndOf (document : Judging) (answer : Result Verdict OutOfMemory) : Type 0 where
+  pub verdict : IfOk answer (λ v. (s : Schema) (bytes : List ℕ) → Judges document.grammar s → HasBeenFed document bytes
+      → IsVerdictOn s bytes v)
+  pub sticky : IfSome document.fault (λ f. answer ≡ told_by f)
+  pub since : IfSome (failed_since document) (λ line. IfOk answer (λ v. IsMalformed v ⊎ (v ≡ Invalid line)))
+
+-- the document has ended, this number was answered, and C was told this
+pub record HasEnded (document : Judging) (number : ℤ) (old new : Judgement) : Type 0 where
+  pub answer : Result Verdict OutOfMemory
+  pub is : IsEndOf document answer
+  pub number_is : number ≡ code_of (status_of_end answer)
+  pub told : new ≡ told_at_end old answer
+
+-- The line from which on nothing valid can begin, 0 where it is not known. Where it is known, nothing that begins with what was fed is valid.
+pub record IsInvalidSince (line : ℕ) (document : Judging) : Type 0 where
+  pub value : line ≡ unwrap_or (failed_since document) 0
+  pub hopeless : IfSome (failed_since document) (λ since. (s : Schema) (bytes rest : List ℕ) → Judges document.grammar s
+      → HasBeenFed document bytes → ¬ (IsValidDocument (IsValidBySchema s) (bytes ++ rest)))

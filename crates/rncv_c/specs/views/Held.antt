@@ -1,0 +1,35 @@
+-- What handles hold, and the numbers that C is answered.
+use Rattle.std.specs.Prelude.{ℤ, pos, Option, Some, None}
+use Rattle.rng_model.specs.simple.Table.{Table}
+use Rattle.rncv_validator.specs.views.Documents.{Judging}
+use Rattle.rncv_c.specs.declared.handle.Held.{Held}
+use Rattle.rncv_c.specs.declared.handle.Held.TheVariants.{Schema, Document}
+use Rattle.rncv_c.specs.declared.status.Status.{Status}
+use Rattle.rncv_c.specs.declared.status.Status.TheVariants as status
+
+-- the grammar of a schema, with no document begun
+abbrev pub schema_in : Option Held → Option Table
+schema_in None = None
+schema_in (Some (Schema grammar)) = Some grammar
+schema_in (Some (Document document)) = None
+
+-- the document that was begun
+abbrev pub document_in : Option Held → Option Judging
+document_in None = None
+document_in (Some (Schema grammar)) = None
+document_in (Some (Document document)) = Some document
+
+-- the grammar by which documents are judged, with or without one begun
+abbrev pub grammar_in : Option Held → Option Table
+grammar_in None = None
+grammar_in (Some (Schema grammar)) = Some grammar
+grammar_in (Some (Document document)) = Some document.grammar
+
+-- the numbers of the header
+abbrev pub code_of : Status → ℤ
+code_of status.Done = pos 0
+code_of status.Refused = pos 1
+code_of status.Malformed = pos 2
+code_of status.Memory = pos 3
+code_of status.Misuse = pos 4
+code_of status.Space = pos 5

@@ -1,0 +1,164 @@
+// The work over a handle that holds a document.
+ghost use Rattle.std.specs.Prelude.{◌≡◌, ◌≢◌, ◌↔◌, [], IfErr, IfNone, IfOk, IfSome, IsSomeAnd, OnSome};
+ghost use Rattle.std.specs.declared.option.Option.TheVariants.{None, Some};
+ghost use Rattle.rncv_validator.specs.views.Documents.{HasBeenFed};
+ghost use Rattle.rncv_c.specs.views.Calls.{HasEnded, HasTaken, IsEndOf, IsInvalidSince, status_of_end, told_at_end};
+ghost use Rattle.rncv_c.specs.views.Held.{code_of, document_in, grammar_in, schema_in};
+
+use crate::handle::{Handle, Held};
+use crate::status::Status;
+use crate::told::{Judgement, judgement_to_tell};
+use core::mem::replace_with;
+use rncv_model::Verdict;
+use rncv_validator::{Document, DocumentFault, Validator};
+use rng_model::OutOfMemory;
+use std::alloc::Global;
+
+/// Begins a document by the schema of the handle. One that was begun before is let go of.
+///
+/// `Misuse` exactly if the handle holds no schema; or `Memory`, and then no document is begun. Costs what `Validator::document` takes, and where a
+/// document is let go of what `Document::finish` takes.
+pub fn begin(alloc: Global, schema: &mut Handle) -> Status
+    ensures done { result ≡ Status.Done → IsSomeAnd (document_in schema.new.held) (λ d. HasBeenFed d []) }
+    ensures memory { result ≡ Status.Memory → schema_in schema.new.held ≡ grammar_in schema.old.held }
+    ensures misuse { (result ≡ Status.Misuse) ↔ (grammar_in schema.old.held ≡ None) }
+    ensures others { result ≢ Status.Done → result ≢ Status.Misuse → result ≡ Status.Memory }
+    ensures kept { grammar_in schema.new.held ≡ grammar_in schema.old.held }
+{
+    let Some(mut held) = schema.take(alloc) else {
+        return Status::Misuse;
+    };
+    let status = replace_with(&mut *held, alloc, begun);
+    schema.put(held);
+    status
+}
+
+/// A document by the schema that was held, or the schema where there is no memory for one.
+fn begun(held: Held, alloc: Global) -> (Held, Status)
+    ensures done { result.1 ≡ Status.Done → IsSomeAnd (document_in (Some result.0)) (λ d. HasBeenFed d []) }
+    ensures memory { result.1 ≢ Status.Done → (result.1 ≡ Status.Memory) × (schema_in (Some result.0) ≡ grammar_in (Some held)) }
+    ensures kept { grammar_in (Some result.0) ≡ grammar_in (Some held) }
+{
+    let mut document = validator_in(held).document(alloc);
+    // no bytes: it answers whether there was memory
+    match document.feed(&[]) {
+        Ok(()) => (Held::Document(document), Status::Done),
+        Err(_) => {
+            let (validator, _) = document.finish();
+            (Held::Schema(validator), Status::Memory)
+        }
+    }
+}
+
+/// The validator of a schema, or of a document that is let go of.
+fn validator_in(held: Held) -> Validator
+    ensures { grammar_in (Some held) ≡ Some result }
+{
+    match held {
+        Held::Schema(validator) => validator,
+        Held::Document(document) => {
+            let (validator, _) = document.finish();
+            validator
+        }
+    }
+}
+
+/// Hands the next piece to the document.
+///
+/// `Misuse` exactly if no document is begun; else as `Document::feed`. One pass over the piece.
+pub fn feed(alloc: Global, schema: &mut Handle, bytes: &[u8]) -> Status
+    ensures taken { IfSome (document_in schema.old.held) (λ d. IsSomeAnd (document_in schema.new.held) (HasTaken bytes.now (code_of result) d)) }
+    ensures misuse { (result ≡ Status.Misuse) ↔ (document_in schema.old.held ≡ None) }
+    ensures failed { result ≡ Status.Misuse → schema.new.held ≡ schema.old.held }
+{
+    let Some(mut held) = schema.take(alloc) else {
+        return Status::Misuse;
+    };
+    let status = match &mut *held {
+        Held::Document(document) => match document.feed(bytes) {
+            Ok(()) => Status::Done,
+            Err(DocumentFault::Malformed { .. }) => Status::Malformed,
+            Err(DocumentFault::Memory) => Status::Memory,
+        },
+        Held::Schema(_) => Status::Misuse,
+    };
+    schema.put(held);
+    status
+}
+
+/// The line from which on nothing valid can begin, 0 while it is not known.
+///
+/// `Misuse` exactly if no document is begun. Takes no memory.
+pub fn invalid_since(alloc: Global, schema: &mut Handle) -> Result<u64, Status>
+    ensures value { IfOk result (λ line. IsSomeAnd (document_in schema.old.held) (IsInvalidSince line)) }
+    ensures misuse { IfErr result (λ status. (status ≡ Status.Misuse) × (document_in schema.old.held ≡ None)) }
+    ensures kept { schema.new.held ≡ schema.old.held }
+{
+    let Some(held) = schema.take(alloc) else {
+        return Err(Status::Misuse);
+    };
+    let line = match held.as_ref() {
+        Held::Document(document) => Ok(hopeless_line(document)),
+        Held::Schema(_) => Err(Status::Misuse),
+    };
+    schema.put(held);
+    line
+}
+
+/// The line from which on nothing valid can begin, 0 while it is not known. Takes no memory.
+fn hopeless_line(document: &Document) -> u64
+    ensures { IsInvalidSince result document.now }
+{
+    document.invalid_since().unwrap_or(0)
+}
+
+/// Ends the document, and tells the verdict on it. The handle holds the schema from then on.
+///
+/// `Misuse` exactly if no document is begun; or `Memory`, and then the document has ended too. Costs what `Document::finish` takes.
+pub fn end(alloc: Global, schema: &mut Handle, told: &mut Judgement) -> Status
+    ensures ended { IfSome (document_in schema.old.held) (λ d. HasEnded d (code_of result) told.old told.new) }
+    ensures misuse { (result ≡ Status.Misuse) ↔ (document_in schema.old.held ≡ None) }
+    ensures failed { result ≡ Status.Misuse → (schema.new.held ≡ schema.old.held) × (told.new ≡ told.old) }
+    ensures kept { schema_in schema.new.held ≡ grammar_in schema.old.held }
+{
+    let Some(mut held) = schema.take(alloc) else {
+        return Status::Misuse;
+    };
+    let answer = replace_with(&mut *held, (), ended);
+    schema.put(held);
+    match answer {
+        Some(answer) => tell(answer, told),
+        None => Status::Misuse,
+    }
+}
+
+/// The schema in place of a document that has ended, and what `Document::finish` answers; or what was held, where that was no document.
+fn ended(held: Held, _nothing: ()) -> (Held, Option<Result<Verdict, OutOfMemory>>)
+    ensures ended { IfSome (document_in (Some held)) (λ d. IsSomeAnd result.1 (IsEndOf d)) }
+    ensures none { IfNone result.1 ((document_in (Some held) ≡ None) × (result.0 ≡ held)) }
+    ensures some { OnSome result.1 (document_in (Some held) ≢ None) }
+    ensures kept { schema_in (Some result.0) ≡ grammar_in (Some held) }
+{
+    match held {
+        Held::Document(document) => {
+            let (validator, answer) = document.finish();
+            (Held::Schema(validator), Some(answer))
+        }
+        Held::Schema(validator) => (Held::Schema(validator), None),
+    }
+}
+
+/// Tells a verdict, if there is one.
+fn tell(answer: Result<Verdict, OutOfMemory>, told: &mut Judgement) -> Status
+    ensures status { result ≡ status_of_end answer }
+    ensures told { told.new ≡ told_at_end told.old answer }
+    ensures not_misuse { result ≢ Status.Misuse }
+{
+    match answer {
+        Ok(verdict) => {
+            *told = judgement_to_tell(verdict);
+            Status::Done
+        }
+        Err(_) => Status::Memory,
+    }
+}

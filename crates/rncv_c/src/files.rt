@@ -1,0 +1,67 @@
+// The files of a schema, as C hands them in.
+ghost use Rattle.std.specs.Prelude.{◌≡◌, ◌<◌, ◌^◌, ◌↔◌, IfOk, IfSome, IsTrue, bytes_eq, position};
+ghost use Rattle.rnc_model.specs.loading.Files.{named_files};
+ghost use Rattle.rncv_model.specs.answers.Run.{main_name};
+ghost use Rattle.rncv_c.specs.views.Files.{AreNamed, files_of, index_of, main_of};
+
+use std::alloc::{AllocError, Global};
+
+/// A file of a schema as C sees it: two pointers, each with a length. No pointer is null.
+#[repr(C)]
+#[derive(Clone, Copy)]
+pub struct SchemaFile<'a> {
+    pub name: &'a [u8],
+    pub bytes: &'a [u8],
+}
+
+/// Whether there is a file, and each name is UTF-8. One pass over the names.
+pub fn are_named(files: &[SchemaFile<'_>]) -> bool
+    ensures { IsTrue result ↔ AreNamed files.now }
+{
+    for file in files {
+        let Ok(_) = str::from_utf8(file.name) else {
+            return false;
+        };
+    }
+    !files.is_empty()
+}
+
+/// The files, copied. The error is want of memory.
+pub fn copied_files(
+    alloc: Global,
+    files: &[SchemaFile<'_>],
+) -> Result<Vec<(String, Vec<u8>)>, AllocError>
+    requires { AreNamed files.now }
+    ensures files { IfOk result (λ copy. named_files copy.items ≡ files_of files.now) }
+    ensures main { IfOk result (λ copy. main_name copy.items ≡ main_of files.now) }
+{
+    let mut copy = Vec::new(alloc);
+    for file in files {
+        let Ok(name) = str::from_utf8(file.name) else {
+            unreachable!();
+        };
+        copy.push((
+            String::from_str(alloc, name)?,
+            Vec::from_slice(alloc, file.bytes)?,
+        ))?;
+    }
+    Ok(copy)
+}
+
+/// The index of the first file of this name, or -1 where there is none. One pass over the names.
+pub fn index_of_file(files: &[SchemaFile<'_>], name: &str) -> i64
+    ensures { result ≡ index_of name.now files.now }
+{
+    match place_of(files, name.as_bytes()) {
+        Some(index) => index as i64,
+        None => -1,
+    }
+}
+
+/// The place of the first file of this name.
+fn place_of(files: &[SchemaFile<'_>], name: &[u8]) -> Option<usize>
+    ensures place { result ≡ position (λ f. bytes_eq f.name.now name.now) files.now }
+    ensures small { IfSome result (λ index. index < 2 ^ 63) }
+{
+    files.iter().position(|file| file.name == name)
+}

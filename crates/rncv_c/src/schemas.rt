@@ -1,0 +1,160 @@
+// The work over a handle that holds a schema.
+ghost use Rattle.std.specs.Prelude.{◌≡◌, ◌≢◌, ◌↔◌, ◌<◌, ◌++◌, length, drop, IfErr, IfOk, IfSome, IsErrOf, IsSomeAnd};
+ghost use Rattle.std.specs.declared.option.Option.TheVariants.{None, Some};
+ghost use Rattle.rncv_model.specs.answers.Compiled.{IsRefusal};
+ghost use Rattle.rncv_validator.specs.views.Validators.{IsOneFor};
+ghost use Rattle.rncv_c.specs.views.Files.{AreNamed, files_of, main_of};
+ghost use Rattle.rncv_c.specs.views.Held.{schema_in};
+ghost use Rattle.rncv_c.specs.views.Texts.{IsTextOf, IsTooLong, IsWritten};
+ghost use Rattle.rncv_c.specs.views.Told.{AreRefused};
+
+use crate::files::{SchemaFile, are_named, copied_files};
+use crate::handle::{Handle, Held};
+use crate::status::Status;
+use crate::told::{Refusal, refusal_to_tell};
+use rncv_validator::Validator;
+use rng_model::SchemaFault;
+use std::alloc::Global;
+
+/// Compiles the schema of these files, of which the first is the main one, and puts it into the handle.
+///
+/// `Misuse` exactly if there is no file or a name is not UTF-8; `Refused` where the files break a clause, which is told; or `Memory`. Costs
+/// what `Validator::compile` takes, and a copy of the files.
+pub fn compile(
+    alloc: Global,
+    files: &[SchemaFile<'_>],
+    schema: &mut Handle,
+    fault: &mut Refusal,
+) -> Status
+    ensures done { result ≡ Status.Done → IsSomeAnd (schema_in schema.new.held) (IsOneFor (files_of files.now) (main_of files.now)) }
+    ensures refused { result ≡ Status.Refused → AreRefused files.now fault.new }
+    ensures misuse { result ≡ Status.Misuse → ¬ (AreNamed files.now) }
+    ensures named { result ≢ Status.Misuse → AreNamed files.now }
+    ensures others { (result ≢ Status.Malformed) × (result ≢ Status.Space) }
+    ensures failed { result ≢ Status.Done → schema.new ≡ schema.old }
+    ensures untold { result ≢ Status.Refused → fault.new ≡ fault.old }
+{
+    if !are_named(files) {
+        return Status::Misuse;
+    }
+    match compiled(alloc, files) {
+        Ok(validator) => hold(alloc, validator, schema),
+        Err(cause) => match refusal_to_tell(files, &cause) {
+            Some(told) => {
+                *fault = told;
+                Status::Refused
+            }
+            None => Status::Memory,
+        },
+    }
+}
+
+/// The schema of a copy of the files.
+fn compiled(alloc: Global, files: &[SchemaFile<'_>]) -> Result<Validator, SchemaFault>
+    requires { AreNamed files.now }
+    ensures compiled { IfOk result (IsOneFor (files_of files.now) (main_of files.now)) }
+    ensures refused { IfErr result (IsRefusal (files_of files.now) (main_of files.now)) }
+{
+    let Ok(copy) = copied_files(alloc, files) else {
+        return Err(SchemaFault::Memory);
+    };
+    Validator::compile(alloc, copy.as_slice())
+}
+
+/// A second handle on the same schema, for another thread. What `other` held is freed.
+///
+/// `Misuse` exactly if `schema` holds no schema or a document is begun; or `Memory`. Takes a few bytes.
+pub fn share(alloc: Global, schema: &mut Handle, other: &mut Handle) -> Status
+    ensures done { result ≡ Status.Done → schema_in other.new.held ≡ schema_in schema.old.held }
+    ensures misuse { (result ≡ Status.Misuse) ↔ (schema_in schema.old.held ≡ None) }
+    ensures others { result ≢ Status.Done → result ≢ Status.Misuse → result ≡ Status.Memory }
+    ensures failed { result ≢ Status.Done → other.new ≡ other.old }
+    ensures kept { schema.new.held ≡ schema.old.held }
+{
+    match shared(alloc, schema) {
+        Ok(validator) => hold(alloc, validator, other),
+        Err(status) => status,
+    }
+}
+
+/// Another validator by the schema that the handle holds, and goes on to hold.
+fn shared(alloc: Global, schema: &mut Handle) -> Result<Validator, Status>
+    ensures value { IfOk result (λ v. schema_in schema.old.held ≡ Some v) }
+    ensures kept { schema.new.held ≡ schema.old.held }
+    ensures fault { IfErr result (λ status. status ≢ Status.Misuse → status ≡ Status.Memory) }
+    ensures misuse { IsErrOf result Status.Misuse ↔ (schema_in schema.old.held ≡ None) }
+{
+    let Some(held) = schema.take(alloc) else {
+        return Err(Status::Misuse);
+    };
+    let found = match held.as_ref() {
+        Held::Schema(validator) => validator.share().map_err(|_| Status::Memory),
+        Held::Document(_) => Err(Status::Misuse),
+    };
+    schema.put(held);
+    found
+}
+
+/// Writes the printed simple form to the buffer, if it fits, and its length.
+///
+/// `Misuse` exactly if the handle holds no schema or a document is begun; `Space` where the form does not fit; or `Memory`. Costs what
+/// `Validator::simple_text` takes, and a copy.
+pub fn simple(alloc: Global, schema: &mut Handle, buffer: &mut [u8], count: &mut usize) -> Status
+    ensures done { result ≡ Status.Done → IsSomeAnd (schema_in schema.old.held) (λ g. IsWritten g count.new buffer.old buffer.new) }
+    ensures space { result ≡ Status.Space → IsSomeAnd (schema_in schema.old.held) (λ g. IsTooLong g count.new buffer.old) }
+    ensures misuse { (result ≡ Status.Misuse) ↔ (schema_in schema.old.held ≡ None) }
+    ensures others { (result ≢ Status.Refused) × (result ≢ Status.Malformed) }
+    ensures failed { result ≢ Status.Done → buffer.new ≡ buffer.old }
+    ensures untold { result ≢ Status.Done → result ≢ Status.Space → count.new ≡ count.old }
+    ensures kept { schema.new.held ≡ schema.old.held }
+{
+    match simple_text(alloc, schema) {
+        Ok(text) => copied(text.as_slice(), buffer, count),
+        Err(status) => status,
+    }
+}
+
+/// The printed simple form of the schema that the handle holds, and goes on to hold.
+fn simple_text(alloc: Global, schema: &mut Handle) -> Result<Vec<u8>, Status>
+    ensures value { IfOk result (λ text. IsSomeAnd (schema_in schema.old.held) (λ g. IsTextOf g text.items)) }
+    ensures kept { schema.new.held ≡ schema.old.held }
+    ensures fault { IfErr result (λ status. status ≢ Status.Misuse → status ≡ Status.Memory) }
+    ensures misuse { IsErrOf result Status.Misuse ↔ (schema_in schema.old.held ≡ None) }
+{
+    let Some(held) = schema.take(alloc) else {
+        return Err(Status::Misuse);
+    };
+    let text = match held.as_ref() {
+        Held::Schema(validator) => validator.simple_text(alloc).map_err(|_| Status::Memory),
+        Held::Document(_) => Err(Status::Misuse),
+    };
+    schema.put(held);
+    text
+}
+
+/// Copies the text to the front of the buffer, if it fits, and tells its length.
+fn copied(text: &[u8], buffer: &mut [u8], count: &mut usize) -> Status
+    ensures done { result ≡ Status.Done → buffer.new ≡ text.now ++ drop (length text.now) buffer.old }
+    ensures space { result ≢ Status.Done → (result ≡ Status.Space) × (length buffer.old < length text.now) × (buffer.new ≡ buffer.old) }
+    ensures count { count.new ≡ length text.now }
+{
+    *count = text.len();
+    if buffer.len() < text.len() {
+        return Status::Space;
+    }
+    let (front, _) = buffer.split_at_mut(text.len());
+    front.copy_from_slice(text);
+    Status::Done
+}
+
+/// Puts a schema into the handle. What it held is freed.
+fn hold(alloc: Global, validator: Validator, schema: &mut Handle) -> Status
+    ensures done { result ≡ Status.Done → schema_in schema.new.held ≡ Some validator }
+    ensures failed { result ≢ Status.Done → (result ≡ Status.Memory) × (schema.new ≡ schema.old) }
+{
+    let Ok(held) = Box::new(alloc, Held::Schema(validator)) else {
+        return Status::Memory;
+    };
+    schema.put(held);
+    Status::Done
+}

@@ -1,0 +1,156 @@
+/* rncv.h: a RELAX NG validator. It compiles a schema once and judges documents by it, one after the other.
+ *
+ * A schema is a set of files in the RELAX NG Compact Syntax. A document is in the notation of PYX, one event a line (docs/XML.md says how XML
+ * is turned into it).
+ *
+ *     rncv_schema schema = RNCV_NOTHING;
+ *     rncv_fault fault;
+ *     rncv_verdict verdict;
+ *
+ *     if (rncv_compile(files, count, &schema, &fault) == RNCV_DONE) {
+ *         rncv_document_begin(&schema);
+ *         while (...) {
+ *             rncv_document_feed(&schema, bytes, length);
+ *         }
+ *         rncv_document_end(&schema, &verdict);
+ *         rncv_schema_free(&schema);
+ *     }
+ *
+ * Handles. `rncv_schema` holds nothing, or a schema, or a schema with a document in progress. Start each one as RNCV_NOTHING, pass its address,
+ * and free it by rncv_schema_free. Do not change what is in it. Do not copy it and use both copies: rncv_schema_share makes a second one.
+ *
+ * Ownership. Each function copies what it keeps. The caller's bytes may go as soon as a function returns. The library allocates by `malloc`
+ * and `realloc`, and frees by `free`.
+ *
+ * Threads. There is no global state. Calls on different handles may run in different threads at the same time. Calls on one handle may not: give
+ * each thread a handle of its own by rncv_schema_share. A handle may go to another thread between two calls.
+ *
+ * What the caller must keep. The arguments of one call are different objects. No pointer is NULL, but where a comment allows it. No function is
+ * called from a signal handler, or in the child of a fork of a process with several threads.
+ *
+ * Output. The library writes nothing, opens no file, and does not end the process.
+ */
+#ifndef RNCV_H
+#define RNCV_H
+
+#include <stddef.h>
+#include <stdint.h>
+
+#define RNCV_VERSION_MAJOR 0
+#define RNCV_VERSION_MINOR 1
+#define RNCV_VERSION_PATCH 0
+#define RNCV_VERSION "0.1.0"
+
+#ifdef __cplusplus
+extern "C" {
+#endif
+
+/* A schema, and perhaps a document in progress. */
+typedef struct rncv_schema {
+    void *hidden;
+} rncv_schema;
+
+/* A handle that holds nothing. */
+#define RNCV_NOTHING {NULL}
+
+/* A file of a schema. `name` is UTF-8, and is what other files mention it by. The text need not end in a zero.
+ * The pointers are not NULL, also where the length beside them is 0. */
+typedef struct rncv_file {
+    const uint8_t *name;
+    size_t name_length;
+    const uint8_t *bytes;
+    size_t length;
+} rncv_file;
+
+/* Why files are refused: they break the clause S1 to S27 with this number (rncv_clause_title). */
+typedef struct rncv_fault {
+    int32_t clause; /* 1 to 27 */
+    int64_t file;   /* the index of the first file with the name of the file that breaks the clause; -1 where the clause is not of one file,
+                       or no file with that name was passed */
+    int64_t offset; /* -1: not known */
+    int64_t line;   /* -1: not known */
+    int64_t column; /* -1: not known */
+} rncv_fault;
+
+/* What a document is. */
+typedef struct rncv_verdict {
+    int32_t kind;   /* RNCV_VALID, RNCV_INVALID or RNCV_BROKEN */
+    int32_t clause; /* RNCV_BROKEN: the document breaks the clause P1 to P13 with this number; else 0 */
+    uint64_t line;  /* RNCV_INVALID: the line, from 1, after which no continuation is valid; RNCV_BROKEN: the line of the clause, 0 where
+                       it has none; RNCV_VALID: 0 */
+} rncv_verdict;
+
+/* The kinds of a verdict. */
+enum {
+    RNCV_VALID = 0,
+    RNCV_INVALID = 1,
+    RNCV_BROKEN = 2
+};
+
+/* The statuses. A comment below names those that a function answers, besides RNCV_DONE. */
+enum {
+    RNCV_DONE = 0,      /* the call did what it says */
+    RNCV_REFUSED = 1,   /* the files of the schema break a clause */
+    RNCV_MALFORMED = 2, /* the document breaks a clause */
+    RNCV_MEMORY = 3,    /* there was no memory */
+    RNCV_MISUSE = 4,    /* the handle does not hold what the call needs, or an argument is wrong */
+    RNCV_SPACE = 5      /* the buffer is too small */
+};
+
+/* Compiles the schema of `count` files, of which the first is the main one, and puts it into `schema`. What `schema` held is freed.
+ *
+ * RNCV_REFUSED: the files break a clause, and `fault` says which. RNCV_MEMORY. RNCV_MISUSE: `count` is 0, or a name is not UTF-8.
+ * Without RNCV_DONE `schema` stays as it was. Without RNCV_REFUSED `fault` stays as it was. `files` may be NULL where `count` is 0. */
+int32_t rncv_compile(const rncv_file *files, size_t count, rncv_schema *schema, rncv_fault *fault);
+
+/* Makes `other` a second handle on the same schema, as for another thread. What `other` held is freed. Each of the two is freed by itself.
+ * The schema is shared and not copied.
+ *
+ * RNCV_MEMORY. RNCV_MISUSE: `schema` holds no schema, or a document is in progress. Without RNCV_DONE `other` stays as it was. */
+int32_t rncv_schema_share(rncv_schema *schema, rncv_schema *other);
+
+/* Frees what the handle holds, and lets go of a document in progress. The handle holds nothing from then on. A second call does nothing. */
+void rncv_schema_free(rncv_schema *schema);
+
+/* Begins a document. One that is in progress is let go of. What was worked out of the schema for earlier documents is kept, and makes this one
+ * cheaper.
+ *
+ * RNCV_MEMORY: no document is in progress; the handle still holds the schema. RNCV_MISUSE: the handle holds nothing. */
+int32_t rncv_document_begin(rncv_schema *schema);
+
+/* Hands the next bytes of the document to it. A piece may end anywhere, in the middle of a line or of a character too.
+ * `bytes` may be NULL where `length` is 0.
+ *
+ * RNCV_MALFORMED: the document breaks a clause; rncv_document_end says which, and where. RNCV_MEMORY: there was no memory, or the document
+ * came to 2^63 bytes. Each later call for this document answers the same. RNCV_MISUSE: no document is in progress. */
+int32_t rncv_document_feed(rncv_schema *schema, const uint8_t *bytes, size_t length);
+
+/* Writes the line, from 1, from which on nothing valid can begin to `line`, and 0 while no such line is known. Once it is known,
+ * rncv_document_end tells RNCV_INVALID with this line, or RNCV_BROKEN, or answers RNCV_MEMORY. Takes no memory.
+ *
+ * RNCV_MISUSE: no document is in progress; `line` stays as it was. */
+int32_t rncv_document_invalid_since(rncv_schema *schema, uint64_t *line);
+
+/* Ends the document and writes the verdict on it to `verdict`. The handle holds the schema from then on, for the next document.
+ * The status is RNCV_DONE whatever the verdict is.
+ *
+ * RNCV_MEMORY: there was no memory for the document; it has ended too, and `verdict` stays as it was. RNCV_MISUSE: no document is in progress;
+ * `verdict` stays as it was. */
+int32_t rncv_document_end(rncv_schema *schema, rncv_verdict *verdict);
+
+/* Writes the simple form of the schema, as text, to `buffer`, which has `size` bytes, and the text's length to `length`. The text does not end in
+ * a zero. `buffer` may be NULL where `size` is 0. Each call prints the form anew.
+ *
+ * RNCV_SPACE: the text does not fit; nothing is written to `buffer`, and `length` says how many bytes it wants. RNCV_MEMORY and RNCV_MISUSE:
+ * `length` stays as it was; misuse is that the handle holds no schema, or a document is in progress. */
+int32_t rncv_simple(rncv_schema *schema, uint8_t *buffer, size_t size, size_t *length);
+
+/* The title of a clause, in English: group 'S' with 1 to 27, or group 'P' with 1 to 13. NULL for any other. The text is constant, ends in a
+ * zero, and is never freed. */
+const char *rncv_clause_title(char group, int32_t clause);
+
+#ifdef __cplusplus
+}
+#endif
+
+#endif
