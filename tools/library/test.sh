@@ -60,6 +60,10 @@ for backend in ${BACKENDS:-llvm rattle}; do
 
     # the shared object, called from Python
     run python3 -B "$here/tests/library_test.py" "$build/lib/librncv.so"
+    run "$top/tools/python/test.sh" "$build/lib/librncv.so"
+
+    # the programs of README and of docs/LIBRARY.md
+    run python3 -B "$here/tests/readme_test.py" "$build"
 
     # a program that is linked as pkg-config says, with the shared object
     if command -v pkg-config > /dev/null; then

@@ -1,0 +1,529 @@
+"""Judges documents by RELAX NG schemas, with the C library of `rncv`. Nothing in this module is proved; docs/LIBRARY.md says what is.
+
+    import rncv
+
+    with rncv.compile("examples/letter/s.rnc") as validator, open("examples/letter/document.pyx", "rb") as document:
+        print(validator.validate(document))
+
+A schema is a set of files in the RELAX NG Compact Syntax. A document is in the notation of PYX, one event a line (docs/XML.md says how XML is turned
+into it). A schema is compiled once and judges documents one after the other.
+
+The library is the file that the variable RNCV_LIBRARY names; else it is looked for beside this package, in `build/library/lib` of the checkout that
+this package is in, and where the system keeps libraries. It is loaded at the first call that wants it.
+
+Threads. A validator judges one document at a time: a second one at the same time is a RuntimeError. `Validator.share` makes another validator by the
+same schema, for another thread. The library runs without the lock of the interpreter. No object of this module is copied or pickled. After `os.fork`
+in a process with several threads the child does not use the validators of its parent.
+"""
+
+from __future__ import annotations
+
+import contextlib
+import ctypes
+import ctypes.util
+import dataclasses
+import functools
+import os
+import pathlib
+import threading
+import weakref
+from collections.abc import Generator, Iterable, Iterator, Mapping
+from types import TracebackType
+from typing import Any, BinaryIO, NoReturn, Optional, Type, Union, overload
+
+__all__ = ["Document", "LibraryError", "SchemaError", "Validator", "Verdict", "clause_title", "compile"]
+__version__ = "0.1.0"
+
+Bytes = Union[bytes, bytearray, memoryview]
+Path = Union[str, "os.PathLike[str]"]
+
+# One more than a file of a schema may have: a longer one breaks S2, and no more of it is read.
+_FILE_BYTES = 1_048_577
+# So much is read of a file of a document at once.
+_READ_BYTES = 65_536
+# So much is handed to the library in one call. Between two calls the interpreter answers signals.
+_CALL_BYTES = 1_048_576
+# The first buffer for a simple form; a longer form is asked for twice.
+_TEXT_BYTES = 65_536
+
+_DONE, _REFUSED, _MALFORMED, _MEMORY, _MISUSE, _SPACE = range(6)
+_KINDS = ("valid", "invalid", "malformed")
+_NAMES = ("librncv.so", "librncv.so.0", "librncv.dylib")
+
+
+class LibraryError(OSError):
+    """The C library was not found, or is not that of this module."""
+
+
+class SchemaError(ValueError):
+    """The files are not a schema: they break a clause, S1 to S27.
+
+    `clause` is its number, and `title` says in English what it asks for. `file` is the name of the file that breaks it, and `index` the place of the
+    first file with this name; both are None where the clause is not of one file, or where that file was not handed in. `offset`, `line` and `column`
+    are None where they are not known.
+    """
+
+    def __init__(
+        self,
+        clause: int,
+        title: str,
+        file: Optional[str] = None,
+        index: Optional[int] = None,
+        offset: Optional[int] = None,
+        line: Optional[int] = None,
+        column: Optional[int] = None,
+    ) -> None:
+        super().__init__(clause, title, file, index, offset, line, column)
+        self.clause, self.title, self.file, self.index = clause, title, file, index
+        self.offset, self.line, self.column = offset, line, column
+
+    def __str__(self) -> str:
+        file = "" if self.file is None else f" file {self.file}"
+        return f"refused S{self.clause}{file}: {self.title}"
+
+
+@dataclasses.dataclass(frozen=True)
+class Verdict:
+    """What a document is. It is true exactly if the document is valid, and `str` of it is the answer of the program.
+
+    `kind` is "valid", "invalid" or "malformed". `clause` is the number of the clause P1 to P13 that a malformed document breaks, else 0. `line` counts
+    from 1: of an invalid document the line after which no continuation is valid, of a malformed one the line of the clause, or 0 where it has none;
+    0 for a valid one.
+    """
+
+    kind: str
+    clause: int = 0
+    line: int = 0
+
+    @property
+    def valid(self) -> bool:
+        """Whether the document is valid."""
+        return self.kind == "valid"
+
+    @property
+    def title(self) -> Optional[str]:
+        """What the clause asks for, in English; None where the document breaks none."""
+        return clause_title("P", self.clause)
+
+    def __bool__(self) -> bool:
+        return self.valid
+
+    def __str__(self) -> str:
+        if self.kind == "malformed":
+            return f"malformed P{self.clause} line {self.line}"
+        return self.kind if self.valid else f"{self.kind} line {self.line}"
+
+
+class _Schema(ctypes.Structure):
+    """A handle of the library."""
+
+    _fields_ = [("hidden", ctypes.c_void_p)]
+
+
+class _File(ctypes.Structure):
+    """A file of a schema, as the library takes it."""
+
+    _fields_ = [
+        ("name", ctypes.c_char_p),
+        ("name_length", ctypes.c_size_t),
+        ("bytes", ctypes.c_char_p),
+        ("length", ctypes.c_size_t),
+    ]
+
+
+class _Fault(ctypes.Structure):
+    """Why files are refused, as the library tells it."""
+
+    _fields_ = [
+        ("clause", ctypes.c_int32),
+        ("file", ctypes.c_int64),
+        ("offset", ctypes.c_int64),
+        ("line", ctypes.c_int64),
+        ("column", ctypes.c_int64),
+    ]
+
+
+class _Verdict(ctypes.Structure):
+    """What a document is, as the library tells it."""
+
+    _fields_ = [("kind", ctypes.c_int32), ("clause", ctypes.c_int32), ("line", ctypes.c_uint64)]
+
+
+class Validator:
+    """A compiled schema. `rncv.compile` makes one; it judges documents one after the other.
+
+    What was worked out of the schema for one document is kept for the next ones. A `with` block closes it at its end. A validator that is no longer
+    used is freed with or without `close`. Every call on one that is closed raises ValueError.
+    """
+
+    def __init__(self, handle: _Schema) -> None:
+        if not isinstance(handle, _Schema):
+            raise TypeError("a validator is made by rncv.compile")
+        self._library = _library()
+        self._handle = handle
+        # Each call on the handle is made under this lock. A destructor or a signal may call again in the same thread, before or after such a call.
+        self._lock = threading.RLock()
+        self._document: Optional[weakref.ReferenceType[Document]] = None
+        self._closed = False
+        self._free = weakref.finalize(self, self._library.rncv_schema_free, handle)
+        # Not at the end of the process: a thread may then still be in a call.
+        self._free.atexit = False
+
+    def validate(self, document: Union[Bytes, BinaryIO, Iterable[Bytes]]) -> Verdict:
+        """Judges a document: bytes, a binary file, which is read from where it stands to its end, or pieces that come one after the other.
+
+        No more of a file or of the pieces is taken once the document is malformed. An exception of the file or of the pieces goes to the caller, and
+        the validator can judge the next document. RuntimeError: another document is in progress. MemoryError: there was no memory.
+        """
+        pieces = _pieces_of(document)
+        with self.begin() as begun:
+            for piece in pieces:
+                if not begun.feed(piece):
+                    break
+            return begun.finish()
+
+    def begin(self) -> Document:
+        """Begins a document, which is then fed piece by piece.
+
+        RuntimeError: another document is in progress; it is one until it is finished, closed, or no longer referred to. MemoryError: there was no
+        memory.
+        """
+        with self._lock:
+            self._want_free()
+            document = Document(self)
+            self._document = weakref.ref(document)
+            status = self._library.rncv_document_begin(self._handle)
+            if status != _DONE:
+                self._document = None
+            _want_done(status)
+            return document
+
+    def share(self) -> Validator:
+        """Another validator by the same schema, which is not copied: as for another thread. Each of the two is closed by itself.
+
+        RuntimeError: a document is in progress. MemoryError: there was no memory.
+        """
+        with self._lock:
+            self._let_go()
+            other = _Schema()
+            _want_done(self._library.rncv_schema_share(self._handle, other))
+            return Validator(other)
+
+    def simple_text(self) -> bytes:
+        """The simple form of the schema, printed: a schema in the compact syntax again.
+
+        RuntimeError: a document is in progress. MemoryError: there was no memory.
+        """
+        with self._lock:
+            self._let_go()
+            length = ctypes.c_size_t(_TEXT_BYTES)
+            while True:
+                size = length.value
+                text = ctypes.create_string_buffer(size)
+                status = self._library.rncv_simple(self._handle, text, size, length)
+                if status != _SPACE:
+                    _want_done(status)
+                    return ctypes.string_at(text, length.value)
+
+    def close(self) -> None:
+        """Frees the schema, and lets go of a document in progress. A second call does nothing."""
+        with self._lock:
+            self._closed, self._document = True, None
+            self._free()
+
+    @property
+    def closed(self) -> bool:
+        """Whether the validator is closed."""
+        return self._closed
+
+    def __enter__(self) -> Validator:
+        self._want_open()
+        return self
+
+    def __exit__(self, kind: Optional[Type[BaseException]], error: Optional[BaseException], trace: Optional[TracebackType]) -> None:
+        self.close()
+
+    def __reduce__(self) -> NoReturn:
+        raise TypeError("a validator is not copied or pickled: Validator.share makes another one")
+
+    def _want_open(self) -> None:
+        if self._closed:
+            raise ValueError("the validator is closed")
+
+    def _want_free(self) -> None:
+        """Wants that no document is in progress to which somebody refers."""
+        self._want_open()
+        if self._document is not None and self._document() is not None:
+            raise RuntimeError("a document is in progress: a validator judges one at a time, and Validator.share makes another one")
+        self._document = None
+
+    def _let_go(self) -> None:
+        """Wants that no document is in progress, and lets go of one to which nobody refers."""
+        self._want_free()
+        self._library.rncv_document_end(self._handle, _Verdict())
+
+
+class Document:
+    """A document in progress. `Validator.begin` makes one.
+
+    A `with` block lets go of it at its end. Every call on one that was finished or let go of raises ValueError.
+    """
+
+    def __init__(self, validator: Validator) -> None:
+        self._validator = validator
+
+    def feed(self, piece: Bytes) -> bool:
+        """Takes the next bytes. A piece may end anywhere, in the middle of a line or of a character too.
+
+        It answers False once the document is malformed, and then more bytes change nothing; else True. MemoryError: there was no memory, and each
+        later call for this document says the same.
+        """
+        if type(piece) is bytes and len(piece) <= _CALL_BYTES:
+            return self._feed_part(piece)
+        with contextlib.closing(_parts_of(piece)) as parts:
+            return all(map(self._feed_part, parts))
+
+    def invalid_since(self) -> Optional[int]:
+        """The line, from 1, from which on nothing valid can begin; None while no such line is known."""
+        line = ctypes.c_uint64()
+        with self._validator._lock:
+            self._want_progress()
+            _want_done(self._validator._library.rncv_document_invalid_since(self._validator._handle, line))
+        return line.value or None
+
+    def finish(self) -> Verdict:
+        """Ends the document. The validator is free for the next one. MemoryError: there was no memory for the document, which has ended too."""
+        told = _Verdict()
+        with self._validator._lock:
+            self._want_progress()
+            status = self._validator._library.rncv_document_end(self._validator._handle, told)
+            self._validator._document = None
+        _want_done(status)
+        return Verdict(_KINDS[told.kind], told.clause, told.line)
+
+    def close(self) -> None:
+        """Lets go of the document, without a verdict. Does nothing where it has ended."""
+        with self._validator._lock:
+            if self._is_in_progress():
+                self._validator._document = None
+                self._validator._library.rncv_document_end(self._validator._handle, _Verdict())
+
+    def __enter__(self) -> Document:
+        with self._validator._lock:
+            self._want_progress()
+        return self
+
+    def __exit__(self, kind: Optional[Type[BaseException]], error: Optional[BaseException], trace: Optional[TracebackType]) -> None:
+        self.close()
+
+    def __reduce__(self) -> NoReturn:
+        raise TypeError("a document is not copied or pickled")
+
+    def _feed_part(self, part: bytes) -> bool:
+        """Takes bytes that are just `bytes`, in one call; the answer is that of `feed`."""
+        with self._validator._lock:
+            self._want_progress()
+            status = self._validator._library.rncv_document_feed(self._validator._handle, part, len(part))
+        if status == _MALFORMED:
+            return False
+        _want_done(status)
+        return True
+
+    def _is_in_progress(self) -> bool:
+        current = self._validator._document
+        return current is not None and current() is self
+
+    def _want_progress(self) -> None:
+        self._validator._want_open()
+        if not self._is_in_progress():
+            raise ValueError("the document has ended")
+
+
+@overload
+def compile(files: Mapping[str, Bytes], /) -> Validator: ...
+
+
+@overload
+def compile(*paths: Path) -> Validator: ...
+
+
+def compile(*files: Any) -> Validator:
+    """Compiles the schema of these files, of which the first is the main one.
+
+    They are paths, or one mapping of names to bytes. The name of a file is what other files mention it by, byte for byte: the path as it was given, or
+    the name in the mapping. (`pathlib` gives `./a.rnc` as `a.rnc`.) Of a file at most 1,048,577 bytes are read, since a longer one is refused. Files
+    that nest very deeply in one another may want more stack than the thread has, and that ends the process: docs/LIBRARY.md has figures.
+
+    SchemaError: the files break a clause. OSError: a file cannot be read. ValueError: there is no file, or a name is not UTF-8. MemoryError: there was
+    no memory. LibraryError: there is no library.
+    """
+    library = _library()
+    if len(files) == 1 and isinstance(files[0], Mapping):
+        pairs = [(name, _whole(text)) for name, text in files[0].items()]
+    else:
+        pairs = [(_name_of(path), _beginning_of(path)) for path in files]
+    if not pairs:
+        raise ValueError("a schema has at least one file")
+    # The array below points into these.
+    kept = [(_utf8_of(name), text) for name, text in pairs]
+    given = (_File * len(kept))(*[_File(name, len(name), text, len(text)) for name, text in kept])
+    handle, fault = _Schema(), _Fault()
+    status = library.rncv_compile(given, len(given), handle, fault)
+    if status == _REFUSED:
+        index = _known(fault.file)
+        name = None if index is None else pairs[index][0]
+        title = clause_title("S", fault.clause) or ""
+        raise SchemaError(fault.clause, title, name, index, _known(fault.offset), _known(fault.line), _known(fault.column))
+    _want_done(status)
+    return Validator(handle)
+
+
+def clause_title(group: str, clause: int) -> Optional[str]:
+    """The title of a clause, in English: group "S" with 1 to 27, or group "P" with 1 to 13. None for any other."""
+    if group not in ("S", "P") or not 0 < clause < 100:
+        return None
+    title: Optional[bytes] = _library().rncv_clause_title(group.encode("ascii"), clause)
+    return None if title is None else title.decode("utf-8")
+
+
+def _known(number: int) -> Optional[int]:
+    """A number that the library tells, where -1 is none."""
+    return None if number < 0 else number
+
+
+def _want_done(status: int) -> None:
+    """Wants that a call was done."""
+    if status == _MEMORY:
+        raise MemoryError("rncv: out of memory")
+    if status != _DONE:
+        raise RuntimeError(f"rncv: a call of the library answered {status}")
+
+
+def _name_of(path: Any) -> str:
+    name = os.fspath(path)
+    if not isinstance(name, str):
+        raise TypeError(f"a path is text, and not {type(name).__name__}")
+    return name
+
+
+def _beginning_of(path: Any) -> bytes:
+    """As much of the file as is read of one."""
+    with open(path, "rb") as file:
+        return file.read(_FILE_BYTES)
+
+
+def _utf8_of(name: Any) -> bytes:
+    if not isinstance(name, str):
+        raise TypeError(f"the name of a file is text, and not {type(name).__name__}")
+    try:
+        return str.encode(name, "utf-8")
+    except UnicodeEncodeError:
+        raise ValueError(f"the name of the file {name!r} is not UTF-8") from None
+
+
+def _whole(data: Any) -> bytes:
+    """Some bytes, copied unless they are just `bytes`."""
+    if type(data) is bytes:
+        return data
+    with memoryview(data) as view:
+        return view.tobytes()
+
+
+def _parts_of(data: Any) -> Generator[bytes, None, None]:
+    """The bytes in parts for one call each, copied where they might change during the call; one part where they are empty."""
+    with _flat(data) as view:
+        for begin in range(0, max(1, len(view)), _CALL_BYTES):
+            yield view[begin:begin + _CALL_BYTES].tobytes()
+
+
+def _flat(data: Any) -> memoryview:
+    """A view of the bytes one by one."""
+    view = memoryview(data)
+    if view.ndim == 1 and view.itemsize == 1:
+        return view
+    with view:
+        return memoryview(view.tobytes())
+
+
+def _pieces_of(document: Any) -> Iterator[Any]:
+    """The pieces of a document, however it was given."""
+    if isinstance(document, str):
+        raise TypeError("a document is bytes, and not str")
+    if isinstance(document, (bytes, bytearray, memoryview)):
+        return iter([document])
+    if hasattr(document, "read"):
+        return _read_pieces(document)
+    return iter([document]) if _is_buffer(document) else iter(document)
+
+
+def _read_pieces(file: Any) -> Iterator[Any]:
+    """The pieces of a binary file, to its end."""
+    while True:
+        piece = file.read(_READ_BYTES)
+        if piece is None:
+            raise BlockingIOError("the file has no bytes as yet: it has to be one that waits for them")
+        if not piece:
+            if isinstance(piece, str):
+                raise TypeError("a document is a binary file, and not one of text")
+            return
+        yield piece
+
+
+def _is_buffer(document: Any) -> bool:
+    """Whether an object shows its bytes, as an array does."""
+    try:
+        memoryview(document).release()
+    except TypeError:
+        return False
+    return True
+
+
+@functools.lru_cache(maxsize=None)
+def _library() -> ctypes.CDLL:
+    """The library, with the types of its functions."""
+    missed = []
+    for place, path in _places():
+        try:
+            if path is not None:
+                return _typed(ctypes.CDLL(path))
+            missed.append(f"  {place}: not there")
+        except (OSError, AttributeError) as error:
+            missed.append(f"  {place}: {error}")
+    looked_for = "\n".join(missed)
+    raise LibraryError(f"no library of rncv. tools/library/build.sh builds it, and RNCV_LIBRARY may name it. These were looked for:\n{looked_for}")
+
+
+def _places() -> Iterator[tuple[str, Optional[str]]]:
+    """Where the library may be, in the order in which it is looked for, with the file or the name to load, if there is one."""
+    named = os.environ.get("RNCV_LIBRARY")
+    if named:
+        yield f"RNCV_LIBRARY={named}", os.path.abspath(named)
+        return
+    package = pathlib.Path(__file__).resolve().parent
+    folders = [package, package.parent]
+    top = package.parents[2] if len(package.parents) > 2 else package
+    if (top / "tools/library/include/rncv.h").is_file():
+        folders.append(top / "build/library/lib")
+    for folder in folders:
+        there = [folder / name for name in _NAMES if (folder / name).exists()]
+        yield f"{folder}/{' or '.join(_NAMES)}", str(there[0]) if there else None
+    yield "the library rncv of the system", ctypes.util.find_library("rncv")
+
+
+def _typed(library: ctypes.CDLL) -> ctypes.CDLL:
+    """The library, once its functions are there and have their types."""
+    schema, size, status = ctypes.POINTER(_Schema), ctypes.c_size_t, ctypes.c_int32
+    for name, kinds, kind in [
+        ("rncv_compile", [ctypes.POINTER(_File), size, schema, ctypes.POINTER(_Fault)], status),
+        ("rncv_schema_share", [schema, schema], status),
+        ("rncv_schema_free", [schema], None),
+        ("rncv_document_begin", [schema], status),
+        ("rncv_document_feed", [schema, ctypes.c_char_p, size], status),
+        ("rncv_document_invalid_since", [schema, ctypes.POINTER(ctypes.c_uint64)], status),
+        ("rncv_document_end", [schema, ctypes.POINTER(_Verdict)], status),
+        ("rncv_simple", [schema, ctypes.c_char_p, size, ctypes.POINTER(size)], status),
+        ("rncv_clause_title", [ctypes.c_char, ctypes.c_int32], ctypes.c_char_p),
+    ]:
+        call = getattr(library, name)
+        call.argtypes, call.restype = kinds, kind
+    return library
