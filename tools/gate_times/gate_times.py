@@ -2,7 +2,11 @@
 
 Times of a processor are read from /proc four times a second, of each process of the prover: whose crate it checks, and whether that is the
 crate's proof, its tests or a must-fail edit, is told by its words and its folder.
+
+What a machine is worth is told by crates that have not changed: reference.txt beside this has the minutes of their proofs in an earlier table, with a
+checksum of what was proved, and by how much that table's processor is slower than the one for which the budget was set.
 """
+import hashlib
 import json
 import os
 import re
@@ -115,6 +119,7 @@ def table(seen):
         one = f"{sum(more) / len(more):.0f}" if more else ""
         print(f"| `{crate}` | {' | '.join(map(minutes, row))} | {one} | {minutes(sum(row))} |")
     print(f"| all | {' | '.join(map(minutes, total))} | | {minutes(sum(total))} |")
+    compare(sum(total), took)
     way, length = longest({key: end - start for key, (start, end) in spans.items()})
     for crate in crates():
         names = sorted(it.removesuffix(".edit") for it in os.listdir(f"{ROOT}/crates/{crate}/must-fail")) if edits[crate] else []
@@ -123,6 +128,33 @@ def table(seen):
         if dear:
             print(f"\nThe dearest edits of `{crate}`: " + ", ".join(f"`{name}` {seconds:.0f}" for seconds, name in dear), end="")
     print(f"\n\nThe longest way: {minutes(length)} minutes on the clock, {', '.join(way)}")
+
+
+def checksum(crate):
+    """Of what the proofs of a crate are about."""
+    summed = hashlib.sha256()
+    for folder in ("src", "specs", "proofs"):
+        for path, folders, files in os.walk(f"{ROOT}/crates/{crate}/{folder}"):
+            folders.sort()
+            for name in sorted(files):
+                with open(f"{path}/{name}", "rb") as it:
+                    summed.update(os.path.relpath(f"{path}/{name}", f"{ROOT}/crates").encode() + b"\0" + it.read() + b"\0")
+    return summed.hexdigest()[:16]
+
+
+def compare(total, took):
+    """Prints how much longer this machine took for what has not changed, and what the whole is by the budget's measure."""
+    with open(f"{os.path.dirname(os.path.abspath(__file__))}/reference.txt", encoding="utf-8") as lines:
+        rows = [line.split() for line in lines if line.strip() and not line.startswith("#")]
+    factor = float(rows[0][1])
+    then = {crate: (float(minutes), summed) for crate, minutes, summed in rows[1:]}
+    same = []
+    for crate, uses in crates().items():    # lowest first; what a crate uses counts, too: a program is built of all below it
+        if crate in then and then[crate][1] == checksum(crate) and set(uses) <= {name for name, _ in same}:
+            same.append((crate, then[crate][0]))
+    before, now = sum(minutes for _, minutes in same), sum(took[crate, "proofs"] for crate, _ in same) / 60
+    print(f"\nUnchanged: {len(same)} crates, whose proofs took {before:.1f} minutes and now take {now:.1f}: {now / before:.2f} times as long.")
+    print(f"By the budget's measure: {total / 60:.1f} / ({factor} * {now / before:.2f}) = {total / 60 / factor / (now / before):.0f} minutes.")
 
 
 def longest(clock):
