@@ -60,6 +60,7 @@ for backend in ${BACKENDS:-llvm rattle}; do
 
     # the shared object, called from Python
     run python3 -B "$here/tests/library_test.py" "$build/lib/librncv.so"
+    run python3 -B "$here/tests/rows_test.py" "$build/lib/librncv.so"
     run "$top/tools/python/test.sh" "$build/lib/librncv.so"
 
     # the programs of README and of docs/LIBRARY.md

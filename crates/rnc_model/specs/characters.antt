@@ -1,3 +1,4 @@
 -- The characters of a file.
 pub mod Characters
 pub mod Decoding
+pub mod FilePlaces

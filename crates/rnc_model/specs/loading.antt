@@ -1,4 +1,5 @@
 -- Mentions, load order, clauses 1 to 10.
+pub mod FaultPlaces
 pub mod FaultVerdicts
 pub mod Files
 pub mod GrammarNames

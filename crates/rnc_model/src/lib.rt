@@ -5,7 +5,9 @@
 #![tactic(auto)]
 
 mod character;
+mod file_place;
 mod token;
 
 pub use character::Character;
+pub use file_place::FilePlace;
 pub use token::{Keyword, Sign, Token, TokenKind};

@@ -43,6 +43,24 @@ ends o c small (suc k) = let q : o + 0 ≤ c + 0 + nesting_limit = omega (arith,
 pub exceeds_now : (o c : ℕ) (ts : List Lexeme) → c + nesting_limit < o → Exceeds o c ts
 exceeds_now o c ts large = let q : c + 0 + nesting_limit < o + 0 = omega (arith, large) in (zero, q)
 
+-- after so many opening brackets and so many closing ones, these tokens exceed the limit with so many of them, and with no fewer
+pub record IsFirst (opened closed : ℕ) (ts : List Lexeme) (count : ℕ) : Type 0 where
+  pub exceeds : closed + closings (take count ts) + nesting_limit < opened + openings (take count ts)
+  pub first : (k : ℕ) → k < count → opened + openings (take k ts) ≤ closed + closings (take k ts) + nesting_limit
+
+first_behind : (o c : ℕ) (x : Lexeme) (ts : List Lexeme) (count : ℕ) → o ≤ c + nesting_limit → IsFirst (o + counts x) (c + discounts x) ts count
+    → IsFirst o c (x ∷ ts) (suc count)
+first_behind o c x ts count small h =
+    let e : c + closings (x ∷ take count ts) + nesting_limit < o + openings (x ∷ take count ts) =
+    omega (arith, h.exceeds, openings-cons x (take count ts), closings-cons x (take count ts)) in
+    record { exceeds = e; first = first }
+  where
+    first : (k : ℕ) → k < suc count → o + openings (take k (x ∷ ts)) ≤ c + closings (take k (x ∷ ts)) + nesting_limit
+    first zero less = let q : o + 0 ≤ c + 0 + nesting_limit = omega (arith, small) in q
+    first (suc k) less =
+        let q : o + openings (x ∷ take k ts) ≤ c + closings (x ∷ take k ts) + nesting_limit =
+        omega (arith, h.first k (omega (arith, less)), openings-cons x (take k ts), closings-cons x (take k ts)) in q
+
 -- whether a token opens or closes a bracket is in its kind
 opens_alike : (k : TokenKind) (w : List ℕ) (n : ℕ) → is_opening (lexeme_at k w n) ≡ is_opening (lexeme_at k [] 0)
 opens_alike kinds.Identifier w n = refl
@@ -109,3 +127,12 @@ module _ (ts : List Token) (i : ℕ) (d : Token) (inside : i < length ts) (o c :
 
   pub breaks_back : Exceeds (o + m) (c + n) rest → Exceeds o c (lexemes_in (length ts) (drop i ts))
   breaks_back w = subst (Exceeds o c) (sym rest_is) (broke o c here rest (w.0, omega (arith, w.1, opened_is, closed_is)))
+
+  pub first_back : (k : ℕ) → o ≤ c + nesting_limit → IsFirst (o + m) (c + n) rest k → IsFirst o c (lexemes_in (length ts) (drop i ts)) (suc k)
+  first_back k small w = subst (λ (x : List Lexeme). IsFirst o c x (suc k)) (sym rest_is) (first_behind o c here rest k small
+      (record { exceeds = omega (arith, w.exceeds, opened_is, closed_is); first = λ j less. omega (arith, w.first j less, opened_is, closed_is) }))
+
+  pub first_here : o ≤ c + nesting_limit → c + n + nesting_limit < o + m → IsFirst o c (lexemes_in (length ts) (drop i ts)) 1
+  first_here small large = subst (λ (x : List Lexeme). IsFirst o c x 1) (sym rest_is) (first_behind o c here rest 0 small
+      (let q : c + discounts here + 0 + nesting_limit < o + counts here + 0 = omega (arith, large, opened_is, closed_is) in
+      record { exceeds = q; first = λ j less. absurd (omega (arith, less)) }))

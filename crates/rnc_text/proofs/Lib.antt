@@ -5,6 +5,7 @@ mod Held
 mod Escapes
 mod FrontCharacter
 mod OneDecoding
+mod FilePlaces
 mod CharacterClasses
 mod QuoteRuns
 mod Cursors

@@ -120,12 +120,12 @@ no_chars bs u e = go (chars bs) (encodes-chars bs u)
 -- ---- a character takes something
 
 -- what a character is made of
-record Parts (ns rest : List ℕ) : Type 0 where
+pub record Parts (ns rest : List ℕ) : Type 0 where
   pub front : List ℕ
   pub is : ns ≡ front ++ rest
   pub some : 0 < length front
 
-parts : {ns : List ℕ} {c : Character} {rest : List ℕ} → Begins ns c rest → Parts ns rest
+pub parts : {ns : List ℕ} {c : Character} {rest : List ℕ} → Begins ns c rest → Parts ns rest
 parts (carriage_return_line_feed is) = record { front = 0xD ∷ 0xA ∷ []; is = is; some = omega arith }
 parts (carriage_return is h) = record { front = 0xD ∷ []; is = is; some = omega arith }
 parts (line_feed is) = record { front = 0xA ∷ []; is = is; some = omega arith }

@@ -65,7 +65,7 @@ fn escape(text: &str) -> Option<(Character, &str)>
 
 /// The character that the text begins with, and what follows it.
 #[tactic(auto, unfolding(crate::specs::plain::DecodingSteps::front_of))]
-fn front(text: &str) -> Option<(Character, &str)>
+pub fn front(text: &str) -> Option<(Character, &str)>
     ensures { option_map (λ x. (x.0, chars x.1.now)) result ≡ front_of (chars text.now) }
 {
     let (first, after) = split_first(text)?;

@@ -1,8 +1,7 @@
 // The work over a handle that holds a document.
 ghost use Rattle.std.specs.Prelude.{◌≡◌, ◌≢◌, ◌↔◌, [], IfErr, IfNone, IfOk, IfSome, IsSomeAnd, OnSome};
 ghost use Rattle.std.specs.declared.option.Option.TheVariants.{None, Some};
-ghost use Rattle.rncv_validator.specs.views.Documents.{HasBeenFed};
-ghost use Rattle.rncv_c.specs.views.Calls.{HasEnded, HasTaken, IsEndOf, IsInvalidSince, status_of_end, told_at_end};
+ghost use Rattle.rncv_c.specs.views.Calls.{HasBegun, HasEnded, HasTaken, IsEndOf, IsInvalidSince, status_of_end, told_at_end};
 ghost use Rattle.rncv_c.specs.views.Held.{code_of, document_in, grammar_in, schema_in};
 
 use crate::handle::{Handle, Held};
@@ -19,7 +18,7 @@ use std::alloc::Global;
 /// `Misuse` exactly if the handle holds no schema; or `Memory`, and then no document is begun. Costs what `Validator::document` takes, and where a
 /// document is let go of what `Document::finish` takes.
 pub fn begin(alloc: Global, schema: &mut Handle) -> Status
-    ensures done { result ≡ Status.Done → IsSomeAnd (document_in schema.new.held) (λ d. HasBeenFed d []) }
+    ensures done { result ≡ Status.Done → IsSomeAnd (document_in schema.new.held) HasBegun }
     ensures memory { result ≡ Status.Memory → schema_in schema.new.held ≡ grammar_in schema.old.held }
     ensures misuse { (result ≡ Status.Misuse) ↔ (grammar_in schema.old.held ≡ None) }
     ensures others { result ≢ Status.Done → result ≢ Status.Misuse → result ≡ Status.Memory }
@@ -35,7 +34,7 @@ pub fn begin(alloc: Global, schema: &mut Handle) -> Status
 
 /// A document by the schema that was held, or the schema where there is no memory for one.
 fn begun(held: Held, alloc: Global) -> (Held, Status)
-    ensures done { result.1 ≡ Status.Done → IsSomeAnd (document_in (Some result.0)) (λ d. HasBeenFed d []) }
+    ensures done { result.1 ≡ Status.Done → IsSomeAnd (document_in (Some result.0)) HasBegun }
     ensures memory { result.1 ≢ Status.Done → (result.1 ≡ Status.Memory) × (schema_in (Some result.0) ≡ grammar_in (Some held)) }
     ensures kept { grammar_in (Some result.0) ≡ grammar_in (Some held) }
 {

@@ -1,8 +1,8 @@
 // The files of a schema, as C hands them in.
-ghost use Rattle.std.specs.Prelude.{◌≡◌, ◌<◌, ◌^◌, ◌↔◌, IfOk, IfSome, IsTrue, bytes_eq, position};
+ghost use Rattle.std.specs.Prelude.{◌≡◌, ◌<◌, ◌^◌, ◌↔◌, IfOk, IfSome, IsTrue, bytes_eq, option_map, position};
 ghost use Rattle.rnc_model.specs.loading.Files.{named_files};
 ghost use Rattle.rncv_model.specs.answers.Run.{main_name};
-ghost use Rattle.rncv_c.specs.views.Files.{AreNamed, files_of, index_of, main_of};
+ghost use Rattle.rncv_c.specs.views.Files.{AreNamed, file_at, files_of, index_for_c, main_of};
 
 use std::alloc::{AllocError, Global};
 
@@ -48,20 +48,31 @@ pub fn copied_files(
     Ok(copy)
 }
 
-/// The index of the first file of this name, or -1 where there is none. One pass over the names.
-pub fn index_of_file(files: &[SchemaFile<'_>], name: &str) -> i64
-    ensures { result ≡ index_of name.now files.now }
+/// The index of the first file of this name. One pass over the names.
+pub fn position_of(files: &[SchemaFile<'_>], name: &[u8]) -> Option<usize>
+    ensures position { result ≡ position (λ f. bytes_eq f.name.now name.now) files.now }
+    ensures small { IfSome result (λ index. index < 2 ^ 63) }
 {
-    match place_of(files, name.as_bytes()) {
+    files.iter().position(|file| file.name == name)
+}
+
+/// An index as C sees it; none is -1.
+pub fn index_to_tell(index: Option<usize>) -> i64
+    requires { IfSome index (λ i. i < 2 ^ 63) }
+    ensures { result ≡ index_for_c index }
+{
+    match index {
         Some(index) => index as i64,
         None => -1,
     }
 }
 
-/// The place of the first file of this name.
-fn place_of(files: &[SchemaFile<'_>], name: &[u8]) -> Option<usize>
-    ensures place { result ≡ position (λ f. bytes_eq f.name.now name.now) files.now }
-    ensures small { IfSome result (λ index. index < 2 ^ 63) }
+/// The file at an index.
+pub fn file_at<'t, 'a>(
+    files: &'t [SchemaFile<'a>],
+    index: Option<usize>,
+) -> Option<&'t SchemaFile<'a>>
+    ensures { option_map (λ f. f.now) result ≡ file_at index files.now }
 {
-    files.iter().position(|file| file.name == name)
+    files.get(index?)
 }

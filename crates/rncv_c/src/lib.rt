@@ -6,9 +6,8 @@
 
 ghost use Rattle.std.specs.Prelude.{◌≡◌, ◌≢◌, ◌↔◌, [], pos, IfSome, IsSomeAnd};
 ghost use Rattle.std.specs.declared.option.Option.TheVariants.{None, Some};
-ghost use Rattle.rncv_validator.specs.views.Documents.{HasBeenFed};
 ghost use Rattle.rncv_validator.specs.views.Validators.{IsOneFor};
-ghost use Rattle.rncv_c.specs.views.Calls.{HasEnded, HasTaken, IsInvalidSince};
+ghost use Rattle.rncv_c.specs.views.Calls.{HasBegun, HasEnded, HasTaken, IsInvalidSince};
 ghost use Rattle.rncv_c.specs.views.Files.{AreNamed, files_of, main_of};
 ghost use Rattle.rncv_c.specs.views.Held.{document_in, grammar_in, schema_in};
 ghost use Rattle.rncv_c.specs.views.Texts.{IsTooLong, IsWritten};
@@ -77,7 +76,7 @@ pub extern "C" fn rncv_schema_free(alloc: Global, schema: &mut Handle)
 /// where a document is let go of what `Document::finish` takes.
 #[unsafe(no_mangle)]
 pub extern "C" fn rncv_document_begin(alloc: Global, schema: &mut Handle) -> i32
-    ensures done { result ≡ pos 0 → IsSomeAnd (document_in schema.new.held) (λ d. HasBeenFed d []) }
+    ensures done { result ≡ pos 0 → IsSomeAnd (document_in schema.new.held) HasBegun }
     ensures memory { result ≡ pos 3 → schema_in schema.new.held ≡ grammar_in schema.old.held }
     ensures misuse { (result ≡ pos 4) ↔ (grammar_in schema.old.held ≡ None) }
     ensures others { result ≢ pos 0 → result ≢ pos 4 → result ≡ pos 3 }

@@ -18,8 +18,8 @@ use std::alloc::Global;
 
 /// Compiles the schema of these files, of which the first is the main one, and puts it into the handle.
 ///
-/// `Misuse` exactly if there is no file or a name is not UTF-8; `Refused` where the files break a clause, which is told; or `Memory`. Costs
-/// what `Validator::compile` takes, and a copy of the files.
+/// `Misuse` exactly if there is no file or a name is not UTF-8; `Refused` where the files break a clause, which is told with its place; or
+/// `Memory`. Costs what `Validator::compile` and `place_of` take, and a copy of the files.
 pub fn compile(
     alloc: Global,
     files: &[SchemaFile<'_>],
@@ -39,12 +39,12 @@ pub fn compile(
     }
     match compiled(alloc, files) {
         Ok(validator) => hold(alloc, validator, schema),
-        Err(cause) => match refusal_to_tell(files, &cause) {
-            Some(told) => {
+        Err(cause) => match refusal_to_tell(alloc, files, &cause) {
+            Ok(told) => {
                 *fault = told;
                 Status::Refused
             }
-            None => Status::Memory,
+            Err(_) => Status::Memory,
         },
     }
 }

@@ -1,11 +1,14 @@
 // What C is told of files that are refused, and of a document.
-ghost use Rattle.std.specs.Prelude.{◌≡◌};
+ghost use Rattle.std.specs.Prelude.{◌≡◌, IfOk, Some, option_map};
+ghost use Rattle.rncv_validator.specs.views.Places.{file_clause};
 ghost use Rattle.rncv_c.specs.views.Told as told;
-ghost use Rattle.rncv_c.specs.views.Told.{judgement_of, refusal_of};
+ghost use Rattle.rncv_c.specs.views.Told.{IsPlaceToTell, IsToldOf, judgement_of, number_for_c};
 
-use crate::files::{SchemaFile, index_of_file};
+use crate::files::{SchemaFile, file_at, index_to_tell, position_of};
 use rncv_model::Verdict;
-use rng_model::SchemaFault;
+use rncv_validator::{FilePlace, place_of};
+use rng_model::{OutOfMemory, SchemaFault};
+use std::alloc::Global;
 
 /// Why files are no schema, as C sees it: a clause, the index of the file that breaks it, and the place in it. What is not known is -1.
 #[repr(C)]
@@ -27,29 +30,67 @@ pub struct Judgement {
     pub line: u64,
 }
 
-/// Why the files are refused. None for want of memory. One pass over the names.
-pub fn refusal_to_tell(files: &[SchemaFile<'_>], cause: &SchemaFault) -> Option<Refusal>
-    ensures { result ≡ refusal_of files.now cause.now }
+/// Why the files are refused. The error is want of memory, which is also told where the cause is one. One pass over the names, and what
+/// `place_of` takes.
+pub fn refusal_to_tell(
+    alloc: Global,
+    files: &[SchemaFile<'_>],
+    cause: &SchemaFault,
+) -> Result<Refusal, OutOfMemory>
+    ensures { IfOk result (IsToldOf files.now cause.now) }
 {
     match cause {
         SchemaFault::File { clause, name } => {
-            Some(refusal_at(index_of_file(files, name.as_str()), *clause))
+            let index = position_of(files, name.as_bytes());
+            let place = place_in(alloc, file_at(files, index), *clause, cause)?;
+            Ok(refusal_at(index_to_tell(index), *clause, place))
         }
-        SchemaFault::Clause(clause) => Some(refusal_at(-1, *clause)),
-        SchemaFault::Memory => None,
+        SchemaFault::Clause(clause) => Ok(refusal_at(-1, *clause, None)),
+        SchemaFault::Memory => Err(OutOfMemory),
     }
 }
 
-/// The refusal by this clause, in the file of this index.
-fn refusal_at(file: i64, clause: u8) -> Refusal
-    ensures { result ≡ told.refusal_at file clause }
+/// The place at which a file breaks the clause of its fault, if there is a file, and it breaks the clause by what is in it.
+fn place_in(
+    alloc: Global,
+    file: Option<&SchemaFile<'_>>,
+    clause: u8,
+    cause: &SchemaFault,
+) -> Result<Option<FilePlace>, OutOfMemory>
+    requires { file_clause cause.now ≡ Some clause }
+    ensures { IfOk result (IsPlaceToTell (option_map (λ f. f.now) file) clause) }
 {
+    match file {
+        Some(file) => place_of(alloc, file.bytes, cause),
+        None => Ok(None),
+    }
+}
+
+/// A number as C sees it; -1 where it has none that is so large.
+fn number_to_tell(number: u64) -> i64
+    ensures { result ≡ number_for_c number }
+{
+    if number < 1 << 63 { number as i64 } else { -1 }
+}
+
+/// The refusal by this clause, in the file of this index, at this place.
+fn refusal_at(file: i64, clause: u8, place: Option<FilePlace>) -> Refusal
+    ensures { result ≡ told.refusal_at file clause place }
+{
+    let (offset, line, column) = match place {
+        Some(place) => (
+            number_to_tell(place.offset),
+            number_to_tell(place.line),
+            number_to_tell(place.column),
+        ),
+        None => (-1, -1, -1),
+    };
     Refusal {
         clause: clause as i32,
         file,
-        offset: -1,
-        line: -1,
-        column: -1,
+        offset,
+        line,
+        column,
     }
 }
 

@@ -1,5 +1,5 @@
 // A document that is judged piece by piece.
-ghost use Rattle.std.specs.Prelude.{◌≡◌, ◌⊎◌, ◌+◌, ◌^◌, ◌<◌, ◌++◌, ℕ, List, IfErr, IfOk, IfSome, Some, Err, length};
+ghost use Rattle.std.specs.Prelude.{◌≡◌, ◌⊎◌, ◌+◌, ◌^◌, ◌<◌, ◌++◌, ℕ, List, IfErr, IfOk, IfSome, OnOk, Some, None, Err, length};
 ghost use Rattle.std.specs.Bool.{OnTrue};
 ghost use Rattle.rng_model.specs.schema.Schema.{Schema};
 ghost use Rattle.rncv_model.specs.answers.Compiled.{IsVerdictOn};
@@ -68,6 +68,7 @@ impl Document {
         ensures grammar { self.new.grammar ≡ self.old.grammar }
         ensures fed { UnlessMemory result ((bytes : List ℕ) → HasBeenFed self.old bytes → HasBeenFed self.new (bytes ++ piece.now)) }
         ensures fault { IfErr result (λ f. (self.new.fault ≡ Some f) × IsFaultOfFed self.new f) }
+        ensures working { OnOk result (self.new.fault ≡ None) }
         ensures sticky { IfSome self.old.fault (λ f. (result ≡ Err f) × (self.new ≡ self.old)) }
         ensures since { IfSome (failed_since self.old) (λ line. UnlessMemory result (failed_since self.new ≡ Some line)) }
     {
@@ -100,8 +101,7 @@ impl Document {
     /// The line from which on nothing valid can begin, from 1, once it is known: what is fed is then no beginning of a valid document, and
     /// `finish` answers `Invalid` with this line, or `Malformed`.
     ///
-    /// It is known once the pattern that is left matches nothing; before, the start of no element with a name that no element of the schema's
-    /// simple form may have was fed. Takes no memory.
+    /// It is known once the pattern that is left matches nothing. Takes no memory.
     pub fn invalid_since(&self) -> Option<u64>
         ensures value { result ≡ failed_since self.now }
         ensures hopeless { IfSome result (λ line. (s : Schema) (bytes rest : List ℕ) → Judges self.now.grammar s → HasBeenFed self.now bytes

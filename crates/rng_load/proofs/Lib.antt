@@ -2,7 +2,7 @@ mod PlaceExamples
 mod PathExamples
 pub mod NameLists
 mod DistinctLists
-mod FileContent
+pub mod FileContent
 mod HandedIn
 mod TakenFiles
 mod NameSets

@@ -13,6 +13,7 @@ mod patterns;
 
 use case_rows::{Row, rows};
 use grammars::{print_grammar, print_grammars};
+use rnc_places::place_of;
 use rng_load::{Schema, load};
 use rng_model::{OutOfMemory, Place, SchemaFault};
 use std::alloc::Global;
@@ -22,7 +23,29 @@ fn main(rt: HostRuntime) -> io::Result<()> {
     for row in rows(&rt, "files.txt")? {
         print_answer(&rt, &row)?;
     }
+    for row in rows(&rt, "places.txt")? {
+        print_place(&rt, &row)?;
+    }
     Ok(())
+}
+
+/// Prints where the file of a row breaks a clause.
+fn print_place(rt: &(impl Print + AllocGlobal), row: &Row) -> io::Result<()> {
+    let mut file = Vec::new(rt.alloc());
+    for field in (0..row.field_count()).step_by(2) {
+        for _ in 0..times_of(row, field.wrapping_add(1)) {
+            file.extend_from_slice(row.bytes(field)?)?;
+        }
+    }
+    for clause in 0..=9 {
+        if let Ok(Some(place)) = place_of(rt.alloc(), file.as_slice(), clause) {
+            return println!(rt;
+                "S{clause} {} {}:{}",
+                place.offset, place.line, place.column
+            );
+        }
+    }
+    println!(rt; "none")
 }
 
 /// Prints what is asked for of the schema of a row, or why its files are none.

@@ -66,7 +66,7 @@ def main():
     assert lib.rncv_compile(None, 0, schema, fault) == MISUSE
     refused = files_of((b"s.rnc", b'include "b.rnc"'), (b"b.rnc", b"element a {"))
     assert lib.rncv_compile(refused, len(refused), schema, fault) == REFUSED
-    assert (fault.clause, fault.file, fault.offset) == (6, 1, -1)
+    assert (fault.clause, fault.file, fault.offset, fault.line, fault.column) == (6, 1, 11, 1, 12)
     assert lib.rncv_clause_title(b"S", fault.clause).startswith(b"the tokens are a sentence")
 
     files = files_of((b"s.rnc", b"element a { text }"))

@@ -1,5 +1,5 @@
 -- What calls of a document answer in numbers, by what its own functions answer.
-use Rattle.std.specs.Prelude.{◌≡◌, ◌⊎◌, ℕ, ℤ, List, ◌++◌, Some, Result, Ok, Err, IfErr, IfOk, IfSome, unwrap_or}
+use Rattle.std.specs.Prelude.{◌≡◌, ◌⊎◌, ℕ, ℤ, List, [], ◌++◌, Some, None, Result, Ok, Err, IfErr, IfOk, IfSome, OnOk, unwrap_or}
 use Rattle.rng_model.specs.schema.Schema.{Schema}
 use Rattle.rng_model.specs.declared.fault.OutOfMemory.{OutOfMemory}
 use Rattle.rncv_model.specs.answers.Compiled.{IsVerdictOn}
@@ -17,6 +17,11 @@ use Rattle.rncv_c.specs.declared.status.Status.{Status}
 use Rattle.rncv_c.specs.declared.status.Status.TheVariants as status
 use Rattle.rncv_c.specs.declared.told.Judgement.{Judgement}
 
+-- nothing was fed yet, and there is no fault
+pub record HasBegun (document : Judging) : Type 0 where
+  pub fed : HasBeenFed document []
+  pub working : document.fault ≡ None
+
 -- the status that goes with what `Document::feed` answers
 abbrev pub status_of_feed : Result (Unit {0}) DocumentFault → Status
 status_of_feed (Ok x) = status.Done
@@ -30,6 +35,7 @@ pub record HasTaken (piece : List ℕ) (number : ℤ) (old new : Judging) : Type
   pub grammar : new.grammar ≡ old.grammar
   pub fed : UnlessMemory answer ((bytes : List ℕ) → HasBeenFed old bytes → HasBeenFed new (bytes ++ piece))
   pub fault : IfErr answer (λ f. (new.fault ≡ Some f) × IsFaultOfFed new f)
+  pub working : OnOk answer (new.fault ≡ None)
   pub sticky : IfSome old.fault (λ f. (answer ≡ Err f) × (new ≡ old))
   pub since : IfSome (failed_since old) (λ line. UnlessMemory answer (failed_since new ≡ Some line))
 

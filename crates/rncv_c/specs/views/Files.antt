@@ -1,5 +1,5 @@
 -- The files of a schema, as C hands them in.
-use Rattle.std.specs.Prelude.{ℕ, ◌<◌, ℤ, pos, negsuc, List, [], ◌∷◌, All, IsUtf8, Option, Some, None, bytes_eq, length, map, position}
+use Rattle.std.specs.Prelude.{ℕ, ◌<◌, ℤ, pos, negsuc, List, [], ◌∷◌, All, IsUtf8, Option, Some, None, bytes_eq, length, map, position, slice_get}
 use Rattle.rnc_model.specs.loading.SchemaFile.{Name, NamedFile}
 use Rattle.rncv_c.specs.declared.files.SchemaFile.{SchemaFile}
 
@@ -25,3 +25,12 @@ index_for_c (Some index) = pos index
 -- the index of the first file of this name
 abbrev pub index_of : Name → List SchemaFile → ℤ
 index_of name files = index_for_c (position (λ f. bytes_eq f.name.now name) files)
+
+-- the file at an index
+abbrev pub file_at : Option ℕ → List SchemaFile → Option SchemaFile
+file_at None files = None
+file_at (Some index) files = slice_get files index
+
+-- the first file of this name
+abbrev pub first_file : Name → List SchemaFile → Option SchemaFile
+first_file name files = file_at (position (λ f. bytes_eq f.name.now name) files) files

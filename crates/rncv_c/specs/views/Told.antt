@@ -1,30 +1,52 @@
 -- What C is told of files that are refused, and of a document.
-use Rattle.std.specs.Prelude.{◌≡◌, ℕ, ℤ, pos, negsuc, List, Option, Some, None, string_bytes}
+use Rattle.std.specs.Prelude.{◌≡◌, ◌^◌, ℕ, ℤ, pos, negsuc, nat_lt, if◌then◌else◌, List, Option, Some, None, string_bytes}
 use Rattle.rng_model.specs.declared.fault.SchemaFault.{SchemaFault}
 use Rattle.rng_model.specs.declared.fault.SchemaFault.TheVariants as faults
+use Rattle.rnc_model.specs.declared.file_place.FilePlace.{FilePlace}
+use Rattle.rnc_model.specs.loading.FaultPlaces.{BreaksClauseAt}
+use Rattle.rnc_model.specs.loading.SchemaFile.{BreaksFileClause}
 use Rattle.rncv_model.specs.answers.Compiled.{IsRefusal}
 use Rattle.rncv_model.specs.declared.verdict.Verdict.{Verdict}
 use Rattle.rncv_model.specs.declared.verdict.Verdict.TheVariants as verdicts
-use Rattle.rncv_c.specs.views.Files.{files_of, index_of, main_of}
+use Rattle.rncv_c.specs.views.Files.{files_of, first_file, index_of, main_of}
 use Rattle.rncv_c.specs.declared.files.SchemaFile.{SchemaFile}
 use Rattle.rncv_c.specs.declared.told.Judgement.{Judgement}
 use Rattle.rncv_c.specs.declared.told.Refusal.{Refusal}
 
--- the refusal by this clause, in the file of this index; no place in it is told
-abbrev pub refusal_at : ℤ → ℕ → Refusal
-refusal_at file clause = record { clause = pos clause; file = file; offset = negsuc 0; line = negsuc 0; column = negsuc 0 }
+-- a number, where C has it; else -1
+abbrev pub number_for_c : ℕ → ℤ
+number_for_c n = if nat_lt n (2 ^ 63) then pos n else negsuc 0
 
--- what is told of a fault; nothing is of want of memory
-abbrev pub refusal_of : List SchemaFile → SchemaFault → Option Refusal
-refusal_of files (faults.File clause name) = Some (refusal_at (index_of (string_bytes name) files) clause)
-refusal_of files (faults.Clause clause) = Some (refusal_at (negsuc 0) clause)
-refusal_of files faults.Memory = None
+-- the refusal by this clause, in the file of this index, at this place; where there is none, -1 is told
+abbrev pub refusal_at : ℤ → ℕ → Option FilePlace → Refusal
+refusal_at file clause None = record { clause = pos clause; file = file; offset = negsuc 0; line = negsuc 0; column = negsuc 0 }
+refusal_at file clause (Some p) = record {
+  clause = pos clause;
+  file = file;
+  offset = number_for_c p.offset;
+  line = number_for_c p.line;
+  column = number_for_c p.column;
+}
+
+-- the place at which a file breaks the clause; none where there is no file, or where it does not break the clause by what is in it
+abbrev pub IsPlaceToTell : Option SchemaFile → ℕ → Option FilePlace → Type 0
+IsPlaceToTell None clause p = p ≡ None
+IsPlaceToTell (Some f) clause None = ¬ (BreaksFileClause f.bytes.now clause)
+IsPlaceToTell (Some f) clause (Some p) = BreaksClauseAt f.bytes.now clause p
+
+-- this is told of a fault; nothing is of want of memory
+abbrev pub IsToldOf : List SchemaFile → SchemaFault → Refusal → Type 0
+IsToldOf files (faults.File clause name) told =
+    (place : Option FilePlace) × IsPlaceToTell (first_file (string_bytes name) files) clause place
+    × (told ≡ refusal_at (index_of (string_bytes name) files) clause place)
+IsToldOf files (faults.Clause clause) told = told ≡ refusal_at (negsuc 0) clause None
+IsToldOf files faults.Memory told = ⊥
 
 -- the files are no schema, and this is told of it
 pub record AreRefused (files : List SchemaFile) (told : Refusal) : Type 0 where
   pub fault : SchemaFault
   pub is : IsRefusal (files_of files) (main_of files) fault
-  pub told_is : refusal_of files fault ≡ Some told
+  pub told_is : IsToldOf files fault told
 
 -- a verdict in numbers: 0 for valid, 1 for invalid, 2 for malformed
 abbrev pub judgement_of : Verdict → Judgement

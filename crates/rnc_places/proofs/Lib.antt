@@ -1,0 +1,3 @@
+mod FilePieces
+mod ToldPlaces
+mod NestingNumber

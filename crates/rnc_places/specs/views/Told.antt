@@ -1,0 +1,32 @@
+-- What is told of a file and of its tokens.
+use Rattle.std.specs.Prelude.{◌≡◌, ℕ, List, Option, Some, None}
+use Rattle.rnc_grammar.specs.declared.fault.ParseFault.{ParseFault}
+use Rattle.rnc_grammar.specs.declared.fault.ParseFault.TheVariants as faults
+use Rattle.rnc_model.specs.declarations.FileTree.{FileTree}
+use Rattle.rnc_model.specs.declarations.Parsing.{BreaksDeclarations}
+use Rattle.rnc_model.specs.declared.file_place.FilePlace.{FilePlace}
+use Rattle.rnc_model.specs.grammar.Sentence.{BreaksGrammarAt}
+use Rattle.rnc_model.specs.loading.FaultPlaces.{BreaksClauseAt, IsTooDeepAt}
+use Rattle.rnc_model.specs.loading.SchemaFile.{ContentHasOnlyVerdict, breaks, has_tree}
+use Rattle.rnc_model.specs.tokens.Lexeme.{Lexeme}
+
+-- the one clause that the file breaks, and where; or nothing, where it breaks none
+abbrev pub IsTold : List ℕ → Option (ℕ × FilePlace) → Type 0
+IsTold bytes None = (t : FileTree) × ContentHasOnlyVerdict bytes (has_tree t)
+IsTold bytes (Some x) = BreaksClauseAt bytes x.0 x.1 × ContentHasOnlyVerdict bytes (breaks x.0)
+
+-- the clause of a fault, if it has one
+abbrev pub clause_of : ParseFault → Option ℕ
+clause_of faults.Memory = None
+clause_of (faults.At c number) = Some c
+clause_of (faults.Clause c) = Some c
+
+-- tokens break this clause at the token with this number; of a rule about declarations no token is said
+pub data BreaksAtToken (ts : List Lexeme) (k number : ℕ) : Type 0 where
+  unexpected : BreaksGrammarAt ts number → k ≡ 6 → BreaksAtToken ts k number
+  too_deep : IsTooDeepAt ts number → k ≡ 7 → BreaksAtToken ts k number
+  unruly : BreaksDeclarations ts → k ≡ 8 → BreaksAtToken ts k number
+
+-- the clause of the fault, and the number of the token
+abbrev pub IsNumberOf : List Lexeme → ParseFault → ℕ × ℕ → Type 0
+IsNumberOf ts fault x = (clause_of fault ≡ Some x.0) × BreaksAtToken ts x.0 x.1

@@ -1,0 +1,101 @@
+// The place at which a file breaks a clause.
+ghost use Rattle.std.specs.Prelude.{◌≡◌, List, IfOk, IfSome, IsSome};
+ghost use Rattle.rnc_grammar.specs.views.ParsingFaults.{IsFaultOf};
+ghost use Rattle.rnc_model.specs.characters.Characters.{byte_length};
+ghost use Rattle.rnc_model.specs.characters.Decoding.{IsDecoded};
+ghost use Rattle.rnc_model.specs.declared.character.Character.{Character};
+ghost use Rattle.rnc_model.specs.loading.FaultPlaces.{BreaksClauseAt, IsPlaceOfToken};
+ghost use Rattle.rnc_model.specs.loading.SchemaFile.{BreaksFileClause};
+ghost use Rattle.rnc_model.specs.tokens.Cut.{HasTokens, tokens_of};
+ghost use Rattle.rnc_model.specs.tokens.Lexeme.{lexemes};
+ghost use Rattle.rnc_places.specs.views.Told.{IsNumberOf, IsTold};
+
+use crate::declarations::unruly_number;
+use crate::nesting::too_deep_number;
+use rnc_grammar::{ParseFault, parse};
+use rnc_model::{FilePlace, Token};
+use rnc_text::{TextFault, place_at, place_of_decoded, read_text, tokens};
+use rng_model::OutOfMemory;
+use std::alloc::Global;
+
+/// The place at which a schema file breaks this clause, if it is the one from 3 to 8 that the file breaks by itself; else none.
+///
+/// - 3: the first byte that is not UTF-8;
+/// - 4: the first character that is none of XML's, or the first bad escape;
+/// - 5: the first place at which neither a blank, a comment nor a token begins;
+/// - 6: the first token with which no sentence goes on; the end of the file where none goes on with that;
+/// - 7: the first bracket that is one too many;
+/// - 8: the first declaration that breaks a rule, or else the first prefix that is not declared.
+///
+/// The error is want of memory. Takes the time and the memory that it takes to read the file.
+///
+/// RELAX NG Compact Syntax, "Lexical structure", "Syntax" and "Declarations".
+pub fn place_of(alloc: Global, file: &[u8], clause: u8) -> Result<Option<FilePlace>, OutOfMemory>
+    // A place that is told is that of the clause.
+    ensures place { IfOk result (λ found. IfSome found (BreaksClauseAt file.now clause)) }
+    // A clause that is broken has its place told.
+    ensures found { BreaksFileClause file.now clause → IfOk result IsSome }
+{
+    match told(alloc, file)? {
+        Some((broken, place)) if broken == clause => Ok(Some(place)),
+        Some(_) => Ok(None),
+        None => Ok(None),
+    }
+}
+
+/// The clause from 3 to 8 that a file breaks, and where; none where it breaks none.
+fn told(alloc: Global, file: &[u8]) -> Result<Option<(u8, FilePlace)>, OutOfMemory>
+    ensures { IfOk result (IsTold file.now) }
+{
+    let text = match read_text(alloc, file) {
+        Ok(text) => text,
+        Err(TextFault::At { clause, offset }) => {
+            return Ok(Some((clause, place_at(file, offset))));
+        }
+        Err(TextFault::Memory) => return Err(OutOfMemory),
+    };
+    let tokens = match tokens(alloc, &text) {
+        Ok(tokens) => tokens,
+        Err(TextFault::At { clause, offset }) => {
+            return Ok(Some((clause, place_of_decoded(file, offset as usize))));
+        }
+        Err(TextFault::Memory) => return Err(OutOfMemory),
+    };
+    let fault = match parse(alloc, tokens.as_slice()) {
+        Ok(tree) => {
+            drop(tree);
+            return Ok(None);
+        }
+        Err(fault) => fault,
+    };
+    let (clause, number) = numbered(alloc, tokens.as_slice(), fault)?;
+    let end = text.as_str().len();
+    Ok(Some((clause, place_of_token(file, end, tokens.as_slice(), number))))
+}
+
+/// The clause that tokens break by this fault, and the number of the token at which they do.
+fn numbered(
+    alloc: Global,
+    tokens: &[Token<'_>],
+    fault: ParseFault,
+) -> Result<(u8, usize), OutOfMemory>
+    ensures { IsFaultOf (lexemes (tokens_of tokens.now)) fault → IfOk result (IsNumberOf (lexemes (tokens_of tokens.now)) fault) }
+{
+    match fault {
+        ParseFault::At { clause, number } => Ok((clause, number as usize)),
+        ParseFault::Clause(7) => Ok((7, too_deep_number(tokens))),
+        ParseFault::Clause(clause) => Ok((clause, unruly_number(alloc, tokens)?)),
+        ParseFault::Memory => Err(OutOfMemory),
+    }
+}
+
+/// The place of the token with this number in a file whose decoded text has so many bytes; where the number is past the last, the end of the file.
+fn place_of_token(file: &[u8], end: usize, tokens: &[Token<'_>], number: usize) -> FilePlace
+    ensures { (cs : List Character) → IsDecoded file.now cs → HasTokens cs (tokens_of tokens.now) → byte_length cs ≡ end
+        → IsPlaceOfToken file.now (tokens_of tokens.now) number result }
+{
+    match tokens.get(number.saturating_sub(1)) {
+        Some(token) => place_of_decoded(file, token.start),
+        None => place_of_decoded(file, end),
+    }
+}

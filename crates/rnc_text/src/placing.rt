@@ -1,0 +1,131 @@
+// Places in a file: from offsets to lines and columns.
+ghost use Rattle.std.specs.Prelude.{◌≡◌, ◌++◌, ◌∷◌, ◌⊎◌, ℕ, List, [], length, take};
+ghost use Rattle.std.specs.Str.{IsUtf8, IsValidUpTo, chars, encode_utf8_all};
+ghost use Rattle.rnc_model.specs.characters.Characters.{byte_length};
+ghost use Rattle.rnc_model.specs.characters.Decoding.{BreaksCharactersAt, BreaksUtf8At, Decodes, IsSpelling};
+ghost use Rattle.rnc_model.specs.characters.FilePlaces as places;
+ghost use Rattle.rnc_model.specs.characters.FilePlaces.{IsPlaceBehind, IsPlaceBetween};
+ghost use Rattle.rnc_model.specs.declared.character.Character.{Character};
+
+use crate::character::split_first;
+use crate::decoding::front;
+use rnc_model::{Character, FilePlace};
+
+/// Whether an LF is in front.
+fn starts_with_line_feed(text: &str) -> bool
+    ensures { result ≡ places.starts_with_line_feed (chars text.now) }
+{
+    match split_first(text) {
+        Some((first, _)) => first == '\n',
+        None => false,
+    }
+}
+
+/// Whether a line ends behind a character that this text follows.
+fn ends_line(character: char, rest: &str) -> bool
+    ensures { result ≡ places.ends_line character (chars rest.now) }
+{
+    match character {
+        '\n' => true,
+        '\r' => !starts_with_line_feed(rest),
+        _ => false,
+    }
+}
+
+/// The place in front of the last bytes of a text, of which there are so many.
+fn place_before(text: &str, left: usize) -> FilePlace
+    ensures { (before after : List ℕ) → chars text.now ≡ before ++ after → length (encode_utf8_all after) ≡ left → IsPlaceBetween before after result }
+{
+    let mut line = 1u64;
+    let mut column = 1u64;
+    let mut rest = text;
+    'characters: while rest.len() > left {
+        let Some((character, after)) = split_first(rest) else {
+            break 'characters;
+        };
+        if ends_line(character, after) {
+            line += 1;
+            column = 1;
+        } else {
+            column += 1;
+        }
+        rest = after;
+    }
+    FilePlace {
+        offset: (text.len() - rest.len()) as u64,
+        line,
+        column,
+    }
+}
+
+/// How many bytes the character has in the decoded text.
+fn decoded_length(character: Character) -> usize
+    ensures { result ≡ byte_length (character ∷ []) }
+{
+    match character {
+        Character::LineEnd => 1,
+        Character::Ordinary(character) => character.len_utf8(),
+    }
+}
+
+/// How many bytes of a text are behind its first characters, which have so many bytes in the decoded text.
+fn left_behind(text: &str, count: usize) -> usize
+    ensures { (front : List Character) (after : List ℕ) → Decodes (chars text.now) front after → byte_length front ≡ count
+        → result ≡ length (encode_utf8_all after) }
+{
+    let mut rest = text;
+    let mut more = count;
+    'rest: while more > 0 {
+        let Some((character, after)) = front(rest) else {
+            break 'rest;
+        };
+        more = more.saturating_sub(decoded_length(character));
+        rest = after;
+    }
+    rest.len()
+}
+
+/// The longest front of the bytes that is UTF-8.
+fn valid_front(bytes: &[u8]) -> &str
+    ensures whole { IsUtf8 bytes.now → result.now ≡ bytes.now }
+    ensures front { (offset : ℕ) → ¬ (IsUtf8 bytes.now) → IsValidUpTo bytes.now offset → result.now ≡ take offset bytes.now }
+{
+    match simdutf8::compat::from_utf8(bytes) {
+        Ok(text) => text,
+        Err(fault) => {
+            let (front, _) = bytes.split_at(fault.valid_up_to());
+            match str::from_utf8(front) {
+                Ok(text) => text,
+                Err(_) => unreachable!(),
+            }
+        }
+    }
+}
+
+/// The place in a file of an offset that `read_text` tells.
+///
+/// Of another offset a place in the file is told, and nothing is said of it. Linear.
+pub fn place_at(file: &[u8], offset: u64) -> FilePlace
+    // Where the bytes are not UTF-8 from the offset on, it is behind the characters before it.
+    ensures utf8 { BreaksUtf8At file.now offset → (front : List ℕ) × IsSpelling (take offset file.now) front × IsPlaceBetween front [] result }
+    // Where no character begins at the offset, it is behind the characters before it.
+    ensures characters { BreaksCharactersAt file.now offset → (front : List Character) × IsPlaceBehind file.now front result }
+    // Both are at this offset.
+    ensures offset { BreaksUtf8At file.now offset ⊎ BreaksCharactersAt file.now offset → result.offset ≡ offset }
+{
+    let text = valid_front(file);
+    place_before(text, text.len().saturating_sub(offset as usize))
+}
+
+/// The place in a file of an offset of its decoded text, in bytes.
+///
+/// Of a file that has no decoded text, and of an offset at which none of its characters begins, a place in the file is told, and nothing is said
+/// of it. Linear.
+pub fn place_of_decoded(file: &[u8], offset: usize) -> FilePlace
+    // It is behind the characters that take so many bytes in the decoded text.
+    ensures { (front : List Character) (numbers after : List ℕ) → IsSpelling file.now numbers → Decodes numbers front after → byte_length front ≡ offset
+        → IsPlaceBehind file.now front result }
+{
+    let text = valid_front(file);
+    place_before(text, left_behind(text, offset))
+}

@@ -1,0 +1,16 @@
+-- Where a file breaks the clause that a fault tells of it.
+use Rattle.std.specs.Prelude.{◌≡◌, ℕ, List, Option, Some, None}
+use Rattle.rng_model.specs.declared.fault.SchemaFault.{SchemaFault}
+use Rattle.rng_model.specs.declared.fault.SchemaFault.TheVariants as faults
+use Rattle.rnc_model.specs.declared.file_place.FilePlace.{FilePlace}
+use Rattle.rnc_model.specs.loading.FaultPlaces.{BreaksClauseAt}
+
+-- the clause that a fault tells of one file
+abbrev pub file_clause : SchemaFault → Option ℕ
+file_clause (faults.File clause name) = Some clause
+file_clause (faults.Clause clause) = None
+file_clause faults.Memory = None
+
+-- the file breaks that clause here
+abbrev pub IsPlaceOfFault : List ℕ → SchemaFault → FilePlace → Type 0
+IsPlaceOfFault bytes fault p = (clause : ℕ) × (file_clause fault ≡ Some clause) × BreaksClauseAt bytes clause p

@@ -1,0 +1,28 @@
+// Where a file of a schema breaks a clause.
+ghost use Rattle.std.specs.Prelude.{◌≡◌, ℕ, IfOk, IfSome, IsSome, Some};
+ghost use Rattle.rnc_model.specs.loading.FaultPlaces.{BreaksClauseAt};
+ghost use Rattle.rnc_model.specs.loading.SchemaFile.{BreaksFileClause};
+ghost use Rattle.rncv_validator.specs.views.Places.{IsPlaceOfFault, file_clause};
+
+use rnc_model::FilePlace;
+use rng_model::{OutOfMemory, SchemaFault};
+use std::alloc::Global;
+
+/// The place at which a file of a schema breaks the clause that this fault tells of it, if it is one from 3 to 8; else none.
+///
+/// `file` is the bytes of the file that the fault names. The error is want of memory. Takes the time and the memory that it takes to read the file.
+///
+/// RELAX NG Compact Syntax, "Lexical structure", "Syntax" and "Declarations".
+pub fn place_of(
+    alloc: Global,
+    file: &[u8],
+    fault: &SchemaFault,
+) -> Result<Option<FilePlace>, OutOfMemory>
+    ensures place { IfOk result (λ found. IfSome found (IsPlaceOfFault file.now fault.now)) }
+    ensures found { (clause : ℕ) → file_clause fault.now ≡ Some clause → BreaksFileClause file.now clause → IfOk result IsSome }
+{
+    match fault {
+        SchemaFault::File { clause, .. } => rnc_places::place_of(alloc, file, *clause),
+        SchemaFault::Clause(_) | SchemaFault::Memory => Ok(None),
+    }
+}
