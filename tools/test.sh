@@ -1,7 +1,8 @@
 #!/bin/sh
-# Tests of what stands around the program, in less than a minute:   tools/test.sh [PROGRAM]     (PROGRAM: the built rncv, else crates/rncv/out/rncv,
-# where `rt ci` and `rt run` leave it). They want Python 3 and no package; what else is not installed is told, and what wants it is skipped. The
-# parts run side by side, and what they print comes in order.
+# Tests of what is around the program:   tools/test.sh [PROGRAM]     (PROGRAM: the built rncv, else crates/rncv/out/rncv, where `rt ci` and `rt run` leave
+# it). They want Python 3 and no package; what else is not installed is told, and what wants it is skipped. The parts run side by side, in less than a
+# minute, and what they print comes in order. The tests of the library come after them: they build it twice, which takes minutes, and want `rt` and a C
+# compiler. RNCV_SKIP=library leaves them out.
 here=$(cd "$(dirname "$0")" && pwd)
 program=${1:-$here/../crates/rncv/out/rncv}
 RNCV_REQUIRED=1
@@ -18,5 +19,12 @@ wait "$schema" || status=1
 wait "$transcripts" || status=1
 wait "$believed" || status=1
 cat "$room/xml" "$room/schema" "$room/transcripts" "$room/believed"
+if [ "${RNCV_SKIP-}" = library ]; then
+  echo "tools/library: left out"
+elif command -v "${CC:-cc}" >/dev/null; then
+  "$here/library/test.sh" || status=1
+else
+  echo "tools/library: not tested, since no C compiler is installed"
+fi
 [ "$status" = 0 ] && echo "tools/test.sh: ok" || echo "tools/test.sh: FAILED"
 exit "$status"

@@ -1,6 +1,7 @@
 // What C is told of files that are refused, and of a document.
-ghost use Rattle.std.specs.Prelude.{◌≡◌, IfOk, Some, option_map};
+ghost use Rattle.std.specs.Prelude.{◌≡◌, ◌<◌, ◌^◌, IfOk, IfSome, Some, option_map};
 ghost use Rattle.rncv_validator.specs.views.Places.{file_clause};
+ghost use Rattle.rncv_c.specs.views.Files.{index_for_c};
 ghost use Rattle.rncv_c.specs.views.Told as told;
 ghost use Rattle.rncv_c.specs.views.Told.{IsPlaceToTell, IsToldOf, judgement_of, number_for_c};
 
@@ -43,9 +44,9 @@ pub fn refusal_to_tell(
         SchemaFault::File { clause, name } => {
             let index = position_of(files, name.as_bytes());
             let place = place_in(alloc, file_at(files, index), *clause, cause)?;
-            Ok(refusal_at(index_to_tell(index), *clause, place))
+            Ok(refusal_at(index, *clause, place))
         }
-        SchemaFault::Clause(clause) => Ok(refusal_at(-1, *clause, None)),
+        SchemaFault::Clause(clause) => Ok(refusal_at(None, *clause, None)),
         SchemaFault::Memory => Err(OutOfMemory),
     }
 }
@@ -58,7 +59,7 @@ fn place_in(
     cause: &SchemaFault,
 ) -> Result<Option<FilePlace>, OutOfMemory>
     requires { file_clause cause.now ≡ Some clause }
-    ensures { IfOk result (IsPlaceToTell (option_map (λ f. f.now) file) clause) }
+    ensures { IfOk result (IsPlaceToTell (option_map (λ f. f.now) file.entry) clause) }
 {
     match file {
         Some(file) => place_of(alloc, file.bytes, cause),
@@ -74,8 +75,9 @@ fn number_to_tell(number: u64) -> i64
 }
 
 /// The refusal by this clause, in the file of this index, at this place.
-fn refusal_at(file: i64, clause: u8, place: Option<FilePlace>) -> Refusal
-    ensures { result ≡ told.refusal_at file clause place }
+fn refusal_at(index: Option<usize>, clause: u8, place: Option<FilePlace>) -> Refusal
+    requires { IfSome index (λ i. i < 2 ^ 63) }
+    ensures { result ≡ told.refusal_at (index_for_c index) clause place }
 {
     let (offset, line, column) = match place {
         Some(place) => (
@@ -87,7 +89,7 @@ fn refusal_at(file: i64, clause: u8, place: Option<FilePlace>) -> Refusal
     };
     Refusal {
         clause: clause as i32,
-        file,
+        file: index_to_tell(index),
         offset,
         line,
         column,

@@ -1,6 +1,5 @@
 // Where a file of a schema breaks a clause.
 ghost use Rattle.std.specs.Prelude.{◌≡◌, ℕ, IfOk, IfSome, IsSome, Some};
-ghost use Rattle.rnc_model.specs.loading.FaultPlaces.{BreaksClauseAt};
 ghost use Rattle.rnc_model.specs.loading.SchemaFile.{BreaksFileClause};
 ghost use Rattle.rncv_validator.specs.views.Places.{IsPlaceOfFault, file_clause};
 

@@ -67,9 +67,9 @@ typedef struct rncv_fault {
     int32_t clause; /* 1 to 27 */
     int64_t file;   /* the index of the first file with the name of the file that breaks the clause; -1 where the clause is not of one file,
                        or no file with that name was passed */
-    int64_t offset; /* -1: not known */
-    int64_t line;   /* -1: not known */
-    int64_t column; /* -1: not known */
+    int64_t offset; /* where in that file, in bytes from 0; for the clauses 3 to 8, else -1 */
+    int64_t line;   /* the line, from 1; CR LF, CR and LF end one each; for the clauses 3 to 8, else -1 */
+    int64_t column; /* the column, from 1, in characters as they are written; for the clauses 3 to 8, else -1 */
 } rncv_fault;
 
 /* What a document is. */

@@ -60,7 +60,8 @@ static void refuse(const rncv_file *files, size_t count, int32_t clause, int64_t
     rncv_fault fault = {7, 7, 7, 7, 7};
     CHECK(rncv_compile(files, count, &schema, &fault) == RNCV_REFUSED);
     CHECK(fault.clause == clause && fault.file == file);
-    CHECK(fault.offset == -1 && fault.line == -1 && fault.column == -1);
+    int has_place = clause >= 3 && clause <= 8;
+    CHECK((fault.offset >= 0) == has_place && (fault.line > 0) == has_place && (fault.column > 0) == has_place);
     CHECK(schema.hidden == NULL);
 }
 

@@ -59,8 +59,8 @@ class SchemaError(ValueError):
     """The files are not a schema: they break a clause, S1 to S27.
 
     `clause` is its number, and `title` says in English what it asks for. `file` is the name of the file that breaks it, and `index` the place of the
-    first file with this name; both are None where the clause is not of one file, or where that file was not handed in. `offset`, `line` and `column`
-    are None where they are not known.
+    first file with this name; both are None where the clause is not of one file, or where that file was not handed in. For
+    S3 to S8 `offset` is where in the file it does, in bytes from 0, and `line` and `column` count from 1; for the other clauses these are None.
     """
 
     def __init__(

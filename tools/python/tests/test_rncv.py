@@ -176,7 +176,8 @@ class Schemas(unittest.TestCase):
             rncv.compile(*files)
         error = caught.exception
         self.assertIn(f"### S{error.clause}: {error.title}\n", page("docs/CLAUSES.md"))
-        self.assertEqual((error.offset, error.line, error.column), (None, None, None))
+        has_place = [it is not None for it in (error.offset, error.line, error.column)]
+        self.assertEqual(has_place, [3 <= error.clause <= 8] * 3)
         return error
 
     def test_clauses(self):
@@ -198,6 +199,7 @@ class Schemas(unittest.TestCase):
         self.assertTrue(str(error).startswith("refused S6 file bad.rnc: the tokens are a sentence of the grammar"))
         error = self.refused({"m.rnc": main, "bad.rnc": b"# \xff\n"})
         self.assertEqual((error.clause, error.file, error.index), (3, "bad.rnc", 1))
+        self.assertEqual((error.offset, error.line, error.column), (2, 1, 3))
         error = self.refused({"m.rnc": main, "./bad.rnc": b"x = empty"})
         self.assertEqual((error.clause, error.file, error.index), (1, None, None))
         error = self.refused(TOP / "examples/broken/s.rnc")

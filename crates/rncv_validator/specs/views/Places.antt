@@ -1,5 +1,5 @@
 -- Where a file breaks the clause that a fault tells of it.
-use Rattle.std.specs.Prelude.{◌≡◌, ℕ, List, Option, Some, None}
+use Rattle.std.specs.Prelude.{ℕ, List, Option, Some, None}
 use Rattle.rng_model.specs.declared.fault.SchemaFault.{SchemaFault}
 use Rattle.rng_model.specs.declared.fault.SchemaFault.TheVariants as faults
 use Rattle.rnc_model.specs.declared.file_place.FilePlace.{FilePlace}
@@ -13,4 +13,6 @@ file_clause faults.Memory = None
 
 -- the file breaks that clause here
 abbrev pub IsPlaceOfFault : List ℕ → SchemaFault → FilePlace → Type 0
-IsPlaceOfFault bytes fault p = (clause : ℕ) × (file_clause fault ≡ Some clause) × BreaksClauseAt bytes clause p
+IsPlaceOfFault bytes (faults.File clause name) p = BreaksClauseAt bytes clause p
+IsPlaceOfFault bytes (faults.Clause clause) p = ⊥
+IsPlaceOfFault bytes faults.Memory p = ⊥
