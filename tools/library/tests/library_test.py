@@ -93,4 +93,5 @@ def main():
     print("python: ok")
 
 
-main()
+if __name__ == "__main__":
+    main()
