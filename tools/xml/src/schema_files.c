@@ -195,7 +195,7 @@ static bool find_meaning(struct collecting *collecting, struct meaning *meaning)
         is_good = (!is_file(way) || add_candidate(collecting, meaning, way)) &&
                   (!is_file(bytes_text(&normal)) || add_candidate(collecting, meaning, bytes_text(&normal)));
     }
-    if (is_good && is_given(collecting->request, &meaning->words)) {
+    if (is_good && is_given(collecting->request, &meaning->words) && is_file(bytes_text(&meaning->words))) {
         is_good = add_candidate(collecting, meaning, bytes_text(&meaning->words));
     }
     ways_free(&ways);
@@ -283,7 +283,12 @@ static bool hand_in(struct collecting *collecting, struct meaning *meaning) {
     }
     for (size_t at = 0; at < files->count; at++) {
         if (is_equal(&files->list[at].name, &meaning->words)) {
-            return true;
+            /* a file that is given by these words and is not there stands beside the file that mentions it */
+            if (at > 0 && !is_same(bytes_text(&files->list[at].path), path)) {
+                bytes_clear(&files->list[at].path);
+                bytes_add_text(&files->list[at].path, path);
+            }
+            return files->list[at].path.failed ? out_of_memory(files) : true;
         }
     }
     return add_file(files, &meaning->words, path);
