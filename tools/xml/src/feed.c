@@ -221,6 +221,9 @@ static size_t seam_in(const struct feed *feed, const char *bytes, size_t length)
 
 /* Where the text stands in the bytes, from an offset on; their length if it does not. */
 static size_t found_at(const struct bytes *bytes, const struct bytes *text, size_t from) {
+    if (text->length == 0 || bytes->length < from + text->length) {
+        return bytes->length;
+    }
     const char *at = bytes->data + from;
     const char *end = bytes->data + bytes->length;
     while (at + text->length <= end && (at = memchr(at, text->data[0], (size_t)(end - at) - text->length + 1)) != NULL) {

@@ -108,14 +108,12 @@ static void keep_value(struct schema_files *files, const struct bytes *literal) 
         }
         bytes_add_byte(&value, byte == '\n' ? 'n' : byte == '\t' ? 't' : byte);
     }
-    for (size_t at = 0; at < files->value_count; at++) {
-        if (strcmp(files->values[at], bytes_text(&value)) == 0) {
-            bytes_free(&value);
-            return;
-        }
+    const char *text = bytes_text(&value);
+    bool is_kept = value.failed;
+    for (size_t at = 0; at < files->value_count && !is_kept; at++) {
+        is_kept = files->values[at] == NULL || strcmp(files->values[at], text) == 0;
     }
-    bytes_text(&value);
-    if (value.failed) {
+    if (is_kept) {
         bytes_free(&value);
         return;
     }

@@ -90,7 +90,7 @@ class Recipes(InFolder):
         for number in range(20):
             self.write(f"documents/d {number:02}.xml", '<a x="1"/>' if number % 2 else "<a/>")
         script = self.recipe("Many machines").replace("-n 500", "-n 3")
-        self.assertEqual(self.run_shell(f"mkdir -p home; export HOME=$PWD/home; {script}")[0].replace("Academic", "")[:0], "")
+        self.run_shell(f"mkdir -p home; export HOME=$PWD/home; {script}")
         found = [json.loads(line) for line in (self.folder / "answers.json").read_text().splitlines()]
         self.assertEqual([(each["file"], each["verdict"]) for each in found],
                          [(f"documents/d {number:02}.xml", "valid" if number % 2 else "invalid") for number in range(20)])
