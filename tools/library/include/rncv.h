@@ -37,9 +37,9 @@
 #include <stdint.h>
 
 #define RNCV_VERSION_MAJOR 0
-#define RNCV_VERSION_MINOR 1
+#define RNCV_VERSION_MINOR 9
 #define RNCV_VERSION_PATCH 0
-#define RNCV_VERSION "0.1.0"
+#define RNCV_VERSION "0.9.0"
 
 #ifdef __cplusplus
 extern "C" {

@@ -32,7 +32,7 @@ from types import TracebackType
 from typing import Any, BinaryIO, NoReturn, Optional, Type, Union, overload
 
 __all__ = ["Document", "LibraryError", "SchemaError", "Validator", "Verdict", "clause_title", "compile"]
-__version__ = "0.1.0"
+__version__ = "0.9.0"
 
 Bytes = Union[bytes, bytearray, memoryview]
 Path = Union[str, "os.PathLike[str]"]

@@ -5,7 +5,7 @@
 #include "bytes.h"
 #include "conversion.h"
 
-#define PROGRAM_VERSION "0.1.0"
+#define PROGRAM_VERSION "0.9.0"
 
 /* The exit statuses; the greatest of them is the program's. */
 enum {

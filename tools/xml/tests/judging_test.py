@@ -249,7 +249,7 @@ class Words(InFolder):
     def test_help(self):
         out, errors, status = self.run_in(RNCV_XML, "--help")
         self.assertEqual((errors, status), ("", 0))
-        page = (TOP / "tools/xml/rncv-xml.1").read_text()
+        page = (TOP / "man/rncv-xml.1").read_text()
         for option in re.findall(r"--[a-z][-a-z]+", out):
             self.assertIn(option.replace("-", "\\-"), page)
         self.assertRegex(self.run_in(RNCV_XML, "--version")[0], r"^rncv-xml \d+\.\d+\.\d+ \(librncv \d+\.\d+\.\d+\)\n$")
