@@ -1,0 +1,17 @@
+# Completion for fish: rncv-xml.
+complete -c rncv-xml -f
+complete -c rncv-xml -k -a '(__fish_complete_suffix .xml; __fish_complete_suffix .rnc)'
+complete -c rncv-xml -s r -l recursive -d 'Judge the documents in folders'
+complete -c rncv-xml -l glob -x -d 'The names to take in folders'
+complete -c rncv-xml -l files-from -r -F -d 'A file with the names of documents'
+complete -c rncv-xml -l stdin-name -x -d 'How standard input is called'
+complete -c rncv-xml -s j -l jobs -x -d 'Judge N documents at once'
+complete -c rncv-xml -l map -r -F -d 'The file that a word in an include or external means'
+complete -c rncv-xml -l strict-profile -d 'Refuse a schema that rncv-profile loosened'
+complete -c rncv-xml -l all -d 'A line for each document'
+complete -c rncv-xml -s v -l verbose -d 'The same, with a closing line'
+complete -c rncv-xml -s q -l quiet -d 'Nothing but the exit status'
+complete -c rncv-xml -l format -x -a 'text json sarif github' -d 'The form of what is printed'
+complete -c rncv-xml -l color -x -a 'auto always never' -d 'When to colour'
+complete -c rncv-xml -s h -l help -d 'A summary'
+complete -c rncv-xml -l version -d 'The version'

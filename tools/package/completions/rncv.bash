@@ -1,0 +1,79 @@
+# Completion for bash: rncv, rncv-xml, xml2pyx and rncv-profile.
+
+# Files whose names match a pattern, and folders.
+_rncv_files() {
+    local word
+    compopt -o filenames
+    COMPREPLY=()
+    while IFS= read -r word; do
+        COMPREPLY+=("$word")
+    done < <(compgen -d -- "$2"; compgen -f -X "!$1" -- "$2")
+}
+
+_rncv_words() {
+    local word
+    COMPREPLY=()
+    while IFS= read -r word; do
+        COMPREPLY+=("$word")
+    done < <(compgen -W "$1" -- "$2")
+}
+
+_rncv() {
+    if [ "$COMP_CWORD" = 1 ]; then
+        _rncv_words "valid check simple" "$2"
+    else
+        _rncv_files '*.rnc' "$2"
+    fi
+}
+
+_rncv_xml() {
+    local word schemas=0
+    case $3 in
+    --format) _rncv_words "text json sarif github" "$2"; return ;;
+    --color) _rncv_words "auto always never" "$2"; return ;;
+    --files-from | --map) _rncv_files '*' "$2"; return ;;
+    --glob | --stdin-name | -j | --jobs) return ;;
+    esac
+    case $2 in
+    -*)
+        _rncv_words "--recursive -r --glob --files-from --stdin-name --jobs -j --map --strict-profile --all --verbose -v --quiet -q --format --color --help -h --version" "$2"
+        return
+        ;;
+    esac
+    # the first word that is a schema makes the others documents
+    for word in "${COMP_WORDS[@]:1:COMP_CWORD-1}"; do
+        case $word in
+        *.rnc) schemas=1 ;;
+        esac
+    done
+    if [ "$schemas" = 0 ]; then
+        _rncv_files '*.rnc' "$2"
+    else
+        _rncv_files '*.@(xml|rnc)' "$2"
+    fi
+}
+
+_xml2pyx() {
+    case $3 in
+    --lines) _rncv_files '*' "$2"; return ;;
+    esac
+    case $2 in
+    -*) _rncv_words "--lines --help -h --version" "$2" ;;
+    *) _rncv_files '*.xml' "$2" ;;
+    esac
+}
+
+_rncv_profile() {
+    case $3 in
+    --write) compopt -o dirnames; COMPREPLY=(); return ;;
+    esac
+    case $2 in
+    -*) _rncv_words "--write --help -h" "$2" ;;
+    *) _rncv_files '*.rnc' "$2" ;;
+    esac
+}
+
+complete -F _rncv rncv
+complete -F _rncv_xml rncv-xml
+complete -F _xml2pyx xml2pyx
+complete -F _rncv_profile rncv-profile
