@@ -9,7 +9,7 @@ A schema is a set of files in the RELAX NG Compact Syntax. A document is in the 
 into it). A schema is compiled once and judges documents one after the other.
 
 The library is the file that the variable RNCV_LIBRARY names; else it is looked for beside this package, in `build/library/lib` of the checkout that
-this package is in, and where the system keeps libraries. It is loaded at the first call that wants it.
+this package is in, where `make install` put it beside this package, and where the system keeps libraries. It is loaded at the first call that wants it.
 
 Threads. A validator judges one document at a time: a second one at the same time is a RuntimeError. `Validator.share` makes another validator by the
 same schema, for another thread. The library runs without the lock of the interpreter. No object of this module is copied or pickled. After `os.fork`
@@ -504,6 +504,8 @@ def _places() -> Iterator[tuple[str, Optional[str]]]:
     top = package.parents[2] if len(package.parents) > 2 else package
     if (top / "tools/library/include/rncv.h").is_file():
         folders.append(top / "build/library/lib")
+    if package.parts[-4:-1] == ("share", "rncv", "python"):
+        folders.append(package.parents[3] / "lib")
     for folder in folders:
         there = [folder / name for name in _NAMES if (folder / name).exists()]
         yield f"{folder}/{' or '.join(_NAMES)}", str(there[0]) if there else None
