@@ -1,0 +1,47 @@
+# rncv: build, test, install. The repository's own scripts do the work; GNU make calls them.
+#
+#   make            prove and build the program, the library and the programs for XML; this wants the toolchain (README.md)
+#   make try        look before the proofs are made; this proves nothing
+#   make test       all proofs and tests (.ci/run)
+#   make install    install what is built; this builds nothing. PREFIX (else /usr/local) and DESTDIR are heeded
+#   make uninstall  remove what `make install` with the same PREFIX and DESTDIR installed
+#   make deb        build/package/rncv_VERSION_ARCHITECTURE.deb, without the network
+#
+# docs/INSTALL.md says what is installed where.
+
+PREFIX = /usr/local
+DESTDIR =
+# Where things are built.
+PROGRAM = crates/rncv/out/rncv
+LIBRARY = build/library
+XML_PROGRAMS = build/xml
+
+# Commands see these by their environment, so that blanks in them need no care.
+export DESTDIR PROGRAM LIBRARY XML_PROGRAMS
+install uninstall: export PREFIX := $(PREFIX)
+
+.PHONY: all build try test install uninstall deb clean
+all: build
+
+build:
+	cd crates/rncv && rt run -- valid ../../examples/first/s.rnc < ../../examples/first/document.pyx
+	PREFIX= tools/library/build.sh "$$LIBRARY"
+	RNCV_LIBRARY="$$LIBRARY" tools/xml/build.sh "$$XML_PROGRAMS"
+
+try:
+	cd crates/rncv && rt try --data s.rnc=../../examples/letter/s.rnc -- valid s.rnc < ../../examples/letter/document.pyx
+
+test:
+	.ci/run
+
+install:
+	@tools/package/install.sh install
+
+uninstall:
+	@tools/package/install.sh uninstall
+
+deb:
+	@tools/package/deb.sh
+
+clean:
+	rm -rf build

@@ -1,0 +1,193 @@
+#!/bin/sh
+# Installs what is built, or removes it:   tools/package/install.sh install|uninstall      (`make install`, `make uninstall`)
+#
+# It builds nothing. What is not built is told at the end, and left out; where the variable RNCV_REQUIRED is set that is a failure, and so it is
+# where nothing is built. Variables, each with its default:
+#   PREFIX        /usr/local
+#   DESTDIR       empty; it stands before each path, and is in no file
+#   PROGRAM       crates/rncv/out/rncv, the built program
+#   LIBRARY       build/library, the folder of the built library
+#   XML_PROGRAMS  build/xml, the folder of rncv-xml and xml2pyx
+#   PYTHON        the interpreter in the first line of the Python programs, else what they name: the python3 of PATH
+#   ZSHDIR        share/zsh/site-functions, below PREFIX
+set -eu
+umask 022
+
+top=$(cd "$(dirname "$0")/../.." && pwd)
+action=${1:-}
+case $action in
+install | uninstall) ;;
+*) echo "usage: tools/package/install.sh install|uninstall" >&2; exit 2 ;;
+esac
+
+# A path of the caller's is one of the top of the repository, where `make` runs.
+cd "$top"
+prefix=${PREFIX:-/usr/local}
+case $prefix in
+/*) ;;
+*) echo "install.sh: PREFIX is an absolute path, and not '$prefix'" >&2; exit 2 ;;
+esac
+prefix=${prefix%/}
+root=${DESTDIR:-}$prefix
+program=${PROGRAM:-crates/rncv/out/rncv}
+library=${LIBRARY:-build/library}
+xml=${XML_PROGRAMS:-build/xml}
+zsh=${ZSHDIR:-share/zsh/site-functions}
+version=$(cat VERSION)
+share=share/rncv
+doc=share/doc/rncv
+lacking=
+
+if [ "$action" = install ] && [ ! -f "$program" ] && [ ! -f "$xml/xml2pyx" ] && [ ! -f "$library/lib/librncv.a" ]; then
+    echo "install.sh: nothing is built: no $program, no $xml/xml2pyx, no $library/lib/librncv.a. Run \`make\` first. Nothing was installed" >&2
+    exit 1
+fi
+
+lacks() {
+    [ "$action" = uninstall ] || lacking="$lacking
+  $1"
+}
+
+# Makes way for a file, and its folder. False: it is to be removed, and is.
+room_for() {
+    rm -f "$1"
+    [ "$action" = install ] || return 1
+    mkdir -p "$(dirname "$1")"
+}
+
+# put MODE SOURCE TARGET: a file, with TARGET below PREFIX
+put() {
+    room_for "$root/$3" || return 0
+    cp "$2" "$root/$3"
+    chmod "$1" "$root/$3"
+}
+
+# link TEXT TARGET: a symbolic link
+link() {
+    room_for "$root/$2" || return 0
+    ln -s "$1" "$root/$2"
+}
+
+# page TARGET NAME: a man page that is read by another name too
+page() {
+    room_for "$root/share/man/$2" || return 0
+    printf '.so %s\n' "$1" > "$root/share/man/$2"
+    chmod 644 "$root/share/man/$2"
+}
+
+# python_program SOURCE TARGET NAME: a program in Python, beside its modules, and a link to it in bin. Python looks for modules where the link leads.
+python_program() {
+    link "../$2" "bin/$3"
+    room_for "$root/$2" || return 0
+    if [ -n "${PYTHON:-}" ]; then
+        { printf '#!%s\n' "$PYTHON"; tail -n +2 "$1"; } > "$root/$2"
+    else
+        cp "$1" "$root/$2"
+    fi
+    chmod 755 "$root/$2"
+}
+
+# modules FOLDER TARGET: the modules of a folder, without its tests
+modules() {
+    for module in "$1"/*.py; do
+        case ${module##*/} in
+        test_*.py | *_test.py | testing.py | '*.py') ;;
+        *) put 644 "$module" "$2/${module##*/}" ;;
+        esac
+    done
+}
+
+# a program that was compiled
+if [ "$action" = uninstall ] || [ -f "$program" ]; then
+    put 755 "$program" bin/rncv
+else
+    lacks "rncv: not at $program"
+fi
+for name in rncv-xml xml2pyx; do
+    if [ "$action" = uninstall ] || [ -f "$xml/$name" ]; then
+        put 755 "$xml/$name" "bin/$name"
+        else
+        lacks "$name: not in $xml"
+    fi
+done
+
+# the library, its header, and what pkg-config says of it
+if [ "$action" = uninstall ] || [ -f "$library/lib/librncv.so.$version" ]; then
+    put 644 "$library/lib/librncv.so.$version" "lib/librncv.so.$version"
+    link "librncv.so.$version" "lib/librncv.so.${version%%.*}"
+    link "librncv.so.${version%%.*}" lib/librncv.so
+    put 644 "$library/lib/librncv.a" lib/librncv.a
+    put 644 "$library/include/rncv.h" include/rncv.h
+    if room_for "$root/lib/pkgconfig/rncv.pc"; then
+        # in a replacement of sed \, & and the | between its parts are no plain characters; in a path of rncv.pc a blank is none
+        plain=$(printf '%s\n' "$prefix" | sed -e 's/ /\\ /g' -e 's/[\\&|]/\\&/g')
+        sed -e "s|@prefix@|$plain|" -e "s|@version@|$version|" tools/library/rncv.pc.in > "$root/lib/pkgconfig/rncv.pc"
+        chmod 644 "$root/lib/pkgconfig/rncv.pc"
+    fi
+elif [ -f "$library/lib/librncv.a" ]; then
+    lacks "librncv: what is in $library is not of version $version"
+else
+    lacks "librncv: not in $library"
+fi
+
+# the programs and the package in Python, which are not built
+python_program tools/schema/rncv-profile "$share/schema/rncv-profile" rncv-profile
+modules tools/schema "$share/schema"
+if [ "$action" = uninstall ] || [ -f tools/lsp/rncv-lsp ]; then
+    python_program tools/lsp/rncv-lsp "$share/lsp/rncv-lsp" rncv-lsp
+    modules tools/lsp "$share/lsp"
+else
+    lacks "rncv-lsp: there is no tools/lsp/rncv-lsp"
+fi
+for name in __init__.py py.typed; do
+    put 644 "tools/python/rncv/$name" "$share/python/rncv/$name"
+done
+
+# man pages; those with several names have a file for each
+for source in man/*.[1-8] tools/*/*.[1-8]; do
+    [ -f "$source" ] || continue
+    put 644 "$source" "share/man/man${source##*.}/${source##*/}"
+done
+page man1/rncv-xml.1 man1/xml2pyx.1
+sed -n 's/^[a-z].*[ *]\(rncv_[a-z_]*\)(.*/\1/p' tools/library/include/rncv.h | while IFS= read -r name; do
+    page man3/rncv.3 "man3/$name.3"
+done
+
+# completions
+bash=share/bash-completion/completions
+put 644 tools/package/completions/rncv.bash "$bash/rncv"
+for name in rncv-xml xml2pyx rncv-profile; do
+    link rncv "$bash/$name"
+done
+put 644 tools/package/completions/_rncv "$zsh/_rncv"
+for source in tools/package/completions/*.fish; do
+    put 644 "$source" "share/fish/vendor_completions.d/${source##*/}"
+done
+
+# editors
+put 644 tools/package/editors/rncv.vim share/vim/vimfiles/compiler/rncv.vim
+put 644 tools/package/editors/rncv.el share/emacs/site-lisp/rncv.el
+
+# pages and examples
+for source in README.md CHANGELOG.md LICENSE docs/CLAUSES.md docs/INSTALL.md docs/LANGUAGE.md docs/LIBRARY.md docs/MIGRATING.md docs/XML.md; do
+    if [ -f "$source" ]; then
+        put 644 "$source" "$doc/$source"
+    fi
+done
+find examples -type f | while IFS= read -r source; do
+    put 644 "$source" "$doc/$source"
+done
+
+if [ "$action" = uninstall ]; then
+    # what Python wrote there, and the folders of our own, which are empty now
+    for folder in "$share" "$doc"; do
+        [ -d "$root/$folder" ] || continue
+        find "$root/$folder" -depth -type d -name __pycache__ -exec rm -rf {} \;
+        find "$root/$folder" -depth -type d -exec rmdir {} \; 2> /dev/null || true
+    done
+    exit 0
+fi
+if [ -n "$lacking" ]; then
+    echo "install.sh: not built, and so not installed:$lacking" >&2
+    [ -z "${RNCV_REQUIRED:-}" ] || exit 1
+fi
