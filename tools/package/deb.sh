@@ -1,0 +1,112 @@
+#!/bin/sh
+# Makes a Debian package of what is built:   tools/package/deb.sh [FOLDER]      (`make deb`; FOLDER, else build/package)
+#
+# It wants dpkg-deb and no network, and builds nothing. The variables PROGRAM, LIBRARY and XML_PROGRAMS are those of install.sh. The date in the
+# package is SOURCE_DATE_EPOCH, else that of the last commit, so the same files make the same package. MAINTAINER is who answers for the package.
+set -eu
+umask 022
+
+top=$(cd "$(dirname "$0")/../.." && pwd)
+folder=${1:-$top/build/package}
+version=$(cat "$top/VERSION")
+for tool in dpkg dpkg-deb; do
+    command -v "$tool" > /dev/null || { echo "deb.sh: no $tool: packages are made on Debian and its kin" >&2; exit 2; }
+done
+architecture=$(dpkg --print-architecture)
+maintainer=${MAINTAINER:-rncv maintainers <maintainers@users.noreply.pamstwier.example>}
+date=${SOURCE_DATE_EPOCH:-$(git -C "$top" log -1 --format=%ct 2> /dev/null || date +%s)}
+SOURCE_DATE_EPOCH=$date
+export SOURCE_DATE_EPOCH
+
+mkdir -p "$folder"
+folder=$(cd "$folder" && pwd)
+room=$(mktemp -d)
+trap 'rm -rf "$room"' EXIT
+root=$room/root
+
+RNCV_REQUIRED=1 PREFIX=/usr DESTDIR=$root ZSHDIR=share/zsh/vendor-completions PYTHON=/usr/bin/python3 "$top/tools/package/install.sh" install 2> "$room/log" || {
+    cat "$room/log" >&2
+    # a package without the language server is still one
+    [ "$(grep -c '^  ' "$room/log")" = 1 ] && grep -q '^  rncv-lsp:' "$room/log" || exit 1
+}
+
+# symbols are for those who build, and pages are compressed
+elf() { [ "$(head -c 4 "$1" | tr -d '\177')" = ELF ]; }
+if command -v strip > /dev/null; then
+    for file in "$root"/usr/bin/* "$root/usr/lib/librncv.so.$version"; do
+        if [ ! -L "$file" ] && elf "$file"; then
+            strip --strip-unneeded --remove-section=.comment --remove-section=.note "$file"
+        fi
+    done
+    strip --strip-debug --enable-deterministic-archives "$root/usr/lib/librncv.a"
+fi
+find "$root/usr/share/man" -type f -exec gzip -9n {} +
+
+# what Debian wants to know of every package
+doc=$root/usr/share/doc/rncv
+if [ -f "$top/LICENSE" ]; then
+    mv "$doc/LICENSE" "$doc/copyright"
+else
+    cat > "$doc/copyright" << 'END'
+rncv, a RELAX NG validator.
+
+The authors have the copyright. This version names no licence: its repository has no file LICENSE.
+Ask the owner of the repository before you pass the package on.
+END
+fi
+if [ -f "$doc/CHANGELOG.md" ]; then
+    gzip -9nc "$doc/CHANGELOG.md" > "$doc/changelog.upstream.gz"
+    rm "$doc/CHANGELOG.md"
+fi
+printf 'rncv (%s) unstable; urgency=medium\n\n  * Version %s.\n\n -- %s  %s\n' "$version" "$version" "$maintainer" \
+    "$(LC_ALL=C date -u -d "@$date" '+%a, %d %b %Y %H:%M:%S +0000')" | gzip -9nc > "$doc/changelog.gz"
+
+# Which packages the programs load libraries from. dpkg-shlibdeps knows which version is needed; without it the oldest that will do are named.
+depends=
+if command -v dpkg-shlibdeps > /dev/null; then
+    mkdir -p "$room/source/debian"
+    printf 'Source: rncv\n\nPackage: rncv\nArchitecture: any\n' > "$room/source/debian/control"
+    set --
+    for file in "$root"/usr/bin/* "$root/usr/lib/librncv.so.$version"; do
+        if [ ! -L "$file" ] && elf "$file"; then
+            set -- "$@" "-e$file"
+        fi
+    done
+    depends=$(cd "$room/source" && dpkg-shlibdeps -O "$@" 2> "$room/log" | sed -n 's/^shlibs:Depends=//p') || { cat "$room/log" >&2; depends=; }
+fi
+[ -n "$depends" ] || depends="libc6 (>= 2.36), libexpat1 (>= 2.4.0)"
+
+mkdir -p "$root/DEBIAN"
+cat > "$root/DEBIAN/control" << END
+Package: rncv
+Version: $version
+Architecture: $architecture
+Maintainer: $maintainer
+Installed-Size: $(du -k -s "$root/usr" | cut -f 1)
+Depends: $depends, python3 (>= 3.9)
+Section: text
+Priority: optional
+Description: proved RELAX NG validator
+ rncv validates documents by RELAX NG schemas in the compact syntax.
+ It is written in Rattle, which is Rust with contracts, and its answers are
+ proved to be those of the standard.
+ .
+ The package has rncv, rncv-xml for XML documents, xml2pyx, rncv-profile, and
+ the library librncv for C and Python.
+END
+echo "librncv ${version%%.*} rncv (>= $version)" > "$root/DEBIAN/shlibs"
+echo "activate-noawait ldconfig" > "$root/DEBIAN/triggers"
+cat > "$root/DEBIAN/prerm" << 'END'
+#!/bin/sh
+set -e
+# what Python wrote beside its modules
+if [ -d /usr/share/rncv ]; then
+    find /usr/share/rncv -depth -type d -name __pycache__ -exec rm -rf {} \;
+fi
+END
+chmod 755 "$root/DEBIAN/prerm"
+(cd "$root" && find usr -type f | LC_ALL=C sort | while IFS= read -r file; do md5sum "$file"; done > DEBIAN/md5sums)
+
+package=$folder/rncv_${version}_$architecture.deb
+dpkg-deb --root-owner-group -Zxz --build "$root" "$package" > "$room/log" || { cat "$room/log" >&2; exit 1; }
+echo "$package"
