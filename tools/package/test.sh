@@ -1,0 +1,394 @@
+#!/bin/sh
+# Tests of what is installed, in less than 20 seconds:   tools/package/test.sh [PROGRAM]     (PROGRAM: the built rncv, else crates/rncv/out/rncv)
+#
+# It installs into empty folders, some with a blank in their names, uses what is there, and makes, looks at and unpacks the Debian package.
+# RNCV_LIBRARY names the folder of the library, else build/library or build/library-tests/llvm. RNCV_XML_PROGRAMS names that of rncv-xml and xml2pyx,
+# else they are built. Where the program is not built, a stub stands in for it, and what wants its answers is skipped aloud. So is what wants another
+# program that is not installed. Where the variable RNCV_REQUIRED is set, a missing program or library is a failure.
+# The image of the Dockerfile is built only where RNCV_BUILDER names a builder (docker, podman), since that wants the network.
+set -eu
+
+here=$(cd "$(dirname "$0")" && pwd)
+top=$(cd "$here/../.." && pwd)
+room=$(mktemp -d)
+trap 'rm -rf "$room"' EXIT
+status=0
+version=$(cat "$top/VERSION")
+
+fail() { echo "tools/package/test.sh: $*"; status=1; }
+skip() { echo "tools/package/test.sh: skipped: $*"; }
+has() { command -v "$1" > /dev/null; }
+# same WHAT WANTED FOUND
+same() { [ "$2" = "$3" ] || fail "$1: wanted '$2', and not '$3'"; }
+# absolute PATH: the path of a file or folder, from the top
+absolute() { (cd "$(dirname "$1")" && printf '%s/%s\n' "$(pwd)" "$(basename "$1")"); }
+
+# --- what there is to install
+
+program=${1:-$top/crates/rncv/out/rncv}
+real=1
+if [ ! -x "$program" ]; then
+    [ -z "${RNCV_REQUIRED:-}" ] || { echo "tools/package/test.sh: no program at $program" >&2; exit 1; }
+    program=$room/stub
+    printf '#!/bin/sh\nexit 4\n' > "$program"
+    chmod 755 "$program"
+fi
+if [ "$(head -c 4 "$program" | tr -d '\177')" != ELF ]; then
+    real=0
+    echo "tools/package/test.sh: rncv is a stub here"
+fi
+program=$(absolute "$program")
+
+library=${RNCV_LIBRARY:-}
+if [ -z "$library" ]; then
+    library=$top/build/library
+    [ -f "$library/lib/librncv.so.$version" ] || library=$top/build/library-tests/llvm
+fi
+built=1
+if [ ! -f "$library/lib/librncv.so.$version" ]; then
+    [ -z "${RNCV_REQUIRED:-}" ] || { echo "tools/package/test.sh: no library of version $version in $library" >&2; exit 1; }
+    built=0
+    skip "what wants the library, since there is none of version $version in $library (tools/library/build.sh builds it)"
+else
+    library=$(absolute "$library")
+fi
+
+xml=${RNCV_XML_PROGRAMS:-}
+if [ "$built" = 1 ] && [ -z "$xml" ]; then
+    xml=$room/xml
+    RNCV_LIBRARY=$library "$top/tools/xml/build.sh" "$xml" || { [ -z "${RNCV_REQUIRED:-}" ] || exit 1; }
+fi
+xml=${xml:-$room/xml}
+[ -x "$xml/rncv-xml" ] || { built=0; skip "what wants rncv-xml, since it is not in $xml"; }
+[ ! -d "$xml" ] || xml=$(absolute "$xml")
+
+# make TARGET [VARIABLE=VALUE..]: the Makefile, with what is built; what it says is in `said`
+makes() {
+    env -u MAKEFLAGS -u MAKELEVEL -u RNCV_REQUIRED make -s -C "$top" "$@" PROGRAM="$program" LIBRARY="$library" XML_PROGRAMS="$xml" > "$room/said" 2>&1
+}
+
+# --- one version
+
+header=$top/tools/library/include/rncv.h
+number() { sed -n "s/^#define RNCV_VERSION_$1 //p" "$header"; }
+same "the numbers of rncv.h" "$version" "$(number MAJOR).$(number MINOR).$(number PATCH)"
+same "RNCV_VERSION of rncv.h" "\"$version\"" "$(sed -n 's/^#define RNCV_VERSION //p' "$header")"
+same "__version__ of the Python package" "$version" "$(sed -n 's/^__version__ = "\(.*\)"$/\1/p' "$top/tools/python/rncv/__init__.py")"
+same "PROGRAM_VERSION of tools/xml" "\"$version\"" "$(sed -n 's/^#define PROGRAM_VERSION //p' "$top/tools/xml/src/program.h")"
+for page in "$top"/man/*.[1-8]; do
+    sed -n 's/\\-/-/g; 1p' "$page" | grep -q "^\.TH .* \"rncv[a-z-]* $version\" " || fail "$page: its first line does not have version $version"
+done
+
+# --- make install
+
+if ! has make; then
+    skip "all that is installed, since there is no make"
+    exit "$status"
+fi
+
+if env -u MAKEFLAGS -u MAKELEVEL make -s -C "$top" install DESTDIR="$room/nothing" PROGRAM="$room/none" LIBRARY="$room/none" XML_PROGRAMS="$room/none" \
+    > "$room/said" 2>&1; then
+    fail "make install with nothing built ends well"
+fi
+grep -q "nothing is built" "$room/said" || fail "make install with nothing built does not say so"
+[ ! -e "$room/nothing" ] || fail "make install with nothing built installs something"
+
+if env -u MAKEFLAGS -u MAKELEVEL -u RNCV_REQUIRED make -s -C "$top" install DESTDIR="$room/some" PROGRAM="$program" LIBRARY="$room/none" XML_PROGRAMS="$room/none" \
+    > "$room/said" 2>&1 && [ -x "$room/some/usr/local/bin/rncv" ]; then
+    for name in rncv-xml xml2pyx librncv; do
+        grep -q "^  $name: not in" "$room/said" || fail "make install does not say that $name is missing"
+    done
+else
+    fail "make install of the program alone fails: $(cat "$room/said")"
+fi
+
+root="$room/root of rncv"
+makes install DESTDIR="$root" || fail "make install fails: $(cat "$room/said")"
+installed=$root/usr/local
+while IFS= read -r path; do
+    case $path in
+    lib/* | include/* | bin/rncv-xml | bin/xml2pyx) [ "$built" = 1 ] || continue ;;
+    esac
+    [ -f "$installed/$path" ] || fail "not installed: $path"
+done << END
+bin/rncv
+bin/rncv-profile
+bin/rncv-xml
+bin/xml2pyx
+include/rncv.h
+lib/librncv.a
+lib/librncv.so
+lib/librncv.so.${version%%.*}
+lib/librncv.so.$version
+lib/pkgconfig/rncv.pc
+share/bash-completion/completions/rncv
+share/bash-completion/completions/rncv-profile
+share/bash-completion/completions/rncv-xml
+share/bash-completion/completions/xml2pyx
+share/doc/rncv/README.md
+share/doc/rncv/docs/CLAUSES.md
+share/doc/rncv/docs/INSTALL.md
+share/doc/rncv/docs/LANGUAGE.md
+share/doc/rncv/docs/LIBRARY.md
+share/doc/rncv/docs/MIGRATING.md
+share/doc/rncv/docs/XML.md
+share/doc/rncv/examples/letter/letter.xml
+share/doc/rncv/examples/letter/s.rnc
+share/emacs/site-lisp/rncv.el
+share/fish/vendor_completions.d/rncv-profile.fish
+share/fish/vendor_completions.d/rncv-xml.fish
+share/fish/vendor_completions.d/rncv.fish
+share/fish/vendor_completions.d/xml2pyx.fish
+share/man/man1/rncv-profile.1
+share/man/man1/rncv-xml.1
+share/man/man1/rncv.1
+share/man/man1/xml2pyx.1
+share/man/man3/rncv.3
+share/man/man3/rncv_compile.3
+share/man/man3/rncv_document_feed.3
+share/man/man5/rncv-pyx.5
+share/rncv/python/rncv/__init__.py
+share/rncv/python/rncv/py.typed
+share/rncv/schema/rncv-profile
+share/vim/vimfiles/compiler/rncv.vim
+share/zsh/site-functions/_rncv
+END
+if [ -f "$top/tools/lsp/rncv-lsp" ]; then
+    [ -x "$installed/bin/rncv-lsp" ] || fail "not installed: bin/rncv-lsp"
+fi
+# no file names the folder of DESTDIR
+if grep -rIlF "$room" "$root" > "$room/found"; then
+    fail "DESTDIR is in $(cat "$room/found")"
+fi
+if [ "$built" = 1 ]; then
+    same "the prefix of rncv.pc" "prefix=/usr/local" "$(sed -n 1p "$installed/lib/pkgconfig/rncv.pc")"
+    same "the version of rncv.pc" "Version: $version" "$(grep '^Version' "$installed/lib/pkgconfig/rncv.pc")"
+fi
+
+# --- the programs that are installed
+
+examples=$installed/share/doc/rncv/examples
+inside() { env -i PATH="$installed/bin:/usr/bin:/bin" LC_ALL=C "$@"; }
+for name in rncv-profile rncv-lsp; do
+    [ -e "$installed/bin/$name" ] || continue
+    inside "$name" --help > "$room/help" 2>&1 || fail "the installed $name --help: status $?"
+    grep -q "$name" "$room/help" || fail "the installed $name does not answer --help: $(cat "$room/help")"
+done
+inside rncv-profile "$examples/letter/s.rnc" > "$room/out" 2>&1 || fail "the installed rncv-profile: $(cat "$room/out")"
+if [ "$built" = 1 ]; then
+    same "rncv-xml --version" "rncv-xml $version (librncv $version)" "$(inside rncv-xml --version)"
+    same "xml2pyx --version" "xml2pyx $version" "$(inside xml2pyx --version)"
+    same "rncv-xml" "letter.xml: valid" "$(cd "$examples/letter" && inside rncv-xml --all s.rnc letter.xml)"
+fi
+
+# --- a prefix with a blank: C and Python use what is there
+
+if [ "$built" = 1 ]; then
+    prefix="$room/a prefix"
+    makes install PREFIX="$prefix" || fail "make install PREFIX= fails: $(cat "$room/said")"
+    cat > "$room/judge.c" << 'END'
+#include <rncv.h>
+#include <stdio.h>
+
+int main(void) {
+    rncv_file file = {(const uint8_t *)"s.rnc", 5, (const uint8_t *)"element a { text }", 18};
+    rncv_schema schema = RNCV_NOTHING;
+    rncv_fault fault;
+    rncv_verdict verdict;
+    if (rncv_compile(&file, 1, &schema, &fault) != RNCV_DONE || rncv_document_begin(&schema) != RNCV_DONE ||
+        rncv_document_feed(&schema, (const uint8_t *)"(a\n)a\n", 6) != RNCV_DONE || rncv_document_end(&schema, &verdict) != RNCV_DONE) {
+        return 1;
+    }
+    rncv_schema_free(&schema);
+    printf("%s %d\n", RNCV_VERSION, (int)verdict.kind);
+}
+END
+    if has pkg-config && has "${CC:-cc}"; then
+        flags=$(PKG_CONFIG_PATH="$prefix/lib/pkgconfig" pkg-config --cflags --libs rncv)
+        # pkg-config writes blanks for a shell
+        if eval "\"\${CC:-cc}\" -o \"\$room/judge\" \"\$room/judge.c\" $flags" 2> "$room/log"; then
+            same "a program in C" "$version 0" "$(LD_LIBRARY_PATH="$prefix/lib" "$room/judge")"
+        else
+            fail "a program in C is not compiled by the flags $flags: $(cat "$room/log")"
+        fi
+    else
+        skip "a program in C, since pkg-config or a C compiler is not installed"
+    fi
+    same "the Python package" "$version valid" "$(env -i PATH=/usr/bin:/bin PYTHONPATH="$prefix/share/rncv/python" python3 -c '
+import rncv
+print(rncv.__version__, rncv.compile({"s.rnc": b"element a { text }"}).validate(b"(a\n)a\n"))' 2>&1)"
+    makes uninstall PREFIX="$prefix" || fail "make uninstall fails: $(cat "$room/said")"
+    same "what make uninstall leaves" "" "$(find "$prefix" ! -type d)"
+    [ ! -e "$prefix/share/rncv" ] || fail "make uninstall leaves share/rncv"
+fi
+
+# --- man pages
+
+pages=$installed/share/man
+if has mandoc; then
+    for page in "$top"/man/*.[1-8]; do
+        mandoc -Tlint -Wwarning "$page" > "$room/out" 2>&1 || fail "$(cat "$room/out")"
+    done
+elif has man; then
+    for page in "$top"/man/*.[1-8]; do
+        man --warnings -l "$page" 2>&1 > /dev/null | grep . > "$room/out" && fail "$page: $(cat "$room/out")"
+    done
+else
+    skip "the man pages, since neither mandoc nor man is installed"
+fi
+for clause in 1 2 3 4 5 6 7 8 9 10 11 12 13; do
+    grep -q "^\.B P$clause\$" "$pages/man5/rncv-pyx.5" || fail "rncv-pyx(5) does not have P$clause"
+done
+same "the number of clauses of documents" 13 "$(grep -c '^### P[0-9]*:' "$top/docs/CLAUSES.md")"
+for name in $(grep -oE '\brncv_[a-z_]+\(' "$header" | tr -d '(' | sort -u); do
+    grep -q "$name(" "$pages/man3/rncv.3" || fail "rncv(3) does not have $name"
+    [ -f "$pages/man3/$name.3" ] || fail "there is no page $name(3)"
+done
+tr '\n' ' ' < "$pages/man3/rncv.3" > "$room/page"
+grep -oE 'RNCV_[A-Z]+ = [0-9]' "$header" > "$room/numbers"
+while IFS=' =' read -r name number; do
+    grep -qE "$name[ \"]*\($number\)" "$room/page" || fail "rncv(3) does not have $name = $number"
+done < "$room/numbers"
+
+# --- completions: each option of each program
+
+shells=$installed/share
+for name in rncv-xml xml2pyx rncv-profile; do
+    [ -e "$installed/bin/$name" ] || continue
+    page=$pages/man1/$name.1
+    if grep -q '^\.so ' "$page"; then page=$pages/$(sed 's/^\.so //' "$page"); fi
+    sed 's/\\-/-/g' "$page" > "$room/page"
+    for option in $(inside "$name" --help | grep -oE '(^|[ ,[])--[a-z][a-z0-9-]+' | tr -d ' ,[' | sort -u); do
+        grep -qF -e "$option" "$room/page" || fail "$name(1) does not have $option"
+        grep -qF -e "$option" "$shells/bash-completion/completions/rncv" || fail "the completion for bash does not have $option of $name"
+        grep -qF -e "$option" "$shells/zsh/site-functions/_rncv" || fail "the completion for zsh does not have $option of $name"
+        grep -qE -e "-l ${option#--}( |\$)" "$shells/fish/vendor_completions.d/$name.fish" || fail "the completion for fish does not have $option of $name"
+    done
+done
+if has bash; then
+    # shellcheck disable=SC2016  # bash reads this
+    same "what bash completes" "--format" "$(bash -c '. "$1"; COMP_WORDS=(rncv-xml --fo); COMP_CWORD=1; _rncv_xml rncv-xml --fo rncv-xml; echo "${COMPREPLY[@]}"' \
+        bash "$shells/bash-completion/completions/rncv-xml")"
+else
+    skip "the completion for bash, which is not installed"
+fi
+if has zsh; then
+    zsh -n "$shells/zsh/site-functions/_rncv" || fail "the completion for zsh is not read"
+    # shellcheck disable=SC2016  # zsh reads this
+    same "what zsh finds" "_rncv" "$(zsh -fc 'fpath=("$1" $fpath); autoload -Uz compinit; compinit -D -u; print -r -- $_comps[rncv-xml]' zsh "$shells/zsh/site-functions")"
+else
+    skip "the completion for zsh, which is not installed"
+fi
+if has fish; then
+    # shellcheck disable=SC2016  # fish reads this
+    same "what fish completes" "--format" "$(HOME=$room fish --no-config -c 'source $argv[1]; complete -C "rncv-xml --form"' "$shells/fish/vendor_completions.d/rncv-xml.fish" | cut -f 1)"
+else
+    skip "the completion for fish, which is not installed"
+fi
+
+# --- editors
+
+mkdir "$room/editing"
+cp "$examples/letter/s.rnc" "$examples/letter/untitled.xml" "$room/editing"
+if [ "$built" = 1 ] && has vim && vim --version | grep -q '+quickfix' && vim --version | grep -q '+eval'; then
+    (cd "$room/editing" && env PATH="$installed/bin:$PATH" vim -Nu NONE -i NONE -es -c "let &runtimepath .= ',' . escape('$shells/vim/vimfiles', ' ')" \
+        -c 'compiler rncv' -c 'silent make! s.rnc' -c 'call writefile(map(getqflist(), "bufname(v:val.bufnr) . v:val.lnum . \":\" . v:val.col"), "found")' \
+        -c 'qall!' untitled.xml < /dev/null > "$room/out" 2>&1) || true
+    same "the place that Vim finds" "untitled.xml3:3" "$(cat "$room/editing/found" 2> /dev/null)"
+else
+    skip "the settings for Vim, since it (with quickfix) or rncv-xml is not there"
+fi
+if has emacs; then
+    same "the place that Emacs finds" "untitled.xml 3 3" "$(cd "$room/editing" && emacs -Q --batch -L "$shells/emacs/site-lisp" --eval "
+(progn
+  (require 'rncv)
+  (let ((pattern (cadr (assq 'rncv compilation-error-regexp-alist-alist)))
+        (line \"untitled.xml:3:3: invalid: at <subject>\"))
+    (when (string-match pattern line)
+      (princ (format \"%s %s %s\" (match-string 1 line) (match-string 2 line) (match-string 3 line))))))" 2>&1)"
+    cp "$shells/emacs/site-lisp/rncv.el" "$room/rncv.el"
+    emacs -Q --batch --eval '(setq byte-compile-error-on-warn t)' -f batch-byte-compile "$room/rncv.el" > "$room/out" 2>&1 || fail "rncv.el: $(cat "$room/out")"
+else
+    skip "the settings for Emacs, which is not installed"
+fi
+
+# --- what is written for a shell
+
+if has shellcheck; then
+    shellcheck "$top/tools/setup.sh" "$here/install.sh" "$here/deb.sh" "$here/test.sh" || fail "shellcheck"
+    shellcheck -s bash "$here/completions/rncv.bash" || fail "shellcheck"
+else
+    skip "shellcheck, which is not installed"
+fi
+
+# --- tools/setup.sh, with stand-ins for what would change the machine
+
+mkdir "$room/standins"
+cat > "$room/standins/apt-get" << 'END'
+#!/bin/sh
+echo "apt-get $*" >> "$STANDIN_ASKED"
+exit 100
+END
+cat > "$room/standins/id" << 'END'
+#!/bin/sh
+echo "$STANDIN_ID"
+END
+chmod 755 "$room/standins/apt-get" "$room/standins/id"
+# sets_up ID CC: its output is in `said`
+sets_up() {
+    rm -f "$room/asked"
+    STANDIN_ASKED=$room/asked STANDIN_ID=$1 CC=$2 PATH=$room/standins:$PATH "$top/tools/setup.sh" > "$room/said" 2>&1 ||
+        fail "tools/setup.sh fails: $(cat "$room/said")"
+}
+sets_up 0 "${CC:-cc}"
+if [ -s "$room/said" ]; then
+    skip "tools/setup.sh where all is there: $(cat "$room/said")"
+else
+    [ ! -e "$room/asked" ] || fail "tools/setup.sh asks apt-get where all is there"
+fi
+sets_up 1000 "$room/none"
+[ ! -e "$room/asked" ] || fail "tools/setup.sh asks apt-get without being root"
+for word in "this is not root" "a C compiler"; do
+    grep -q "$word" "$room/said" || fail "tools/setup.sh does not say what is missing: $(cat "$room/said")"
+done
+sets_up 0 "$room/none"
+same "what tools/setup.sh asks of apt-get" "install update" "$(grep -oE '(install|update)( |$)' "$room/asked" | tr -d ' ' | tr '\n' ' ' | sed 's/ $//')"
+grep -q "apt-get did not install it" "$room/said" || fail "tools/setup.sh does not say that apt-get failed: $(cat "$room/said")"
+
+# --- the Debian package
+
+if [ "$built" = 1 ] && has dpkg-deb; then
+    if env -u MAKEFLAGS -u MAKELEVEL PROGRAM="$program" LIBRARY="$library" XML_PROGRAMS="$xml" "$here/deb.sh" "$room/deb" > "$room/said" 2> "$room/log"; then
+        package=$(cat "$room/said")
+        same "the name of the package" "rncv_${version}_$(dpkg --print-architecture).deb" "$(basename "$package")"
+        for name in libc6 libexpat1 python3; do
+            dpkg-deb -f "$package" Depends | grep -qE "(^|, )$name( |,|\$)" || fail "the package does not depend on $name"
+        done
+        if has lintian; then
+            if [ "$(id -u)" = 0 ]; then set -- --allow-root; else set --; fi
+            lintian --no-cfg --fail-on error "$@" "$package" > "$room/lintian" 2>&1 || fail "lintian: $(cat "$room/lintian")"
+        else
+            skip "lintian, which is not installed"
+        fi
+        mkdir "$room/unpacked"
+        dpkg-deb -x "$package" "$room/unpacked"
+        same "the first line of rncv-profile" "#!/usr/bin/python3" "$(sed -n 1p "$room/unpacked/usr/share/rncv/schema/rncv-profile")"
+        if [ "$real" = 1 ]; then
+            python3 -B "$here/first_example.py" "$room/unpacked" || fail "the first example"
+        else
+            skip "the first example of README.md, since rncv is a stub"
+        fi
+        if [ -n "${RNCV_BUILDER:-}" ]; then
+            "$RNCV_BUILDER" build -t rncv-test -f "$top/Dockerfile" "$room/deb" || fail "the image is not built"
+        else
+            skip "the image of Dockerfile, since RNCV_BUILDER names no builder"
+        fi
+    else
+        fail "tools/package/deb.sh fails: $(cat "$room/log")"
+    fi
+else
+    skip "the Debian package, since dpkg-deb or what is to be in it is not there"
+fi
+
+[ "$status" = 0 ] && echo "tools/package/test.sh: ok" || echo "tools/package/test.sh: FAILED"
+exit "$status"
