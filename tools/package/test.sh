@@ -247,7 +247,7 @@ done
 tr '\n' ' ' < "$pages/man3/rncv.3" > "$room/page"
 grep -oE 'RNCV_[A-Z]+ = [0-9]' "$header" > "$room/numbers"
 while IFS=' =' read -r name number; do
-    grep -qE "$name[ \"]*\($number\)" "$room/page" || fail "rncv(3) does not have $name = $number"
+    grep -qE "${name}[ \"]*\($number\)" "$room/page" || fail "rncv(3) does not have $name = $number"
 done < "$room/numbers"
 
 # --- completions: each option of each program
