@@ -67,6 +67,45 @@ makes() {
     env -u MAKEFLAGS -u MAKELEVEL -u RNCV_REQUIRED make -s -C "$top" "$@" PROGRAM="$program" LIBRARY="$library" XML_PROGRAMS="$xml" > "$room/said" 2>&1
 }
 
+# --- the Debian package, beside what follows
+
+debian_package() {
+    if [ "$built" = 0 ] || ! has dpkg-deb; then
+        skip "the Debian package, since dpkg-deb or what is to be in it is not there"
+        return
+    fi
+    if ! env -u MAKEFLAGS -u MAKELEVEL PROGRAM="$program" LIBRARY="$library" XML_PROGRAMS="$xml" "$here/deb.sh" "$room/deb" > "$room/name" 2> "$room/deb.log"; then
+        fail "tools/package/deb.sh fails: $(cat "$room/deb.log")"
+        return
+    fi
+    package=$(cat "$room/name")
+    same "the name of the package" "rncv_${version}_$(dpkg --print-architecture).deb" "$(basename "$package")"
+    for name in libc6 libexpat1 python3; do
+        dpkg-deb -f "$package" Depends | grep -qE "(^|, )$name( |,|\$)" || fail "the package does not depend on $name"
+    done
+    if has lintian; then
+        if [ "$(id -u)" = 0 ]; then set -- --allow-root; else set --; fi
+        lintian --no-cfg --fail-on error "$@" "$package" > "$room/lintian" 2>&1 || fail "lintian: $(cat "$room/lintian")"
+    else
+        skip "lintian, which is not installed"
+    fi
+    mkdir "$room/unpacked"
+    dpkg-deb -x "$package" "$room/unpacked"
+    same "the first line of rncv-profile" "#!/usr/bin/python3" "$(sed -n 1p "$room/unpacked/usr/share/rncv/schema/rncv-profile")"
+    if [ "$real" = 1 ]; then
+        python3 -B "$here/first_example.py" "$room/unpacked" || fail "the first example"
+    else
+        skip "the first example of README.md, since rncv is a stub"
+    fi
+    if [ -n "${RNCV_BUILDER:-}" ]; then
+        "$RNCV_BUILDER" build -t rncv-test -f "$top/Dockerfile" "$room/deb" || fail "the image is not built"
+    else
+        skip "the image of Dockerfile, since RNCV_BUILDER names no builder"
+    fi
+}
+
+(debian_package; exit "$status") > "$room/debian" 2>&1 & debian=$!
+
 # --- one version
 
 header=$top/tools/library/include/rncv.h
@@ -82,7 +121,9 @@ done
 # --- make install
 
 if ! has make; then
-    skip "all that is installed, since there is no make"
+    wait "$debian" || status=1
+    cat "$room/debian"
+    skip "all that \`make install\` installs, since there is no make"
     exit "$status"
 fi
 
@@ -355,40 +396,7 @@ sets_up 0 "$room/none"
 same "what tools/setup.sh asks of apt-get" "install update" "$(grep -oE '(install|update)( |$)' "$room/asked" | tr -d ' ' | tr '\n' ' ' | sed 's/ $//')"
 grep -q "apt-get did not install it" "$room/said" || fail "tools/setup.sh does not say that apt-get failed: $(cat "$room/said")"
 
-# --- the Debian package
-
-if [ "$built" = 1 ] && has dpkg-deb; then
-    if env -u MAKEFLAGS -u MAKELEVEL PROGRAM="$program" LIBRARY="$library" XML_PROGRAMS="$xml" "$here/deb.sh" "$room/deb" > "$room/said" 2> "$room/log"; then
-        package=$(cat "$room/said")
-        same "the name of the package" "rncv_${version}_$(dpkg --print-architecture).deb" "$(basename "$package")"
-        for name in libc6 libexpat1 python3; do
-            dpkg-deb -f "$package" Depends | grep -qE "(^|, )$name( |,|\$)" || fail "the package does not depend on $name"
-        done
-        if has lintian; then
-            if [ "$(id -u)" = 0 ]; then set -- --allow-root; else set --; fi
-            lintian --no-cfg --fail-on error "$@" "$package" > "$room/lintian" 2>&1 || fail "lintian: $(cat "$room/lintian")"
-        else
-            skip "lintian, which is not installed"
-        fi
-        mkdir "$room/unpacked"
-        dpkg-deb -x "$package" "$room/unpacked"
-        same "the first line of rncv-profile" "#!/usr/bin/python3" "$(sed -n 1p "$room/unpacked/usr/share/rncv/schema/rncv-profile")"
-        if [ "$real" = 1 ]; then
-            python3 -B "$here/first_example.py" "$room/unpacked" || fail "the first example"
-        else
-            skip "the first example of README.md, since rncv is a stub"
-        fi
-        if [ -n "${RNCV_BUILDER:-}" ]; then
-            "$RNCV_BUILDER" build -t rncv-test -f "$top/Dockerfile" "$room/deb" || fail "the image is not built"
-        else
-            skip "the image of Dockerfile, since RNCV_BUILDER names no builder"
-        fi
-    else
-        fail "tools/package/deb.sh fails: $(cat "$room/log")"
-    fi
-else
-    skip "the Debian package, since dpkg-deb or what is to be in it is not there"
-fi
-
+wait "$debian" || status=1
+cat "$room/debian"
 [ "$status" = 0 ] && echo "tools/package/test.sh: ok" || echo "tools/package/test.sh: FAILED"
 exit "$status"
