@@ -16,12 +16,14 @@ export RNCV_XML_PROGRAMS
 "$here/schema/test.sh" "$program" >"$room/schema" 2>&1 & schema=$!
 python3 -B "$here/transcripts/test.py" "$program" >"$room/transcripts" 2>&1 & transcripts=$!
 "$here/believed/test.sh" >"$room/believed" 2>&1 & believed=$!
+"$here/package/test.sh" "$program" >"$room/package" 2>&1 & package=$!
 status=0
 wait "$xml" || status=1
 wait "$schema" || status=1
 wait "$transcripts" || status=1
 wait "$believed" || status=1
-cat "$room/xml" "$room/schema" "$room/transcripts" "$room/believed"
+wait "$package" || status=1
+cat "$room/xml" "$room/schema" "$room/transcripts" "$room/believed" "$room/package"
 if [ "${RNCV_SKIP-}" = library ]; then
   echo "tools/library: left out"
 elif command -v "${CC:-cc}" >/dev/null; then
