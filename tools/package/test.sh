@@ -291,6 +291,9 @@ while IFS=' =' read -r name number; do
     grep -qE "${name}[ \"]*\($number\)" "$room/page" || fail "rncv(3) does not have $name = $number"
 done < "$room/numbers"
 
+mkdir "$room/editing"
+cp "$examples/letter/s.rnc" "$examples/letter/untitled.xml" "$room/editing"
+
 # --- completions: each option of each program
 
 shells=$installed/share
@@ -307,9 +310,17 @@ for name in rncv-xml xml2pyx rncv-profile; do
     done
 done
 if has bash; then
-    # shellcheck disable=SC2016  # bash reads this
-    same "what bash completes" "--format" "$(bash -c '. "$1"; COMP_WORDS=(rncv-xml --fo); COMP_CWORD=1; _rncv_xml rncv-xml --fo rncv-xml; echo "${COMPREPLY[@]}"' \
-        bash "$shells/bash-completion/completions/rncv-xml")"
+    # completed COMMAND WORD..: what bash completes the last word by, where only s.rnc and untitled.xml are; `compopt` wants a line that is edited
+    completed() {
+        # shellcheck disable=SC2016  # bash reads this
+        (cd "$room/editing" && bash -c 'compopt() { :; }; . "$1"; shift; COMP_WORDS=("$@"); COMP_CWORD=$(($# - 1)); call=$(complete -p "$1"); call=${call#*-F };
+            "${call% *}" "$1" "${*: -1}" "${*: -2:1}"; echo "${COMPREPLY[@]}"' bash "$shells/bash-completion/completions/rncv" "$@" 2>&1)
+    }
+    same "an option in bash" "--format" "$(completed rncv-xml --fo)"
+    same "a schema in bash" "s.rnc" "$(completed rncv-xml "")"
+    same "a document in bash" "untitled.xml s.rnc" "$(completed rncv-xml s.rnc "")"
+    same "a command in bash" "check" "$(completed rncv c)"
+    same "a file in bash" "s.rnc" "$(completed rncv check "")"
 else
     skip "the completion for bash, which is not installed"
 fi
@@ -329,8 +340,6 @@ fi
 
 # --- editors
 
-mkdir "$room/editing"
-cp "$examples/letter/s.rnc" "$examples/letter/untitled.xml" "$room/editing"
 if [ "$built" = 1 ] && has vim && vim --version | grep -q '+quickfix' && vim --version | grep -q '+eval'; then
     (cd "$room/editing" && env PATH="$installed/bin:$PATH" vim -Nu NONE -i NONE -es -c "let &runtimepath .= ',' . escape('$shells/vim/vimfiles', ' ')" \
         -c 'compiler rncv' -c 'silent make! s.rnc' -c 'call writefile(map(getqflist(), "bufname(v:val.bufnr) . v:val.lnum . \":\" . v:val.col"), "found")' \

@@ -1,15 +1,17 @@
 # Completion for bash: rncv, rncv-xml, xml2pyx and rncv-profile.
 
-# Files whose names match a pattern, and folders.
+# _rncv_files WORD PATTERN..: files whose names match a pattern, and folders
 _rncv_files() {
-    local word
+    local found pattern word=$1
+    shift
     compopt -o filenames
     COMPREPLY=()
-    while IFS= read -r word; do
-        COMPREPLY+=("$word")
-    done < <(compgen -d -- "$2"; compgen -f -X "!$1" -- "$2")
+    while IFS= read -r found; do
+        COMPREPLY+=("$found")
+    done < <(compgen -d -- "$word"; for pattern in "$@"; do compgen -f -X "!$pattern" -- "$word"; done)
 }
 
+# _rncv_words WORDS WORD
 _rncv_words() {
     local word
     COMPREPLY=()
@@ -22,7 +24,7 @@ _rncv() {
     if [ "$COMP_CWORD" = 1 ]; then
         _rncv_words "valid check simple" "$2"
     else
-        _rncv_files '*.rnc' "$2"
+        _rncv_files "$2" '*.rnc'
     fi
 }
 
@@ -31,7 +33,7 @@ _rncv_xml() {
     case $3 in
     --format) _rncv_words "text json sarif github" "$2"; return ;;
     --color) _rncv_words "auto always never" "$2"; return ;;
-    --files-from | --map) _rncv_files '*' "$2"; return ;;
+    --files-from | --map) _rncv_files "$2" '*'; return ;;
     --glob | --stdin-name | -j | --jobs) return ;;
     esac
     case $2 in
@@ -47,19 +49,19 @@ _rncv_xml() {
         esac
     done
     if [ "$schemas" = 0 ]; then
-        _rncv_files '*.rnc' "$2"
+        _rncv_files "$2" '*.rnc'
     else
-        _rncv_files '*.@(xml|rnc)' "$2"
+        _rncv_files "$2" '*.xml' '*.rnc'
     fi
 }
 
 _xml2pyx() {
     case $3 in
-    --lines) _rncv_files '*' "$2"; return ;;
+    --lines) _rncv_files "$2" '*'; return ;;
     esac
     case $2 in
     -*) _rncv_words "--lines --help -h --version" "$2" ;;
-    *) _rncv_files '*.xml' "$2" ;;
+    *) _rncv_files "$2" '*.xml' ;;
     esac
 }
 
@@ -69,7 +71,7 @@ _rncv_profile() {
     esac
     case $2 in
     -*) _rncv_words "--write --help -h" "$2" ;;
-    *) _rncv_files '*.rnc' "$2" ;;
+    *) _rncv_files "$2" '*.rnc' ;;
     esac
 }
 
