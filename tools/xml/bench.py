@@ -6,7 +6,7 @@
 FOLDER has rncv-xml (else build/xml). Each program runs on one processor; a time is the least of N, wall clock; memory is the most of all. jing is
 measured cold (its Java machine starts, and judges all the documents that are named) and, where a Java compiler is there, in a machine that runs
 (`warm`: the schema is loaded once, the least time of a validation). xmllint gets the schema as trang writes it. What is not installed is left out:
-apt-get install jing trang libxml2-utils default-jdk-headless.
+apt-get install jing trang libxml2-utils default-jdk-headless. It wants GNU time and taskset.
 """
 import argparse
 import os
@@ -87,20 +87,22 @@ class Bench:
     def __init__(self, given, folder):
         self.given, self.folder = given, folder
         self.core = max(os.sched_getaffinity(0)) if given.core is None else given.core
+        self.start = 0
+        self.start = min(self.once(["true"])[0] for _ in range(20))
 
     def once(self, words):
-        """Seconds, KiB and the status of one run."""
-        begun = time.perf_counter()
-        child = subprocess.Popen([str(word) for word in words], stdin=subprocess.DEVNULL, stdout=subprocess.DEVNULL, stderr=subprocess.DEVNULL,
-                                 preexec_fn=lambda: os.sched_setaffinity(0, {self.core}))
-        _, status, usage = os.wait4(child.pid, 0)
-        child.returncode = os.waitstatus_to_exitcode(status)
-        return time.perf_counter() - begun, usage.ru_maxrss, child.returncode
+        """Seconds, KiB and the status of one run. `time` is a small program: the memory of the one that measures does not count."""
+        with tempfile.NamedTemporaryFile() as measured:
+            begun = time.perf_counter()
+            run = subprocess.run(["taskset", "-c", str(self.core), "/usr/bin/time", "-q", "-f", "%M", "-o", measured.name, *map(str, words)],
+                                 stdin=subprocess.DEVNULL, stdout=subprocess.DEVNULL, stderr=subprocess.DEVNULL, check=False)
+            seconds = time.perf_counter() - begun
+            return seconds, int(measured.read().split()[-1]), run.returncode
 
     def run(self, words):
-        """The least time of several runs, the most memory, and whether each run said that all is valid."""
+        """The least time of several runs, the most memory, and whether each run said that all is valid. The start of `time` is taken off."""
         runs = [self.once(words) for _ in range(self.given.repeat)]
-        return min(run[0] for run in runs), max(run[1] for run in runs), all(run[2] == 0 for run in runs)
+        return max(min(run[0] for run in runs) - self.start, 0), max(run[1] for run in runs), all(run[2] == 0 for run in runs)
 
     def relax_ng(self, name):
         """The schema in the XML syntax, for xmllint."""

@@ -59,7 +59,7 @@ static void tell(const struct trail *trail, const char *line, size_t length, str
     told->has_tag = trail->has_tag && line[0] != 'A';
     told->tag_place = trail->tag_place;
     copy(&told->tag, &trail->tag);
-    told->has_text = trail->has_text && (line[0] == '(' || line[0] == ')');
+    told->has_text = trail->has_text && (line[0] == '(' || line[0] == ')' || line[0] == '-');
     told->text_place = trail->text_place;
     copy(&told->text, &trail->text);
 }
