@@ -202,16 +202,6 @@ static void set(struct answer *answer, enum stands stands, struct place place, c
     }
 }
 
-static void set_tag(struct probing *probing, const struct told *told, struct span lines, struct answer *answer) {
-    struct tag tag = last_tag(lines);
-    if (lines.length > 0 &&
-        (find_attribute(probing, &tag, false, &answer->name) || find_attribute(probing, &tag, true, &answer->name))) {
-        set(answer, STANDS_ATTRIBUTE, told->tag_place, NULL);
-    } else {
-        set(answer, STANDS_TAG, told->tag_place, &told->tag);
-    }
-}
-
 /* The text as it stands in the XML, not in the PYX. */
 static void set_text(const struct told *told, struct answer *answer) {
     struct bytes text = NO_BYTES;
@@ -239,6 +229,30 @@ static bool is_blank(const struct bytes *text) {
         }
     }
     return true;
+}
+
+/* Whether the tag is good once the text before it is gone. */
+static bool is_text_before(struct probing *probing, const struct tag *tag, const struct told *told) {
+    struct parts parts = {.count = 0};
+    if (!told->has_text || is_blank(&told->text)) {
+        return false;
+    }
+    struct span before = without_text(tag->before);
+    add(&parts, before.data, before.length);
+    add(&parts, tag->start.data, tag->start.length + tag->attributes.length);
+    add(&parts, "?x\n", 3);
+    return outcome_of(probing, &parts) == OUTCOME_GOES_ON;
+}
+
+static void set_tag(struct probing *probing, const struct told *told, struct span lines, struct answer *answer) {
+    struct tag tag = last_tag(lines);
+    if (lines.length > 0 && is_text_before(probing, &tag, told)) {
+        set_text(told, answer);
+    } else if (lines.length > 0 && (find_attribute(probing, &tag, false, &answer->name) || find_attribute(probing, &tag, true, &answer->name))) {
+        set(answer, STANDS_ATTRIBUTE, told->tag_place, NULL);
+    } else {
+        set(answer, STANDS_TAG, told->tag_place, &told->tag);
+    }
 }
 
 void probe(struct judge *judge, const struct told *told, uint64_t line, struct answer *answer) {

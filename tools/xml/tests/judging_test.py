@@ -39,7 +39,7 @@ class Lines(InFolder):
         self.invalid('element a { element b { "x" } }', "<a>\n <b/></a>", "2:2: invalid: at the end of <b>")
         self.invalid("element a { element b { empty }, element c { empty } }", "<a>\n <b/>\n </a>", "3:2: invalid: at the end of <a>")
         self.invalid("element a { mixed { element b { empty } } }", "<a>\n text </a>", "2:7: invalid: at the end of <a>")
-        self.invalid("element a { element b { empty } }", "<a>\n <b/> text <b/></a>", '2:6: invalid: at text " text "')
+        self.invalid("element a { element b { empty }* }", "<a>\n <b/> text <b/></a>", '2:6: invalid: at text " text "')
 
     def test_attributes(self):
         hours = 'element a { attribute at { xsd:integer { minInclusive = "0" maxInclusive = "23" } }, attribute k { "on" | "off" }? }'
