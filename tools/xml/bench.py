@@ -3,10 +3,10 @@
 
     tools/xml/bench.py [--programs FOLDER] [--work FOLDER] [--repeat N] [--core N] [--megabytes N] [--documents N]
 
-FOLDER has rncv-xml (else build/xml). Each program runs on one processor; a time is the least of N, wall clock; memory is the most of all. jing is
+FOLDER has rncv-xml (else build/xml). Each program runs on one processor, or where the row says so on two; a time is the least of N, wall clock; memory is the most of all. jing is
 measured cold (its Java machine starts, and judges all the documents that are named) and, where a Java compiler is there, in a machine that runs
 (`warm`: the schema is loaded once, the least time of a validation). xmllint gets the schema as trang writes it. What is not installed is left out:
-apt-get install jing trang libxml2-utils default-jdk-headless.
+apt-get install jing trang libxml2-utils default-jdk-headless. It wants GNU time and taskset.
 """
 import argparse
 import os
@@ -76,31 +76,36 @@ def write_workloads(folder, size, count):
     (folder / "many").mkdir(exist_ok=True)
     for path in many:
         write_records(path, 1_000)
-    return [("one small document", "s", [folder / "small.xml"]), (f"{count:,} small documents", "s", many),
-            (f"{size // 1_000_000} MB of records", "s", [folder / "large.xml"]),
-            (f"a comment of {size // 1_000_000} MB", "comment", [folder / "comment.xml"])]
+    large = f"{size // 1_000_000} MB"
+    return [("one small document", 1, "s", [folder / "small.xml"]), (f"{count:,} small documents", 1, "s", many),
+            (f"{count:,} small documents, two processors", 2, "s", many),
+            (f"{large} of records", 1, "s", [folder / "large.xml"]), (f"{large} of records, two processors", 2, "s", [folder / "large.xml"]),
+            (f"a comment of {large}", 1, "comment", [folder / "comment.xml"])]
 
 
 class Bench:
-    """Runs programs on one processor."""
+    """Runs programs on one processor, or on two."""
 
     def __init__(self, given, folder):
         self.given, self.folder = given, folder
         self.core = max(os.sched_getaffinity(0)) if given.core is None else given.core
+        self.cores = str(self.core)
+        self.start = 0
+        self.start = min(self.once(["true"])[0] for _ in range(20))
 
     def once(self, words):
-        """Seconds, KiB and the status of one run."""
-        begun = time.perf_counter()
-        child = subprocess.Popen([str(word) for word in words], stdin=subprocess.DEVNULL, stdout=subprocess.DEVNULL, stderr=subprocess.DEVNULL,
-                                 preexec_fn=lambda: os.sched_setaffinity(0, {self.core}))
-        _, status, usage = os.wait4(child.pid, 0)
-        child.returncode = os.waitstatus_to_exitcode(status)
-        return time.perf_counter() - begun, usage.ru_maxrss, child.returncode
+        """Seconds, KiB and the status of one run. `time` is a small program: the memory of the one that measures does not count."""
+        with tempfile.NamedTemporaryFile() as measured:
+            begun = time.perf_counter()
+            run = subprocess.run(["taskset", "-c", self.cores, "/usr/bin/time", "-q", "-f", "%M", "-o", measured.name, *map(str, words)],
+                                 stdin=subprocess.DEVNULL, stdout=subprocess.DEVNULL, stderr=subprocess.DEVNULL, check=False)
+            seconds = time.perf_counter() - begun
+            return seconds, int(measured.read().split()[-1]), run.returncode
 
     def run(self, words):
-        """The least time of several runs, the most memory, and whether each run said that all is valid."""
+        """The least time of several runs, the most memory, and whether each run said that all is valid. The start of `time` is taken off."""
         runs = [self.once(words) for _ in range(self.given.repeat)]
-        return min(run[0] for run in runs), max(run[1] for run in runs), all(run[2] == 0 for run in runs)
+        return max(min(run[0] for run in runs) - self.start, 0), max(run[1] for run in runs), all(run[2] == 0 for run in runs)
 
     def relax_ng(self, name):
         """The schema in the XML syntax, for xmllint."""
@@ -122,7 +127,7 @@ class Bench:
     def peers(self, name, documents, classes):
         """What each program is called with."""
         schema = self.folder / f"{name}.rnc"
-        yield "rncv-xml", [self.given.programs / "rncv-xml", "-j", "1", schema, *documents]
+        yield "rncv-xml", [self.given.programs / "rncv-xml", "-j", str(self.cores.count(",") + 1), schema, *documents]
         if shutil.which("jing"):
             yield "jing cold", ["jing", "-c", schema, *documents]
         if shutil.which("xmllint") and self.relax_ng(name):
@@ -130,11 +135,12 @@ class Bench:
         if classes:
             yield "jing warm", ["java", "-cp", classes, "Warm", "10" if len(documents) == 1 else "3", schema, *documents]
 
-    def row(self, title, name, documents, classes):
+    def row(self, title, processors, name, documents, classes):
         found = {}
+        self.cores = ",".join(str(max(self.core - number, 0)) for number in range(processors))
         for peer, words in self.peers(name, documents, classes):
             if peer == "jing warm":
-                run = subprocess.run(["taskset", "-c", str(self.core), *map(str, words)], capture_output=True, text=True, check=False)
+                run = subprocess.run(["taskset", "-c", self.cores, *map(str, words)], capture_output=True, text=True, check=False)
                 found[peer] = (float(run.stdout.split()[-1]), 0, True) if run.returncode == 0 else (float("nan"), 0, False)
             else:
                 found[peer] = self.run(words)

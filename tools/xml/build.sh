@@ -41,7 +41,7 @@ compile() {
 objects() { for source in "$@"; do printf '%s ' "$work/$source.o"; done; }
 
 shared="bytes fault encodings entities feed declarations conversion program"
-judging="paths schema_tokens schema_files options documents trail judging probes progress formats report jobs"
+judging="belt paths schema_tokens schema_files options documents trail judging probes progress formats report jobs"
 
 compile $shared xml2pyx
 $cc ${CFLAGS:--O2} -o "$work/xml2pyx" $(objects $shared xml2pyx) -lexpat ${LIBS:-}

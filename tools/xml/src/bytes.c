@@ -4,48 +4,29 @@
 #include <stdint.h>
 #include <stdio.h>
 #include <stdlib.h>
-#include <string.h>
 
-bool bytes_reserve(struct bytes *bytes, size_t more) {
+static bool fails(struct bytes *bytes) {
+    bytes->failed = true;
+    bytes->capacity = bytes->length;
+    return false;
+}
+
+bool bytes_grow(struct bytes *bytes, size_t more) {
     if (bytes->failed || more > SIZE_MAX / 4 - bytes->length) {
-        bytes->failed = true;
-        return false;
+        return fails(bytes);
     }
     size_t wanted = bytes->length + more;
-    if (wanted <= bytes->capacity) {
-        return true;
-    }
     size_t capacity = bytes->capacity < 64 ? 64 : bytes->capacity;
     while (capacity < wanted) {
         capacity += capacity / 2;
     }
     char *data = realloc(bytes->data, capacity);
     if (data == NULL) {
-        bytes->failed = true;
-        return false;
+        return fails(bytes);
     }
     bytes->data = data;
     bytes->capacity = capacity;
     return true;
-}
-
-void bytes_add(struct bytes *bytes, const void *data, size_t length) {
-    if (length > 0 && bytes_reserve(bytes, length)) {
-        memcpy(bytes->data + bytes->length, data, length);
-        bytes->length += length;
-    }
-}
-
-void bytes_add_text(struct bytes *bytes, const char *text) {
-    bytes_add(bytes, text, strlen(text));
-}
-
-void bytes_add_byte(struct bytes *bytes, char byte) {
-    if (bytes->length < bytes->capacity && !bytes->failed) {
-        bytes->data[bytes->length++] = byte;
-        return;
-    }
-    bytes_add(bytes, &byte, 1);
 }
 
 void bytes_format(struct bytes *bytes, const char *format, ...) {
@@ -54,7 +35,7 @@ void bytes_format(struct bytes *bytes, const char *format, ...) {
     int length = vsnprintf(NULL, 0, format, values);
     va_end(values);
     if (length < 0 || !bytes_reserve(bytes, (size_t)length + 1)) {
-        bytes->failed = true;
+        fails(bytes);
         return;
     }
     va_start(values, format);

@@ -5,6 +5,7 @@
 
 #include <stdbool.h>
 #include <stddef.h>
+#include <string.h>
 
 struct bytes {
     char *data;
@@ -21,11 +22,31 @@ struct span {
 
 #define NO_BYTES {NULL, 0, 0, false}
 
+/* Makes the room larger. What failed once has no room from then on: its capacity is its length. */
+bool bytes_grow(struct bytes *bytes, size_t more);
+
 /* Makes room for `more` bytes behind those that are there. */
-bool bytes_reserve(struct bytes *bytes, size_t more);
-void bytes_add(struct bytes *bytes, const void *data, size_t length);
-void bytes_add_text(struct bytes *bytes, const char *text);
-void bytes_add_byte(struct bytes *bytes, char byte);
+static inline bool bytes_reserve(struct bytes *bytes, size_t more) {
+    return more <= bytes->capacity - bytes->length || bytes_grow(bytes, more);
+}
+
+static inline void bytes_add(struct bytes *bytes, const void *data, size_t length) {
+    if (length > 0 && bytes_reserve(bytes, length)) {
+        memcpy(bytes->data + bytes->length, data, length);
+        bytes->length += length;
+    }
+}
+
+static inline void bytes_add_text(struct bytes *bytes, const char *text) {
+    bytes_add(bytes, text, strlen(text));
+}
+
+static inline void bytes_add_byte(struct bytes *bytes, char byte) {
+    if (bytes_reserve(bytes, 1)) {
+        bytes->data[bytes->length++] = byte;
+    }
+}
+
 void bytes_format(struct bytes *bytes, const char *format, ...) __attribute__((format(printf, 2, 3)));
 /* A number with its thousands parted by commas. */
 void bytes_add_count(struct bytes *bytes, unsigned long long count);

@@ -1,5 +1,6 @@
 #include "judging.h"
 
+#include "belt.h"
 #include "probes.h"
 
 #include <inttypes.h>
@@ -109,7 +110,7 @@ static void break_off(struct judging *judging, const struct piece *piece) {
     }
     judging->is_broken = true;
     trail_find(&judging->judge->trail, piece, judging->verdict.line, &told);
-    judging->broken_place = told.own;
+    judging->broken_place = told.kind == '-' && told.has_text ? told.text_place : told.own;
     judging->broken_kind = told.kind;
     told_free(&told);
 }
@@ -252,7 +253,9 @@ void judge_document(struct judge *judge, const char *name, struct answer *answer
     if (rncv_document_begin(&judge->schema) != RNCV_DONE) {
         fault_set(&fault, FAULT_MEMORY, (struct place){0, 0}, "out of memory");
     } else if (source_open(&judging.source, name, judge->shared->streams, &fault)) {
-        convert(&(struct giver){read_counted, &judging}, &(struct taker){take_piece, take_note, &judging}, &fault);
+        struct giver giver = {read_counted, &judging};
+        struct taker taker = {take_piece, take_note, &judging};
+        (judge->shared->is_by_two && judging.source.is_large ? belt_convert : convert)(&giver, &taker, &fault);
         source_close(&judging.source);
     }
     if (fault.kind == FAULT_NONE) {

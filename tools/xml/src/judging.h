@@ -49,6 +49,7 @@ struct shared {
     size_t value_count;
     struct streams streams;
     atomic_ullong bytes_read;
+    bool is_by_two;    /* a large document is converted by one thread and judged by another */
     struct jobs *jobs; /* those of which the threads are; NULL for one thread */
     void (*tick)(void *context); /* is called every now and then while a document is read */
     void *context;

@@ -137,6 +137,42 @@ static bool has_better_value(struct probing *probing, const struct tag *tag, str
     return is_better;
 }
 
+/* The lines without the text that is the last of them, and that may be in several lines. */
+static struct span without_text(struct span lines) {
+    size_t end = lines.length;
+    while (end > 0) {
+        size_t begin = end - 1;
+        while (begin > 0 && lines.data[begin - 1] != '\n') {
+            begin--;
+        }
+        if (lines.data[begin] != '-' && lines.data[begin] != '?') {
+            break;
+        }
+        end = begin;
+    }
+    return (struct span){lines.data, end};
+}
+
+/* Whether the end tag of this name is good behind another text. If it is not, what is wrong is the end: something is missing before it. */
+static bool has_better_text(struct probing *probing, struct span lines, const struct bytes *name) {
+    const struct shared *shared = probing->judge->shared;
+    struct span before = without_text(lines);
+    struct bytes text = NO_BYTES;
+    bool is_better = false;
+    for (size_t at = 0; !is_better && at < shared->value_count && probing->left > 0; at++) {
+        struct parts parts = {.count = 0};
+        bytes_clear(&text);
+        bytes_format(&text, "-%s\n)", shared->values[at]);
+        bytes_add(&text, name->data, name->length);
+        bytes_add_byte(&text, '\n');
+        add(&parts, before.data, before.length);
+        add(&parts, text.data, text.length);
+        is_better = !text.failed && outcome_of(probing, &parts) == OUTCOME_GOES_ON;
+    }
+    bytes_free(&text);
+    return is_better;
+}
+
 /* Goes over the attributes of the tag, and takes the first that can be left out, or that can have another value; then the tag is good. */
 static bool find_attribute(struct probing *probing, const struct tag *tag, bool tries_values, struct bytes *name) {
     const char *end = tag->attributes.data + tag->attributes.length;
@@ -163,16 +199,6 @@ static void set(struct answer *answer, enum stands stands, struct place place, c
     answer->place = place;
     if (name != NULL) {
         bytes_add(&answer->name, name->data, name->length);
-    }
-}
-
-static void set_tag(struct probing *probing, const struct told *told, struct span lines, struct answer *answer) {
-    struct tag tag = last_tag(lines);
-    if (lines.length > 0 &&
-        (find_attribute(probing, &tag, false, &answer->name) || find_attribute(probing, &tag, true, &answer->name))) {
-        set(answer, STANDS_ATTRIBUTE, told->tag_place, NULL);
-    } else {
-        set(answer, STANDS_TAG, told->tag_place, &told->tag);
     }
 }
 
@@ -205,6 +231,30 @@ static bool is_blank(const struct bytes *text) {
     return true;
 }
 
+/* Whether the tag is good once the text before it is gone. */
+static bool is_text_before(struct probing *probing, const struct tag *tag, const struct told *told) {
+    struct parts parts = {.count = 0};
+    if (!told->has_text || is_blank(&told->text)) {
+        return false;
+    }
+    struct span before = without_text(tag->before);
+    add(&parts, before.data, before.length);
+    add(&parts, tag->start.data, tag->start.length + tag->attributes.length);
+    add(&parts, "?x\n", 3);
+    return outcome_of(probing, &parts) == OUTCOME_GOES_ON;
+}
+
+static void set_tag(struct probing *probing, const struct told *told, struct span lines, struct answer *answer) {
+    struct tag tag = last_tag(lines);
+    if (lines.length > 0 && is_text_before(probing, &tag, told)) {
+        set_text(told, answer);
+    } else if (lines.length > 0 && (find_attribute(probing, &tag, false, &answer->name) || find_attribute(probing, &tag, true, &answer->name))) {
+        set(answer, STANDS_ATTRIBUTE, told->tag_place, NULL);
+    } else {
+        set(answer, STANDS_TAG, told->tag_place, &told->tag);
+    }
+}
+
 void probe(struct judge *judge, const struct told *told, uint64_t line, struct answer *answer) {
     struct probing probing = {judge, MOST_BYTES};
     struct span lines = {NULL, 0};
@@ -220,10 +270,9 @@ void probe(struct judge *judge, const struct told *told, uint64_t line, struct a
             return;
         }
     } else if (told->has_text) {
-        /* an end tag tells of the text before it, and of the end: a start tag in its place tells of the text alone */
-        bool is_end = told->kind == ')' &&
-                      (is_kept ? with_line(&probing, lines, "(x\n") == OUTCOME_GOES_ON : is_blank(&told->text));
-        if (!is_end) {
+        /* an end tag tells of the text before it, and of the end */
+        bool is_text = told->kind != ')' || (!is_blank(&told->text) && (!is_kept || has_better_text(&probing, lines, &told->name)));
+        if (is_text) {
             set_text(told, answer);
             return;
         }

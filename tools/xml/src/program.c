@@ -7,6 +7,8 @@
 #include <sys/stat.h>
 #include <unistd.h>
 
+enum { LARGE_BYTES = 262144 };
+
 static void interrupted(int number) {
     (void)number;
     _exit(STATUS_INTERRUPTED);
@@ -106,7 +108,7 @@ bool source_open(struct source *source, const char *name, struct streams streams
         fault_set(fault, FAULT_DEVICE, (struct place){0, 0}, "%s", strerror(errno));
         return false;
     }
-    source->is_regular = !source->is_input && fstat(source->file, &found) == 0 && S_ISREG(found.st_mode);
+    source->is_large = fstat(source->file, &found) != 0 || !S_ISREG(found.st_mode) || found.st_size > LARGE_BYTES;
     return true;
 }
 

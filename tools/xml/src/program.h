@@ -47,7 +47,7 @@ struct source {
     int file;
     bool is_open;
     bool is_input;
-    bool is_regular;
+    bool is_large; /* more than a few pieces, or it is not known how much will come */
 };
 
 /* False: the fault says what the system says. */

@@ -103,7 +103,13 @@ void report_schema(struct report *report, const struct schema_fault *fault) {
     report->status = fault->status > report->status ? fault->status : report->status;
     if (!report->options->is_quiet) {
         put(report, &result);
+        return;
     }
+    struct bytes line = NO_BYTES;
+    add_text(&line, &result, false);
+    line.length -= line.length > 0; /* tell_line adds the line feed */
+    tell_line(bytes_text(&line));
+    bytes_free(&line);
 }
 
 void report_note(struct report *report, const char *line) {

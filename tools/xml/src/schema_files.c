@@ -389,7 +389,7 @@ static bool add_given(struct schema_files *files, const struct schema_request *r
 }
 
 bool schema_files_collect(struct schema_files *files, const struct schema_request *request) {
-    static const char *const simple[] = {"1", "a", "0", "true", ""};
+    static const char *const simple[] = {"1", "a", "", "0", "true", "aaaaaaaa"};
     struct collecting collecting = {files, request, NULL, 0, 0};
     memset(files, 0, sizeof *files);
     files->values = calloc(MOST_VALUES, sizeof *files->values);

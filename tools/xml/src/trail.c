@@ -7,7 +7,11 @@ enum { TEXT_SHOWN = 512 };
 
 static void set(struct bytes *bytes, const char *data, size_t length) {
     bytes_clear(bytes);
-    bytes_add(bytes, data, length < TEXT_SHOWN || data[0] != '-' ? length : TEXT_SHOWN);
+    bytes_add(bytes, data, length);
+}
+
+static void copy(struct bytes *to, const struct bytes *from) {
+    set(to, from->data, from->length);
 }
 
 /* Goes over one line: what it begins, and what it ends. */
@@ -17,6 +21,9 @@ static void step(struct trail *trail, const char *line, size_t length, struct pl
         trail->has_tag = true;
         trail->tag_place = place;
         set(&trail->tag, line + 1, length - 1);
+        trail->has_before = trail->has_text;
+        trail->before_place = trail->text_place;
+        copy(&trail->before, &trail->text);
         trail->has_text = false;
         break;
     case 'A':
@@ -47,11 +54,6 @@ static size_t line_length(const char *line, const char *end) {
     return (size_t)((feed == NULL ? end : feed) - line);
 }
 
-static void copy(struct bytes *to, const struct bytes *from) {
-    bytes_clear(to);
-    bytes_add(to, from->data, from->length);
-}
-
 /* What the line tells of, where the trail has come to it. */
 static void tell(const struct trail *trail, const char *line, size_t length, struct told *told) {
     told->kind = line[0];
@@ -59,17 +61,19 @@ static void tell(const struct trail *trail, const char *line, size_t length, str
     told->has_tag = trail->has_tag && line[0] != 'A';
     told->tag_place = trail->tag_place;
     copy(&told->tag, &trail->tag);
-    told->has_text = trail->has_text && (line[0] == '(' || line[0] == ')');
-    told->text_place = trail->text_place;
-    copy(&told->text, &trail->text);
+    told->has_text = told->has_tag ? trail->has_before : trail->has_text;
+    told->text_place = told->has_tag ? trail->before_place : trail->text_place;
+    copy(&told->text, told->has_tag ? &trail->before : &trail->text);
 }
 
 static void copy_trail(struct trail *to, const struct trail *from) {
     *to = *from;
     to->tag = (struct bytes)NO_BYTES;
     to->text = (struct bytes)NO_BYTES;
+    to->before = (struct bytes)NO_BYTES;
     copy(&to->tag, &from->tag);
     copy(&to->text, &from->text);
+    copy(&to->before, &from->before);
 }
 
 void trail_find(const struct trail *trail, const struct piece *piece, uint64_t line, struct told *told) {
@@ -92,19 +96,24 @@ void trail_find(const struct trail *trail, const struct piece *piece, uint64_t l
     trail_free(&here);
 }
 
-/* Where the lines begin that matter for what goes on behind the piece: at the last tag or text that the end of the piece leaves open. */
+/* Where the lines begin that matter for what goes on behind the piece: at the last start or end tag, or the text before the start. */
 static size_t last_that_matters(const struct piece *piece, size_t *index) {
     size_t at = piece->length;
+    bool has_start = false;
     *index = piece->count;
     while (*index > 0) {
         size_t begin = at - 1;
         while (begin > 0 && piece->bytes[begin - 1] != '\n') {
             begin--;
         }
+        char kind = piece->bytes[begin];
+        if (has_start && kind != '-' && kind != '?') {
+            break;
+        }
         at = begin;
         *index -= 1;
-        char kind = piece->bytes[at];
-        if (kind == '(' || kind == ')') {
+        has_start |= kind == '(';
+        if (kind == ')') {
             break;
         }
     }
@@ -120,18 +129,20 @@ bool trail_advance(struct trail *trail, const struct piece *piece) {
         at += length + 1;
         index++;
     }
-    return !trail->tag.failed && !trail->text.failed;
+    return !trail->tag.failed && !trail->text.failed && !trail->before.failed;
 }
 
 void trail_clear(struct trail *trail) {
     trail->has_tag = false;
     trail->has_text = false;
+    trail->has_before = false;
     trail->last = (struct place){1, 1};
 }
 
 void trail_free(struct trail *trail) {
     bytes_free(&trail->tag);
     bytes_free(&trail->text);
+    bytes_free(&trail->before);
 }
 
 void told_free(struct told *told) {

@@ -15,6 +15,9 @@ struct trail {
     bool has_text;
     struct place text_place;
     struct bytes text; /* its first characters, as in the PYX */
+    bool has_before;   /* a text stands right before the last tag */
+    struct place before_place;
+    struct bytes before;
     struct place last; /* the place of the last line */
 };
 
@@ -25,7 +28,7 @@ struct told {
     bool has_tag;
     struct place tag_place;
     struct bytes tag; /* the element's name */
-    bool has_text;
+    bool has_text;    /* before the tag, if it tells of one */
     struct place text_place;
     struct bytes text;
     struct bytes name; /* of the line itself */

@@ -162,6 +162,7 @@ class SchemaFiles(InFolder):
         out, status = self.judge("--all", "t.rnc", "none.xml", "good.xml", "bad.xml")
         self.assertRegex(out, r"^t\.rnc:(\d+:\d+:)? S6 the tokens are a sentence of the grammar \(CS 2\), see docs/CLAUSES\.md\n$")
         self.assertEqual(status, 3)
+        self.assertEqual(self.run_in(RNCV_XML, "--quiet", "t.rnc", "good.xml"), ("", out, 3))
 
 
 class Loosened(InFolder):

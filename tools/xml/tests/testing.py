@@ -1,7 +1,6 @@
 """What the tests of `rncv-xml` and `xml2pyx` share. The variable RNCV_XML_PROGRAMS names the folder with the two programs, RNCV_PROGRAM the built `rncv`."""
 import os
 import pathlib
-import resource
 import shutil
 import subprocess
 import sys
@@ -70,16 +69,16 @@ class InFolder(unittest.TestCase):
                 self.skipTest(f"{program} is not installed")
 
 
-def children_peak():
-    """The largest memory that a child that has ended had, in KiB."""
-    return resource.getrusage(resource.RUSAGE_CHILDREN).ru_maxrss
-
-
-def peak_of(words, **more):
-    """The memory that a program had at most, in KiB, and its status. Another process measures it, so that no other child counts."""
+def peak_of(words):
+    """The memory that a program had at most, in KiB, and its status. `time` measures it, which is small; without it Python does, which is not."""
+    if os.access("/usr/bin/time", os.X_OK):
+        with tempfile.NamedTemporaryFile() as measured:
+            run = subprocess.run(["/usr/bin/time", "-q", "-f", "%M", "-o", measured.name, *map(str, words)], stdout=subprocess.DEVNULL,
+                                 stderr=subprocess.DEVNULL, check=False, timeout=100)
+            return int(measured.read().split()[-1]), run.returncode
     script = ("import resource, subprocess, sys\n"
               "status = subprocess.run(sys.argv[1:], stdout=subprocess.DEVNULL, stderr=subprocess.DEVNULL).returncode\n"
               "print(resource.getrusage(resource.RUSAGE_CHILDREN).ru_maxrss, status)\n")
-    run = subprocess.run([sys.executable, "-c", script, *map(str, words)], capture_output=True, check=True, timeout=100, **more)
+    run = subprocess.run([sys.executable, "-c", script, *map(str, words)], capture_output=True, check=True, timeout=100)
     peak, status = map(int, run.stdout.split())
     return peak, status
