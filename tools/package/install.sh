@@ -87,13 +87,10 @@ python_program() {
     chmod 755 "$root/$2"
 }
 
-# modules FOLDER TARGET: the modules of a folder, without its tests
+# modules FOLDER TARGET: the modules of a folder and of its packages, without tests
 modules() {
-    for module in "$1"/*.py; do
-        case ${module##*/} in
-        test_*.py | *_test.py | testing.py | '*.py') ;;
-        *) put 644 "$module" "$2/${module##*/}" ;;
-        esac
+    find "$1" -type f -name '*.py' ! -name 'test_*' ! -name '*_test.py' ! -path '*/tests/*' | while IFS= read -r module; do
+        put 644 "$module" "$2/${module#"$1"/}"
     done
 }
 
@@ -130,7 +127,7 @@ else
     lacks "librncv: not in $library"
 fi
 
-# the programs and the package in Python, which are not built
+# the programs and the packages in Python, which are not built; they find one another in share as they do in tools
 python_program tools/schema/rncv-profile "$share/schema/rncv-profile" rncv-profile
 modules tools/schema "$share/schema"
 if [ "$action" = uninstall ] || [ -f tools/lsp/rncv-lsp ]; then
@@ -142,6 +139,7 @@ fi
 for name in __init__.py py.typed; do
     put 644 "tools/python/rncv/$name" "$share/python/rncv/$name"
 done
+modules tools/xml/second_opinion "$share/xml/second_opinion"
 
 # man pages; those with several names have a file for each
 for source in man/*.[1-8] tools/*/*.[1-8]; do
@@ -156,7 +154,7 @@ done
 # completions
 bash=share/bash-completion/completions
 put 644 tools/package/completions/rncv.bash "$bash/rncv"
-for name in rncv-xml xml2pyx rncv-profile; do
+for name in rncv-xml xml2pyx rncv-profile rncv-lsp; do
     link rncv "$bash/$name"
 done
 put 644 tools/package/completions/_rncv "$zsh/_rncv"
@@ -169,7 +167,7 @@ put 644 tools/package/editors/rncv.vim share/vim/vimfiles/compiler/rncv.vim
 put 644 tools/package/editors/rncv.el share/emacs/site-lisp/rncv.el
 
 # pages and examples
-for source in README.md CHANGELOG.md LICENSE docs/CLAUSES.md docs/INSTALL.md docs/LANGUAGE.md docs/LIBRARY.md docs/MIGRATING.md docs/XML.md; do
+for source in README.md CHANGELOG.md LICENSE docs/CLAUSES.md docs/EDITORS.md docs/INSTALL.md docs/LANGUAGE.md docs/LIBRARY.md docs/MIGRATING.md docs/XML.md; do
     if [ -f "$source" ]; then
         put 644 "$source" "$doc/$source"
     fi

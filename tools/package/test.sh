@@ -113,6 +113,9 @@ number() { sed -n "s/^#define RNCV_VERSION_$1 //p" "$header"; }
 same "the numbers of rncv.h" "$version" "$(number MAJOR).$(number MINOR).$(number PATCH)"
 same "RNCV_VERSION of rncv.h" "\"$version\"" "$(sed -n 's/^#define RNCV_VERSION //p' "$header")"
 same "__version__ of the Python package" "$version" "$(sed -n 's/^__version__ = "\(.*\)"$/\1/p' "$top/tools/python/rncv/__init__.py")"
+if [ -f "$top/tools/lsp/rncv_lsp/__init__.py" ]; then
+    same "__version__ of the language server" "$version" "$(sed -n 's/^__version__ = "\(.*\)"$/\1/p' "$top/tools/lsp/rncv_lsp/__init__.py")"
+fi
 same "PROGRAM_VERSION of tools/xml" "\"$version\"" "$(sed -n 's/^#define PROGRAM_VERSION //p' "$top/tools/xml/src/program.h")"
 for page in "$top"/man/*.[1-8]; do
     sed -n 's/\\-/-/g; 1p' "$page" | grep -q "^\.TH .* \"rncv[a-z-]* $version\" " || fail "$page: its first line does not have version $version"
@@ -163,6 +166,7 @@ lib/librncv.so.${version%%.*}
 lib/librncv.so.$version
 lib/pkgconfig/rncv.pc
 share/bash-completion/completions/rncv
+share/bash-completion/completions/rncv-lsp
 share/bash-completion/completions/rncv-profile
 share/bash-completion/completions/rncv-xml
 share/bash-completion/completions/xml2pyx
@@ -176,10 +180,12 @@ share/doc/rncv/docs/XML.md
 share/doc/rncv/examples/letter/letter.xml
 share/doc/rncv/examples/letter/s.rnc
 share/emacs/site-lisp/rncv.el
+share/fish/vendor_completions.d/rncv-lsp.fish
 share/fish/vendor_completions.d/rncv-profile.fish
 share/fish/vendor_completions.d/rncv-xml.fish
 share/fish/vendor_completions.d/rncv.fish
 share/fish/vendor_completions.d/xml2pyx.fish
+share/man/man1/rncv-lsp.1
 share/man/man1/rncv-profile.1
 share/man/man1/rncv-xml.1
 share/man/man1/rncv.1
@@ -190,12 +196,14 @@ share/man/man3/rncv_document_feed.3
 share/man/man5/rncv-pyx.5
 share/rncv/python/rncv/__init__.py
 share/rncv/python/rncv/py.typed
+share/rncv/schema/compact_tokens.py
 share/rncv/schema/rncv-profile
+share/rncv/xml/second_opinion/pyx_writer.py
 share/vim/vimfiles/compiler/rncv.vim
 share/zsh/site-functions/_rncv
 END
-if [ -f "$top/tools/lsp/rncv-lsp" ]; then
-    [ -x "$installed/bin/rncv-lsp" ] || fail "not installed: bin/rncv-lsp"
+if [ -f "$top/tools/lsp/rncv-lsp" ] && [ ! -x "$installed/bin/rncv-lsp" ]; then
+    fail "not installed: bin/rncv-lsp"
 fi
 # no file names the folder of DESTDIR
 if grep -rIlF "$room" "$root" > "$room/found"; then
@@ -208,6 +216,8 @@ fi
 
 # --- the programs that are installed
 
+find "$installed" -name '*test*' > "$room/found"
+[ ! -s "$room/found" ] || fail "tests are installed: $(cat "$room/found")"
 examples=$installed/share/doc/rncv/examples
 inside() { env -i PATH="$installed/bin:/usr/bin:/bin" LC_ALL=C "$@"; }
 for name in rncv-profile rncv-lsp; do
@@ -297,7 +307,7 @@ cp "$examples/letter/s.rnc" "$examples/letter/untitled.xml" "$room/editing"
 # --- completions: each option of each program
 
 shells=$installed/share
-for name in rncv-xml xml2pyx rncv-profile; do
+for name in rncv-xml xml2pyx rncv-profile rncv-lsp; do
     [ -e "$installed/bin/$name" ] || continue
     page=$pages/man1/$name.1
     if grep -q '^\.so ' "$page"; then page=$pages/$(sed 's/^\.so //' "$page"); fi

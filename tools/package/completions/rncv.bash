@@ -1,4 +1,4 @@
-# Completion for bash: rncv, rncv-xml, xml2pyx and rncv-profile.
+# Completion for bash: rncv, rncv-xml, xml2pyx, rncv-profile and rncv-lsp.
 
 # _rncv_files WORD PATTERN..: files whose names match a pattern, and folders
 _rncv_files() {
@@ -75,7 +75,12 @@ _rncv_profile() {
     esac
 }
 
+_rncv_lsp() {
+    _rncv_words "--stdio --help -h --version" "$2"
+}
+
 complete -F _rncv rncv
 complete -F _rncv_xml rncv-xml
 complete -F _xml2pyx xml2pyx
 complete -F _rncv_profile rncv-profile
+complete -F _rncv_lsp rncv-lsp
