@@ -226,6 +226,14 @@ for name in rncv-profile rncv-lsp; do
     grep -q "$name" "$room/help" || fail "the installed $name does not answer --help: $(cat "$room/help")"
 done
 inside rncv-profile "$examples/letter/s.rnc" > "$room/out" 2>&1 || fail "the installed rncv-profile: $(cat "$room/out")"
+if [ -e "$installed/bin/rncv-lsp" ]; then
+    for body in '{"jsonrpc":"2.0","id":1,"method":"initialize","params":{"processId":null,"rootUri":null,"capabilities":{}}}' \
+        '{"jsonrpc":"2.0","id":2,"method":"shutdown"}' '{"jsonrpc":"2.0","method":"exit"}'; do
+        printf 'Content-Length: %d\r\n\r\n%s' "${#body}" "$body"
+    done > "$room/asked"
+    inside rncv-lsp < "$room/asked" > "$room/out" 2>&1 || fail "the installed rncv-lsp ends with status $?"
+    grep -q '"capabilities"' "$room/out" || fail "the installed rncv-lsp does not answer: $(cat "$room/out")"
+fi
 if [ "$built" = 1 ]; then
     same "rncv-xml --version" "rncv-xml $version (librncv $version)" "$(inside rncv-xml --version)"
     same "xml2pyx --version" "xml2pyx $version" "$(inside xml2pyx --version)"
