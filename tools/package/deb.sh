@@ -54,10 +54,6 @@ The authors have the copyright. This version names no licence: its repository ha
 Ask the owner of the repository before you pass the package on.
 END
 fi
-if [ -f "$doc/CHANGELOG.md" ]; then
-    gzip -9nc "$doc/CHANGELOG.md" > "$doc/changelog.upstream.gz"
-    rm "$doc/CHANGELOG.md"
-fi
 printf 'rncv (%s) unstable; urgency=medium\n\n  * Version %s.\n\n -- %s  %s\n' "$version" "$version" "$maintainer" \
     "$(LC_ALL=C date -u -d "@$date" '+%a, %d %b %Y %H:%M:%S +0000')" | gzip -9nc > "$doc/changelog.gz"
 
@@ -91,8 +87,8 @@ Description: proved RELAX NG validator
  It is written in Rattle, which is Rust with contracts, and its answers are
  proved to be those of the standard.
  .
- The package has rncv, rncv-xml for XML documents, xml2pyx, rncv-profile, and
- the library librncv for C and Python.
+ The package has rncv, rncv-xml for XML documents, xml2pyx, rncv-profile, the
+ language server rncv-lsp, and the library librncv for C and Python.
 END
 echo "librncv ${version%%.*} rncv (>= $version)" > "$root/DEBIAN/shlibs"
 echo "activate-noawait ldconfig" > "$root/DEBIAN/triggers"
