@@ -68,7 +68,8 @@ if command -v dpkg-shlibdeps > /dev/null; then
             set -- "$@" "-e$file"
         fi
     done
-    depends=$(cd "$room/source" && dpkg-shlibdeps -O "$@" 2> "$room/log" | sed -n 's/^shlibs:Depends=//p') || { cat "$room/log" >&2; depends=; }
+    depends=$(cd "$room/source" && dpkg-shlibdeps -O "$@" 2> "$room/log" | sed -n 's/^shlibs:Depends=//p')
+    [ -n "$depends" ] || cat "$room/log" >&2
 fi
 [ -n "$depends" ] || depends="libc6 (>= 2.36), libexpat1 (>= 2.4.0)"
 
