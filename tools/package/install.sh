@@ -50,9 +50,10 @@ lacks() {
 
 # Makes way for a file, and its folder. False: it is to be removed, and is.
 room_for() {
-    rm -f "$1"
+    # the caller asks for the answer, and so `set -e` does not end this function
+    rm -f "$1" || exit 1
     [ "$action" = install ] || return 1
-    mkdir -p "$(dirname "$1")"
+    mkdir -p "$(dirname "$1")" || exit 1
 }
 
 # put MODE SOURCE TARGET: a file, with TARGET below PREFIX

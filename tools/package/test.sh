@@ -146,6 +146,10 @@ else
     fail "make install of the program alone fails: $(cat "$room/said")"
 fi
 
+if makes install DESTDIR="$room/said/root"; then
+    fail "make install ends well where no folder can be made"
+fi
+
 root="$room/root of rncv"
 makes install DESTDIR="$root" || fail "make install fails: $(cat "$room/said")"
 installed=$root/usr/local
