@@ -1,12 +1,15 @@
 #!/usr/bin/env python3
 """Measures what the library takes for many short documents. It is no test, and no part of the gate.
 
-    tools/library/bench.py [LIBRARY] [--rncv PROGRAM] [--documents N] [--runs N]      (LIBRARY: the built librncv.so, else that of build/library)
+    tools/library/bench.py [LIBRARY] [--rncv PROGRAM] [--jing JAR] [--documents N] [--runs N]      (LIBRARY: the built librncv.so, else that of build/library)
 
 The schema has some 8,000 lines and 300 elements, like one for books and articles. A generator with a seed makes it, and documents that are valid by
 it. Printed are milliseconds, on the clock and of a processor: to compile the schema once; to judge N documents of about 1 KB by it, one after the
 other; and to judge one of about 20 KB again and again. Where PROGRAM is told, the built `rncv`, it judges the first of the documents, one a run, for
 comparison. The calls are those of the Python package (`tools/python`), so they take what the C library takes and a little more.
+
+With --jing JAR, jing judges the same documents, as XML files, in one running Java machine: several rounds, so that the machine is warm. jing reads and
+parses the files, and the library is handed PYX.
 """
 import argparse
 import os
@@ -225,10 +228,50 @@ def program_runs(program, schema, documents):
     return spent, (after.children_user + after.children_system - before.children_user - before.children_system) * 1000
 
 
+def xml_of(pyx):
+    """A document of the generator as XML."""
+    out, is_open = [], False
+    for line in pyx.decode().splitlines():
+        kind, rest = line[0], line[1:]
+        if kind == "A":
+            name, _, value = rest.partition(" ")
+            out.append(f' {name}="{value}"')
+            continue
+        out.append(">" if is_open else "")
+        is_open = kind == "("
+        out.append({"(": f"<{rest}", ")": f"</{rest}>", "-": rest}[kind])
+    return "".join(out).encode()
+
+
+def jing_rounds(jar, schema, documents, rounds):
+    """The milliseconds on the clock of rounds of jing over all documents, in one running machine."""
+    with tempfile.TemporaryDirectory(prefix="rncv-bench-") as room:
+        path = pathlib.Path(room, "s.rnc")
+        path.write_bytes(schema)
+        for at, document in enumerate(documents):
+            pathlib.Path(room, f"{at}.xml").write_bytes(xml_of(document))
+        names = [f"{at}.xml" for at in range(len(documents))]
+        loop = pathlib.Path(__file__).with_name("JingLoop.java").resolve()
+        run = subprocess.run(["java", "-cp", jar, loop, path, str(rounds), *names], cwd=room, capture_output=True, text=True, check=False)
+    if run.returncode != 0:
+        sys.exit(f"bench.py: jing: {run.stdout}{run.stderr}")
+    return [float(line) for line in run.stdout.split()]
+
+
+def tell_jing(jar, schema, documents, large):
+    """Prints what jing takes."""
+    first, *later = jing_rounds(jar, schema, documents, 10)
+    print(f"| jing: all documents, in a machine that begins | {first:.2f} | |\n| jing: all documents again (least of {len(later)} rounds) | {min(later):.2f} | |")
+    first, *later = jing_rounds(jar, schema, [large], 2_000)
+    print(f"| jing: the document of {len(large):,} bytes, first | {first:.2f} | |\n| jing: the same, again (median of the last 200) | "
+          f"{statistics.median(later[-200:]):.2f} | |")
+
+
 def main():
     words = argparse.ArgumentParser(description=__doc__, formatter_class=argparse.RawDescriptionHelpFormatter)
     words.add_argument("library", type=pathlib.Path, nargs="?", default=TOP / "build/library/lib/librncv.so")
     words.add_argument("--rncv", metavar="PROGRAM", type=pathlib.Path)
+    words.add_argument("--jing", metavar="JAR")
     words.add_argument("--documents", type=int, default=2_000)
     words.add_argument("--runs", type=int, default=20)
     words.add_argument("--write", metavar="FOLDER", type=pathlib.Path, help="write the schema and the documents there too")
@@ -266,6 +309,8 @@ def main():
     if asked.rncv:
         runs = documents[:asked.runs]
         tell(f"{len(runs)} runs of the program, one a document", *program_runs(str(asked.rncv.resolve()), schema, runs))
+    if asked.jing:
+        tell_jing(asked.jing, schema, documents, large)
 
 
 if __name__ == "__main__":

@@ -1,8 +1,7 @@
 #!/usr/bin/env python3
 """The program `rncv`, by the C library, so that tests of the program can be run on the library:   rncv_by_library.py valid|check|simple FILES..
 
-The variable RNCV_LIBRARY names librncv.so; else it is build/library/lib/librncv.so. It answers as `rncv` does (docs/LANGUAGE.md), but that it does not
-say which file was not handed in.
+The variable RNCV_LIBRARY names librncv.so; else it is build/library/lib/librncv.so. It answers as `rncv` does (docs/LANGUAGE.md).
 """
 
 import os

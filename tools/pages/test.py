@@ -1,0 +1,262 @@
+#!/usr/bin/env python3
+"""Checks the pages: README.md and the other *.md at the top, and those of docs.
+
+    tools/pages/test.py [TOP]      (TOP: a checkout, else the one of this file)
+
+- A link `[..](FILE#PART)` leads to a file, and to a heading where it has a part. So does a heading in quotes after a page, as in `PAGE`, "HEADING".
+- A path between backticks that looks like one of the repository exists. It begins with a folder of the top or with a crate, or it ends as a source or a
+  page does; such a name is that of some file, in whichever folder. A file of lemmas may lack its ending. Patterns with `*` match something. What a build
+  makes is not looked for (`out`, `build`), nor a name with a part in capitals, as in crates/NAME/src.
+- Each crate of crates.txt is in one row of the maps of docs/ARCHITECTURE.md, the tables whose first column is `Crate`, and each row there is a crate. A
+  row `NAME_cases` or `NAME_tests` is for all crates of such a name.
+- No sentence of README.md has over 45 words.
+- Each fenced block says what it is, and is closed.
+
+Each fault is one line, and the exit status is then 1. First the checks are tried on a copy with planted faults, and each of these has to be reported.
+"""
+import os
+import pathlib
+import re
+import sys
+import tempfile
+
+HERE = pathlib.Path(__file__).resolve()
+MOST_WORDS = 45
+MAPS = "docs/ARCHITECTURE.md"
+FENCE = re.compile(r"^[ >]*(```|~~~)(.*)$")
+LINK = re.compile(r"\[[^\]\n]*\]\(([^)\s]+)\)")
+CODE = re.compile(r"`([^`]+)`")
+NAMED_HEADING = re.compile(r"(?:\]\(([^)\s#]+\.md)\)|`([^`\s]+\.md)`),\s+\"([^\"]+)\"")
+ENDINGS = (".rt", ".antt", ".md", ".py", ".sh")
+MADE = ("out", "build")
+SENTENCE_END = re.compile(r"(?<=[.!?])[)\"'*]*\s+")
+
+
+class Checkout:
+    """A checkout: its pages, the names of its crates, and the paths of its files."""
+
+    def __init__(self, top):
+        self.top = pathlib.Path(top).resolve()
+        self.folders = sorted(path.name for path in self.top.iterdir() if path.is_dir() and path.name not in (".git", *MADE))
+        self.crates = re.findall(r"^([a-z]\w*)[^:\n]*:", (self.top / "crates.txt").read_text(encoding="utf-8"), re.M)
+        self.paths = set()
+        for folder, inner, names in os.walk(self.top, followlinks=True):
+            inner[:] = [name for name in inner if name not in (".git", "__pycache__", *MADE)]
+            self.paths.update(f"/{pathlib.Path(folder, name).relative_to(self.top)}" for name in (*names, *inner))
+        self.ends = {path[at:] for path in self.paths for at in range(len(path)) if path[at] == "/"}
+
+    def pages(self):
+        """The pages, by their paths from the top."""
+        found = [*self.top.glob("*.md"), *(self.top / "docs").rglob("*.md")]
+        return sorted(str(path.relative_to(self.top)) for path in found)
+
+    def text(self, page):
+        """The text of a page."""
+        return (self.top / page).read_text(encoding="utf-8")
+
+
+def prose(text):
+    """The lines of a page with their numbers, without its fenced blocks."""
+    inside = False
+    for number, line in enumerate(text.splitlines(), 1):
+        if FENCE.match(line):
+            inside = not inside
+        elif not inside:
+            yield number, line
+
+
+def headings(text):
+    """The headings of a page."""
+    return [found[1] for _, line in prose(text) if (found := re.fullmatch(r"#+ (.+)", line))]
+
+
+def anchor(heading):
+    """The part of a link that leads to a heading."""
+    return re.sub(r"[^\w\- ]", "", heading.lower()).replace(" ", "-")
+
+
+def link_faults(checkout, page, text):
+    """Links of a page that lead nowhere."""
+    for number, line in prose(text):
+        for target in LINK.findall(CODE.sub("", line)):
+            name, _, part = target.partition("#")
+            if re.match(r"[a-z]+:", target):
+                continue
+            path = os.path.normpath(os.path.join(os.path.dirname(page), name)) if name else page
+            if not (checkout.top / path).exists():
+                yield f"{page}:{number}: the link {target} leads to no file"
+            elif part and path.endswith(".md") and part not in map(anchor, headings(checkout.text(path))):
+                yield f"{page}:{number}: the link {target} leads to no heading"
+
+
+def heading_faults(checkout, page, text):
+    """Headings that a page names in quotes after another page, and that are not there."""
+    body = "\n".join(line for _, line in prose(text))
+    for beside, from_top, heading in NAMED_HEADING.findall(body):
+        path = os.path.normpath(os.path.join(os.path.dirname(page), beside)) if beside else from_top
+        wanted = " ".join(heading.split())
+        if (checkout.top / path).exists() and not any(found.startswith(wanted) for found in headings(checkout.text(path))):
+            yield f"{page}: {path} has no heading \"{wanted}\""
+
+
+def is_missing(checkout, word):
+    """Whether a word looks like a path of the repository and is none."""
+    word = word.rstrip("/.,;:")
+    parts = word.split("/")
+    if not re.fullmatch(r"[\w.*\-/]+", word) or set(parts) & set(MADE) or re.search(r"(?<![\w.])[A-Z]{2,}(?:_\w+)?(?![\w.])", word):
+        return False
+    first = "crates/" if parts[0] in checkout.crates else ""
+    if len(parts) > 1 and (first or parts[0] in checkout.folders):
+        return not any(any(checkout.top.glob(first + word + ending)) for ending in ("", ".antt"))
+    if not word.endswith(ENDINGS) or word in ENDINGS or word.startswith("/") or word.startswith("./"):
+        return False
+    ending = re.compile("/" + re.escape(word).replace(r"\*", "[^/]*"))
+    return not (any(map(ending.fullmatch, checkout.ends)) if "*" in word else f"/{word}" in checkout.ends)
+
+
+def made_here(text):
+    """The files that the fenced blocks of a page write, as in "rnc order.rnc"."""
+    kinds = [found[2].split() for line in text.splitlines() if (found := FENCE.match(line))]
+    return {words[1] for words in kinds if len(words) == 2}
+
+
+def path_faults(checkout, page, text):
+    """Paths between backticks that are not there."""
+    made = made_here(text)
+    for number, line in prose(text):
+        for code in CODE.findall(line):
+            for word in code.split():
+                if word not in made and is_missing(checkout, word):
+                    yield f"{page}:{number}: there is no {word}"
+
+
+def fence_faults(page, text):
+    """Fenced blocks without a kind, and one that is not closed."""
+    opened = None
+    for number, line in enumerate(text.splitlines(), 1):
+        found = FENCE.match(line)
+        if found and opened is None:
+            opened = number
+            if not found[2].strip():
+                yield f"{page}:{number}: the block does not say what it is"
+        elif found:
+            opened = None
+    if opened:
+        yield f"{page}:{opened}: the block is not closed"
+
+
+def sentences(text):
+    """The sentences of a page, each with the line on which its paragraph, list item or table cell begins."""
+    begin, parts = 0, []
+    for number, line in [*prose(re.sub(r"<!--.*?-->", lambda comment: re.sub(r"[^\n]", "", comment[0]), text, flags=re.S)), (0, "")]:
+        cells = line.strip().strip("|").split("|") if line.startswith("|") else []
+        if parts and (cells or not line.strip() or re.match(r"#|\s*(?:[-*]|\d+\.) ", line)):
+            yield from ((begin, sentence) for sentence in SENTENCE_END.split(" ".join(parts)))
+            parts = []
+        for cell in cells:
+            yield from ((number, sentence) for sentence in SENTENCE_END.split(cell))
+        if line.strip() and not cells:
+            begin = begin if parts else number
+            parts.append(CODE.sub("code", line.strip()))
+
+
+def sentence_faults(page, text):
+    """Sentences that are too long."""
+    for number, sentence in sentences(text):
+        words = re.findall(r"[^\s]*\w[^\s]*", sentence)
+        if len(words) > MOST_WORDS:
+            yield f"{page}:{number}: a sentence of {len(words)} words: {' '.join(words[:6])} .."
+
+
+def map_rows(text):
+    """The crates in the maps: the names in the first column of the tables whose first column is `Crate`."""
+    takes = False
+    for number, line in prose(text):
+        cells = [cell.strip() for cell in line.strip().strip("|").split("|")]
+        if not line.startswith("|"):
+            takes = False
+        elif cells[0] == "Crate":
+            takes = True
+        elif takes:
+            yield from ((number, name) for name in CODE.findall(cells[0]))
+
+
+def map_faults(checkout):
+    """Crates that the maps lack or have twice, and rows of the maps that are no crate."""
+    rows = list(map_rows(checkout.text(MAPS)))
+    names = [name for _, name in rows]
+    kinds = tuple(name[len("NAME"):] for name in names if name.startswith("NAME_"))
+    for crate in checkout.crates:
+        count = names.count(crate)
+        if count == 0 and not (kinds and crate.endswith(kinds)):
+            yield f"{MAPS}: no map has the crate {crate}"
+        elif count > 1:
+            yield f"{MAPS}: the maps have the crate {crate} {count} times"
+    for number, name in rows:
+        if name not in checkout.crates and not name.startswith("NAME_"):
+            yield f"{MAPS}:{number}: {name} is no crate of crates.txt"
+
+
+def faults(checkout):
+    """All that is wrong with the pages of a checkout, a line each."""
+    for page in checkout.pages():
+        text = checkout.text(page)
+        yield from link_faults(checkout, page, text)
+        yield from heading_faults(checkout, page, text)
+        yield from path_faults(checkout, page, text)
+        yield from fence_faults(page, text)
+        if page == "README.md":
+            yield from sentence_faults(page, text)
+    yield from map_faults(checkout)
+
+
+PLANTS = (
+    ("docs/CLAUSES.md", "\nSee [a page](NOT_THERE.md).\n", "the link NOT_THERE.md leads to no file"),
+    ("docs/CLAUSES.md", "\nSee [a part](LANGUAGE.md#not-there).\n", "the link LANGUAGE.md#not-there leads to no heading"),
+    ("docs/CLAUSES.md", "\nSee `docs/LANGUAGE.md`, \"Not there\".\n", "docs/LANGUAGE.md has no heading \"Not there\""),
+    ("docs/CLAUSES.md", "\nSee `docs/not_there.md`.\n", "there is no docs/not_there.md"),
+    ("docs/CLAUSES.md", "\nSee `rng_model/src/not_there.rt`.\n", "there is no rng_model/src/not_there.rt"),
+    ("docs/CLAUSES.md", "\nSee `not_there_at_all.antt`.\n", "there is no not_there_at_all.antt"),
+    ("docs/CLAUSES.md", "\n```\nx\n```\n", "the block does not say what it is"),
+    ("docs/CLAUSES.md", "\n```text\nx\n", "the block is not closed"),
+    ("README.md", "\n" + "word " * MOST_WORDS + "end.\n", f"a sentence of {MOST_WORDS + 1} words"),
+    (MAPS, "\n| Crate | What |\n|---|---|\n| `rng_model` | again |\n", "the maps have the crate rng_model 2 times"),
+    (MAPS, "\n| Crate | What |\n|---|---|\n| `not_there` | |\n", "not_there is no crate of crates.txt"),
+    ("crates.txt", "\nnot_mapped: rng_model\n", "no map has the crate not_mapped"),
+)
+
+
+def copied(top, folder, page, more):
+    """A copy of a checkout by links, with more text behind one of its files."""
+    for path in top.iterdir():
+        if path.name not in (".git", "docs", page):
+            (folder / path.name).symlink_to(path)
+    for path in (top / "docs").rglob("*.md"):
+        copy = folder / path.relative_to(top)
+        copy.parent.mkdir(parents=True, exist_ok=True)
+        copy.write_bytes(path.read_bytes())
+    (folder / page).write_text((top / page).read_text(encoding="utf-8") + more, encoding="utf-8")
+
+
+def planted_faults(checkout, known):
+    """Planted faults that are not reported, or not alone."""
+    for page, more, wanted in PLANTS:
+        with tempfile.TemporaryDirectory(prefix="pages-") as room:
+            folder = pathlib.Path(room)
+            copied(checkout.top, folder, page, more)
+            new = [fault for fault in faults(Checkout(folder)) if fault not in known]
+        if len(new) != 1 or wanted not in new[0]:
+            yield f"tools/pages/test.py: planted in {page}: wanted one fault \"{wanted}\", and got {new}"
+
+
+def main():
+    """Checks the pages, and the checks; the exit status."""
+    checkout = Checkout(sys.argv[1] if len(sys.argv) > 1 else HERE.parents[2])
+    found = list(faults(checkout))
+    found += planted_faults(checkout, set(found))
+    print("\n".join(found) or f"pages: {len(checkout.pages())} pages, {len(PLANTS)} planted faults reported: ok")
+    return 1 if found else 0
+
+
+if __name__ == "__main__":
+    sys.exit(main())
