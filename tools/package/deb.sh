@@ -57,6 +57,12 @@ fi
 printf 'rncv (%s) unstable; urgency=medium\n\n  * Version %s.\n\n -- %s  %s\n' "$version" "$version" "$maintainer" \
     "$(LC_ALL=C date -u -d "@$date" '+%a, %d %b %Y %H:%M:%S +0000')" | gzip -9nc > "$doc/changelog.gz"
 
+# The toolchain says how the program is linked. Where it loads no library, lintian has to know that this is meant.
+if command -v readelf > /dev/null && elf "$root/usr/bin/rncv" && ! LC_ALL=C readelf -l "$root/usr/bin/rncv" | grep -q INTERP; then
+    mkdir -p "$root/usr/share/lintian/overrides"
+    printf '# the toolchain of the proved program links it so\nrncv: statically-linked-binary [usr/bin/rncv]\n' > "$root/usr/share/lintian/overrides/rncv"
+fi
+
 # Which packages the programs load libraries from. dpkg-shlibdeps knows which version is needed; without it the oldest that will do are named.
 depends=
 if command -v dpkg-shlibdeps > /dev/null; then
