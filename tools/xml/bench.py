@@ -1,12 +1,13 @@
 #!/usr/bin/env python3
 """Measures rncv-xml beside jing and xmllint, on the same documents in the same run.
 
-    tools/xml/bench.py [--programs FOLDER] [--work FOLDER] [--repeat N] [--core N] [--megabytes N] [--documents N]
+    tools/xml/bench.py [--programs FOLDER] [--work FOLDER] [--repeat N] [--core N] [--megabytes N] [--documents N] [--only TEXT]
 
-FOLDER has rncv-xml (else build/xml). Each program runs on one processor, or where the row says so on two; a time is the least of N, wall clock; memory is the most of all. jing is
-measured cold (its Java machine starts, and judges all the documents that are named) and, where a Java compiler is there, in a machine that runs
-(`warm`: the schema is loaded once, the least time of a validation). xmllint gets the schema as trang writes it. What is not installed is left out:
-apt-get install jing trang libxml2-utils default-jdk-headless. It wants GNU time and taskset.
+FOLDER has rncv-xml (else build/xml). Each program runs on one processor, or where the row says so on two. The times are the least of N: of the clock,
+and the seconds of a processor; the memory is the most of all. jing is measured cold (its Java machine starts, and judges all the documents that are
+named) and, where a Java compiler is there, in a machine that runs (`warm`: the schema is loaded once, the least time of a validation). xmllint gets the
+schema as trang writes it. What is not installed is left out: apt-get install jing trang libxml2-utils default-jdk-headless. It wants GNU time and
+taskset.
 """
 import argparse
 import os
@@ -94,18 +95,20 @@ class Bench:
         self.start = min(self.once(["true"])[0] for _ in range(20))
 
     def once(self, words):
-        """Seconds, KiB and the status of one run. `time` is a small program: the memory of the one that measures does not count."""
+        """Seconds, seconds of a processor, KiB and the status of one run. `time` is small: the memory of what measures does not count."""
         with tempfile.NamedTemporaryFile() as measured:
             begun = time.perf_counter()
-            run = subprocess.run(["taskset", "-c", self.cores, "/usr/bin/time", "-q", "-f", "%M", "-o", measured.name, *map(str, words)],
+            run = subprocess.run(["taskset", "-c", self.cores, "/usr/bin/time", "-q", "-f", "%U %S %M", "-o", measured.name, *map(str, words)],
                                  stdin=subprocess.DEVNULL, stdout=subprocess.DEVNULL, stderr=subprocess.DEVNULL, check=False)
             seconds = time.perf_counter() - begun
-            return seconds, int(measured.read().split()[-1]), run.returncode
+            user, system, memory = measured.read().split()[-3:]
+            return seconds, float(user) + float(system), int(memory), run.returncode
 
     def run(self, words):
-        """The least time of several runs, the most memory, and whether each run said that all is valid. The start of `time` is taken off."""
+        """The least times of several runs, the most memory, and whether each run said that all is valid. The start of `time` is taken off."""
         runs = [self.once(words) for _ in range(self.given.repeat)]
-        return max(min(run[0] for run in runs) - self.start, 0), max(run[1] for run in runs), all(run[2] == 0 for run in runs)
+        return (max(min(run[0] for run in runs) - self.start, 0), min(run[1] for run in runs), max(run[2] for run in runs),
+                all(run[3] == 0 for run in runs))
 
     def relax_ng(self, name):
         """The schema in the XML syntax, for xmllint."""
@@ -141,12 +144,12 @@ class Bench:
         for peer, words in self.peers(name, documents, classes):
             if peer == "jing warm":
                 run = subprocess.run(["taskset", "-c", self.cores, *map(str, words)], capture_output=True, text=True, check=False)
-                found[peer] = (float(run.stdout.split()[-1]), 0, True) if run.returncode == 0 else (float("nan"), 0, False)
+                found[peer] = (float(run.stdout.split()[-1]), 0, 0, True) if run.returncode == 0 else (float("nan"), 0, 0, False)
             else:
                 found[peer] = self.run(words)
         own = found["rncv-xml"][0]
-        cells = [f"{seconds * 1000:,.1f} ms{f', {memory / 1024:,.1f} MiB' if memory else ''}{'' if good else ' (not valid)'}"
-                 + ("" if peer == "rncv-xml" else f" ({own / seconds:.2f} ×)") for peer, (seconds, memory, good) in found.items()]
+        cells = [f"{seconds * 1000:,.1f} ms{f', {cpu:.2f} s, {memory / 1024:,.1f} MiB' if memory else ''}{'' if good else ' (not valid)'}"
+                 + ("" if peer == "rncv-xml" else f" ({own / seconds:.2f} ×)") for peer, (seconds, cpu, memory, good) in found.items()]
         print("| " + " | ".join([title, *cells]) + " |", flush=True)
         return list(found)
 
@@ -159,6 +162,7 @@ def main():
     parser.add_argument("--core", type=int)
     parser.add_argument("--megabytes", type=int, default=51)
     parser.add_argument("--documents", type=int, default=2_000)
+    parser.add_argument("--only", default="", metavar="TEXT", help="the rows with this text")
     given = parser.parse_args()
     if not os.access(given.programs / "rncv-xml", os.X_OK):
         print(f"bench.py: no rncv-xml in {given.programs}: tools/xml/build.sh builds it", file=sys.stderr)
@@ -169,7 +173,8 @@ def main():
         bench = Bench(given, folder)
         classes = bench.warm()
         for workload in write_workloads(folder, given.megabytes * 1_000_000, given.documents):
-            peers = bench.row(*workload, classes)
+            if given.only in workload[0]:
+                peers = bench.row(*workload, classes)
         print("columns: the work;", "; ".join(peers), "(in brackets: the time of rncv-xml as a multiple of this one's)")
     return 0
 

@@ -343,6 +343,7 @@ static void read_all(struct writer *writer, const struct giver *giver) {
             break;
         }
         if (!giver->read(giver->context, room.data, wanted, &length, writer->fault)) {
+            fault_set(writer->fault, FAULT_DEVICE, (struct place){0, 0}, "read failed"); /* unless the giver says more */
             break;
         }
         if (length > 0 && feed_take(&writer->feed, room.data, length)) {

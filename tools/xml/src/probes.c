@@ -3,7 +3,8 @@
 #include <string.h>
 
 enum {
-    MOST_BYTES = 8388608, /* handed to the library for one document */
+    BYTES_OF_EACH = 65536, /* handed to the library for one document, and .. */
+    TIMES_ITS_LENGTH = 8,  /* .. so many times its first lines: many invalid documents take little longer than valid ones */
     MOST_PARTS = 5
 };
 
@@ -256,12 +257,12 @@ static void set_tag(struct probing *probing, const struct told *told, struct spa
 }
 
 void probe(struct judge *judge, const struct told *told, uint64_t line, struct answer *answer) {
-    struct probing probing = {judge, MOST_BYTES};
     struct span lines = {NULL, 0};
     bool is_kept = judge->prefix_is_all && lines_before(judge, line, &lines);
     if (!is_kept) {
         lines = (struct span){NULL, 0};
     }
+    struct probing probing = {judge, BYTES_OF_EACH + TIMES_ITS_LENGTH * lines.length};
     if (told->has_tag) {
         /* an end tag tells of the start before it, and of the end: an instruction in its place tells of the start alone */
         bool is_end = told->kind == ')' && is_kept && with_line(&probing, lines, "?x\n") == OUTCOME_GOES_ON;
