@@ -53,7 +53,7 @@ room_for() {
     # the caller asks for the answer, and so `set -e` does not end this function
     rm -f "$1" || exit 1
     [ "$action" = install ] || return 1
-    mkdir -p "$(dirname "$1")" || exit 1
+    [ -d "${1%/*}" ] || mkdir -p "${1%/*}" || exit 1
 }
 
 # put MODE SOURCE TARGET: a file, with TARGET below PREFIX

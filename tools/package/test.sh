@@ -176,10 +176,12 @@ share/bash-completion/completions/rncv-xml
 share/bash-completion/completions/xml2pyx
 share/doc/rncv/README.md
 share/doc/rncv/docs/CLAUSES.md
+share/doc/rncv/docs/EDITORS.md
 share/doc/rncv/docs/INSTALL.md
 share/doc/rncv/docs/LANGUAGE.md
 share/doc/rncv/docs/LIBRARY.md
 share/doc/rncv/docs/MIGRATING.md
+share/doc/rncv/docs/PROVED.md
 share/doc/rncv/docs/XML.md
 share/doc/rncv/examples/letter/letter.xml
 share/doc/rncv/examples/letter/s.rnc
