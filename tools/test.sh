@@ -1,29 +1,43 @@
 #!/bin/sh
-# Tests of what stands around the program:   tools/test.sh [PROGRAM]     (PROGRAM: the built rncv, else crates/rncv/out/rncv, where `rt ci` and `rt run`
-# leave it). They want Python 3 and no package; tools/xml wants a C compiler, the headers of expat and librncv (tools/xml/build.sh says where from). What
-# else is not installed is told, and what wants it is skipped. The parts run side by side, in less than a minute, and what they print comes in order. The
-# tests of the library come after them: they build it twice, which takes minutes, and want `rt` and a C compiler. RNCV_SKIP=library leaves them out.
+# Tests of all that is around the program:   tools/test.sh [PROGRAM]     (PROGRAM: the built rncv, else crates/rncv/out/rncv, where `rt ci` and `rt run`
+# leave it). RNCV_LIBRARY names the folder of the built library, else build/library.
+#
+# They want Python 3 and no package; tools/xml wants a C compiler, the headers of expat and the library. What is not installed is reported, and what wants
+# it is skipped. The parts run side by side, in less than a minute, and what they print comes in order. The tests of the library come after them: they
+# build it once more, by the other compiler, which takes minutes and wants `rt`. RNCV_SKIP=library leaves them out.
 here=$(cd "$(dirname "$0")" && pwd)
 program=${1:-$here/../crates/rncv/out/rncv}
+RNCV_LIBRARY=${RNCV_LIBRARY:-$(cd "$here/.." && pwd)/build/library}
 RNCV_REQUIRED=1
-export RNCV_REQUIRED
+export RNCV_LIBRARY RNCV_REQUIRED
 room=$(mktemp -d)
 trap 'rm -rf "$room"' EXIT
 RNCV_XML_PROGRAMS=$room/programs
 export RNCV_XML_PROGRAMS
+status=0
+
+# what wants expat, the library or a C compiler is skipped where these are missing; the script says which
 "$here/xml/build.sh" "$RNCV_XML_PROGRAMS"
-"$here/xml/test.sh" "$program" >"$room/xml" 2>&1 & xml=$!
+case $? in
+  0) built=1 ;;
+  2) built='' && echo "tools/test.sh: rncv-xml is not built, and what wants it is skipped" ;;
+  *) built=1 && status=1 ;;
+esac
+
 "$here/schema/test.sh" "$program" >"$room/schema" 2>&1 & schema=$!
 python3 -B "$here/transcripts/test.py" "$program" >"$room/transcripts" 2>&1 & transcripts=$!
 "$here/believed/test.sh" >"$room/believed" 2>&1 & believed=$!
-"$here/package/test.sh" "$program" >"$room/package" 2>&1 & package=$!
-status=0
-wait "$xml" || status=1
-wait "$schema" || status=1
-wait "$transcripts" || status=1
-wait "$believed" || status=1
-wait "$package" || status=1
-cat "$room/xml" "$room/schema" "$room/transcripts" "$room/believed" "$room/package"
+python3 -B "$here/pages/test.py" >"$room/pages" 2>&1 & pages=$!
+RNCV_REQUIRED=$built "$here/xml/test.sh" "$program" >"$room/xml" 2>&1 & xml=$!
+RNCV_REQUIRED=$built "$here/package/test.sh" "$program" >"$room/package" 2>&1 & package=$!
+RNCV_REQUIRED=$built "$here/lsp/test.sh" >"$room/lsp" 2>&1 & lsp=$!
+for part in "$schema" "$transcripts" "$believed" "$pages" "$xml" "$package" "$lsp"; do
+  wait "$part" || status=1
+done
+for part in schema transcripts believed pages xml package lsp; do
+  cat "$room/$part"
+done
+
 if [ "${RNCV_SKIP-}" = library ]; then
   echo "tools/library: left out"
 elif command -v "${CC:-cc}" >/dev/null; then

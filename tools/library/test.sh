@@ -4,7 +4,8 @@
 # Once as LLVM and once as Rattle's own compiler build it: each test program, alone, under valgrind and with the sanitizers of the C compiler; the
 # names that the shared object exports against those of the header; the header as C and as C++; and the shared object from Python, by the package and by
 # the language server. What is not installed is told and skipped.
-# It writes below build/library-tests/. RNCV_ARCHIVE names a built librncv_c.a to test instead, and then nothing is proved here.
+# It writes below build/library-tests/. RNCV_LIBRARY names a folder where build.sh has built the library by LLVM, which is then not built again.
+# RNCV_ARCHIVE names a built librncv_c.a to test instead, and then nothing is proved here.
 set -eu
 
 here=$(cd "$(dirname "$0")" && pwd)
@@ -20,7 +21,11 @@ run() {
 
 for backend in ${BACKENDS:-llvm rattle}; do
     build=$top/build/library-tests/$backend
-    "$here/build.sh" "$build" "$backend"
+    if [ "$backend" = llvm ] && [ -n "${RNCV_LIBRARY:-}" ] && [ -f "$RNCV_LIBRARY/lib/librncv.a" ]; then
+        build=$(cd "$RNCV_LIBRARY" && pwd)
+    else
+        "$here/build.sh" "$build" "$backend"
+    fi
     mkdir -p "$build/tests"
 
     # the header alone, as C and as C++

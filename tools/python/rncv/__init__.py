@@ -8,7 +8,7 @@
 A schema is a set of files in the RELAX NG Compact Syntax. A document is in the notation of PYX, one event a line (docs/XML.md says how XML is turned
 into it). A schema is compiled once and judges documents one after the other.
 
-The library is the file that the variable RNCV_LIBRARY names; else it is looked for beside this package, in `build/library/lib` of the checkout that
+The library is the file that the variable RNCV_LIBRARY names, or `lib/librncv.so` in the folder that it names; else it is looked for beside this package, in `build/library/lib` of the checkout that
 this package is in, where `make install` put it beside this package, and where the system keeps libraries. It is loaded at the first call that wants it.
 
 Threads. A validator judges one document at a time: a second one at the same time is a RuntimeError. `Validator.share` makes another validator by the
@@ -497,7 +497,8 @@ def _places() -> Iterator[tuple[str, Optional[str]]]:
     """Where the library may be, in the order in which it is looked for, with the file or the name to load, if there is one."""
     named = os.environ.get("RNCV_LIBRARY")
     if named:
-        yield f"RNCV_LIBRARY={named}", os.path.abspath(named)
+        path = pathlib.Path(named).resolve()
+        yield f"RNCV_LIBRARY={named}", str(path / "lib/librncv.so" if path.is_dir() else path)
         return
     package = pathlib.Path(__file__).resolve().parent
     folders = [package, package.parent]
