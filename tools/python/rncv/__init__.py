@@ -8,8 +8,9 @@
 A schema is a set of files in the RELAX NG Compact Syntax. A document is in the notation of PYX, one event a line (docs/XML.md says how XML is turned
 into it). A schema is compiled once and judges documents one after the other.
 
-The library is the file that the variable RNCV_LIBRARY names, or `lib/librncv.so` in the folder that it names; else it is looked for beside this package, in `build/library/lib` of the checkout that
-this package is in, where `make install` put it beside this package, and where the system keeps libraries. It is loaded at the first call that wants it.
+The library is the file that the variable RNCV_LIBRARY names, or `lib/librncv.so` in the folder that it names; else it is looked for beside this
+package, in `build/library/lib` of the checkout that this package is in, where `make install` put it beside this package, and where the system keeps
+libraries. It is loaded at the first call that wants it.
 
 Threads. A validator judges one document at a time: a second one at the same time is a RuntimeError. `Validator.share` makes another validator by the
 same schema, for another thread. The library runs without the lock of the interpreter. No object of this module is copied or pickled. After `os.fork`
