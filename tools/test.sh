@@ -1,14 +1,17 @@
 #!/bin/sh
-# Tests of what is around the program:   tools/test.sh [PROGRAM]     (PROGRAM: the built rncv, else crates/rncv/out/rncv, where `rt ci` and `rt run` leave
-# it). They want Python 3 and no package; what else is not installed is told, and what wants it is skipped. The parts run side by side, in less than a
-# minute, and what they print comes in order. The tests of the library come after them: they build it twice, which takes minutes, and want `rt` and a C
-# compiler. RNCV_SKIP=library leaves them out.
+# Tests of what stands around the program:   tools/test.sh [PROGRAM]     (PROGRAM: the built rncv, else crates/rncv/out/rncv, where `rt ci` and `rt run`
+# leave it). They want Python 3 and no package; tools/xml wants a C compiler, the headers of expat and librncv (tools/xml/build.sh says where from). What
+# else is not installed is told, and what wants it is skipped. The parts run side by side, in less than a minute, and what they print comes in order. The
+# tests of the library come after them: they build it twice, which takes minutes, and want `rt` and a C compiler. RNCV_SKIP=library leaves them out.
 here=$(cd "$(dirname "$0")" && pwd)
 program=${1:-$here/../crates/rncv/out/rncv}
 RNCV_REQUIRED=1
 export RNCV_REQUIRED
 room=$(mktemp -d)
 trap 'rm -rf "$room"' EXIT
+RNCV_XML_PROGRAMS=$room/programs
+export RNCV_XML_PROGRAMS
+"$here/xml/build.sh" "$RNCV_XML_PROGRAMS"
 "$here/xml/test.sh" "$program" >"$room/xml" 2>&1 & xml=$!
 "$here/schema/test.sh" "$program" >"$room/schema" 2>&1 & schema=$!
 python3 -B "$here/transcripts/test.py" "$program" >"$room/transcripts" 2>&1 & transcripts=$!

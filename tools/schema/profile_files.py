@@ -5,7 +5,7 @@ import urllib.parse
 
 from compact_tokens import LINE_END, NoToken, Places, decoded, tokens
 from profile_reader import Edit, Finding, Reader, Traits
-from profile_types import SAME
+from profile_types import BOTH, MORE, SAME
 
 SIZE, COUNT = 1_048_576, 64
 UNSURE = "the same if they were ISO 8859-1"
@@ -150,13 +150,40 @@ def read_all(schemas):
     return list(files.values()), missing
 
 
+def loosened(file):
+    """The findings of which the copy accepts more than the original."""
+    return [finding for finding in file.findings if finding.change and finding.effect in (MORE, BOTH)]
+
+
+def marked(file, profile):
+    """The copy's text, with a comment at its end where it accepts more than the original; `rncv-xml` looks for that."""
+    count, text = len(loosened(file)), file.copy()
+    if count == 0:
+        return text
+    gap = "" if text == "" or text.endswith("\n") else "\n"
+    return f"{text}{gap}# rncv-profile: {count} datatype{'s' if count > 1 else ''} loosened, see {profile}\n"
+
+
+def profile_lines(files):
+    """What each copy accepts more, a line each."""
+    for file in files:
+        for finding in sorted(loosened(file), key=lambda finding: finding.at):
+            row, column = file.places.of(finding.at)
+            yield f"{file.path}:{row}:{column}: {finding.what}; the copy has {finding.change}, and accepts {finding.effect}\n"
+
+
 def copied(files, folder):
-    """Writes the copies and answers their paths, that of the main file first. No file of the schema is written over."""
+    """Writes the copies and answers their paths, that of the main file first. No file of the schema is written over. Where a copy accepts more than
+    the original, a file beside the copies says so, and is answered last."""
     folder.mkdir(parents=True, exist_ok=True)
-    targets = [folder / file.name for file in files]
+    profile = os.path.splitext(files[0].name)[0] + ".profile.txt"
+    lines = "".join(profile_lines(files))
+    targets = [folder / file.name for file in files] + [folder / profile] * bool(lines)
     for target in targets:
         if target.exists() and any(os.path.samefile(target, file.path) for file in files):
             raise OutsideCopy(f"{target} is a file of the schema; copies go to another directory")
     for file, target in zip(files, targets):
-        target.write_bytes(file.copy().encode("utf-8", "replace"))
+        target.write_bytes(marked(file, profile).encode("utf-8", "replace"))
+    if lines:
+        targets[-1].write_bytes(lines.encode("utf-8", "replace"))
     return [str(target) for target in targets]

@@ -134,7 +134,8 @@ class Profile(unittest.TestCase):
             with self.subTest(name):
                 self.write("s.rnc", source)
                 out, errors, status = self.profile("--write", "copy", "s.rnc")
-                self.assertEqual((out.splitlines(), errors, status), ([*(f"s.rnc:{line}" for line in lines), "written: copy/s.rnc"], "", 1))
+                written = "written: copy/s.rnc" + " copy/s.profile.txt" * any(line.endswith((" more", " more and less")) for line in lines)
+                self.assertEqual((out.splitlines(), errors, status), ([*(f"s.rnc:{line}" for line in lines), written], "", 1))
                 self.assertEqual(self.profile("copy/s.rnc"), ("", "", 0))
                 self.checked("copy/s.rnc")
 
@@ -193,7 +194,20 @@ class Profile(unittest.TestCase):
     def test_dropped_lines_stay_lines(self):
         self.write("s.rnc", b'a:b [\n"x"\n]\nstart = element a { xsd:date }')
         self.profile("--write", "copy", "s.rnc")
-        self.assertEqual((self.folder / "copy/s.rnc").read_bytes(), b"\n\n\nstart = element a { xsd:token }")
+        mark = b"\n# rncv-profile: 1 datatype loosened, see s.profile.txt\n"
+        self.assertEqual((self.folder / "copy/s.rnc").read_bytes(), b"\n\n\nstart = element a { xsd:token }" + mark)
+
+    def test_loosened_copies_are_marked(self):
+        self.write("s.rnc", b'include "b.rnc"\nstart = element a { n, xsd:date, attribute x { xsd:time } }\n')
+        self.write("b.rnc", b'n = attribute n { xsd:positiveInteger }')
+        self.assertTrue(self.profile("--write", "copy", "s.rnc")[0].endswith("\nwritten: copy/s.rnc copy/b.rnc copy/s.profile.txt\n"))
+        copies = [(self.folder / "copy" / name).read_text().splitlines()[-1] for name in ("s.rnc", "b.rnc")]
+        self.assertEqual(copies[0], "# rncv-profile: 2 datatypes loosened, see s.profile.txt")
+        self.assertNotIn("rncv-profile", copies[1])
+        told = "the datatype xsd:date is not served; the copy has xsd:token, and accepts more\n"
+        self.assertEqual((self.folder / "copy/s.profile.txt").read_text().splitlines(True)[0], f"s.rnc:2:24: {told}")
+        self.assertEqual(self.profile("--write", "again", "copy/s.rnc")[0], "written: again/s.rnc again/b.rnc\n")
+        self.assertEqual((self.folder / "again/s.rnc").read_text(), (self.folder / "copy/s.rnc").read_text())
 
     def test_examples_of_the_repository(self):
         for folder in sorted(path for path in (TOP / "examples").iterdir() if path.name != "broken"):

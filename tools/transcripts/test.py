@@ -13,7 +13,8 @@ Each fenced block of a page says behind its fence what it is:
 - A word of ELSEWHERE: what is tested by another script, or is no example.
 
 A block that says nothing, or has a line `$ ..` and is no transcript, is a fault, so that no example stands untested by mistake. Each page has a copy of
-README.md, docs, examples and tools for itself, each block begins at its top, and there the built program is crates/rncv/out/rncv and on the path.
+README.md, docs, examples and tools for itself, each block begins at its top, and there the built program is crates/rncv/out/rncv and on the path. So
+are the programs in the folder that the variable RNCV_XML_PROGRAMS names: rncv-xml and xml2pyx.
 """
 import dataclasses
 import difflib
@@ -33,7 +34,7 @@ MARK = "-- this command ended with"
 ELSEWHERE = {
     "broken": "tools/schema/clauses_test.py",
     "repair": "tools/schema/clauses_test.py",
-    "recipe": "tools/xml/test_xml.py",
+    "recipe": "tools/xml/tests/recipes_test.py",
     "text": "no example: grammars, drawings, forms of command lines",
 }
 
@@ -71,8 +72,19 @@ class Block:
         """Why the transcript is not run, if it is not."""
         if self.words[1:] == ["unrun"]:
             return "it says so"
-        lacking = [program for program in self.words[2:] if not shutil.which(program)]
+        lacking = [program for program in self.words[2:] if not shutil.which(program, path=search_path(built_xml()))]
         return f"not installed: {' '.join(lacking)}" if lacking else None
+
+
+def built_xml():
+    """The folders with programs that are built outside the copy."""
+    folder = os.environ.get("RNCV_XML_PROGRAMS")
+    return [os.path.abspath(folder)] if folder else []
+
+
+def search_path(folders):
+    """A value of PATH: the folders before those that are in it anyway."""
+    return os.pathsep.join([*map(str, folders), os.environ["PATH"]])
 
 
 def blocks_of(page, text):
@@ -92,9 +104,9 @@ def scratch(folder, program):
     built = folder / "crates/rncv/out"
     built.mkdir(parents=True)
     (built / "rncv").symlink_to(program)
-    path = [built, folder / "tools/xml", folder / "tools/schema", os.environ["PATH"]]
+    path = search_path([built, *built_xml(), folder / "tools/schema"])
     kept = {name: value for name, value in os.environ.items() if name not in ("RNCV", "RNCV_REQUIRED")}
-    return {**kept, "PATH": os.pathsep.join(map(str, path)), "LC_ALL": "C", "PYTHONDONTWRITEBYTECODE": "1"}
+    return {**kept, "PATH": path, "LC_ALL": "C", "PYTHONDONTWRITEBYTECODE": "1"}
 
 
 def ran(commands, folder, environment):

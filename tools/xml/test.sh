@@ -1,7 +1,49 @@
 #!/bin/sh
-# Tests of xml2pyx and rncv-xml:   tools/xml/test.sh [PROGRAM]     (PROGRAM: the built rncv, else crates/rncv/out/rncv)
-# Without a program what needs none is tested and the rest is skipped aloud; with the variable RNCV_REQUIRED set that is a failure.
+# Tests of rncv-xml and xml2pyx, in less than a minute:   tools/xml/test.sh [PROGRAM]     (PROGRAM: the built rncv, else crates/rncv/out/rncv)
+#
+# It builds the programs into a temporary folder, unless RNCV_XML_PROGRAMS names one where they are. They want a C compiler, the headers of expat, and
+# librncv (RNCV_LIBRARY, else build/library). What is missing is told and skipped; with the variable RNCV_REQUIRED set that is a failure.
+# RNCV_XML_DOCUMENTS says on how many generated documents, and mutants of them, the converters in C and in Python are compared; else on 300.
 here=$(cd "$(dirname "$0")" && pwd)
 program=${1:-$here/../../crates/rncv/out/rncv}
 if [ -n "$RNCV_REQUIRED" ] && [ ! -x "$program" ]; then echo "test.sh: no program at $program" >&2; exit 1; fi
-exec python3 -B "$here/test_xml.py" "$here" "$program"
+room=$(mktemp -d)
+trap 'rm -rf "$room"' EXIT
+
+if [ -z "$RNCV_XML_PROGRAMS" ]; then
+    RNCV_XML_PROGRAMS=$room/programs
+    "$here/build.sh" "$RNCV_XML_PROGRAMS"
+fi
+RNCV_PROGRAM=$program
+export RNCV_XML_PROGRAMS RNCV_PROGRAM
+
+# one side: the two converters
+converters() {
+    python3 -B "$here/second_opinion/test_converter.py" || return 1
+    if [ -x "$RNCV_XML_PROGRAMS/xml2pyx" ]; then
+        python3 -B "$here/tests/conversion_test.py"
+    else
+        echo "test.sh: no xml2pyx: the conversion in C is not tested"
+        [ -z "$RNCV_REQUIRED" ]
+    fi
+}
+
+# the other side: the judge
+judge() {
+    if [ ! -x "$RNCV_XML_PROGRAMS/rncv-xml" ]; then
+        echo "test.sh: no rncv-xml: judging is not tested"
+        [ -z "$RNCV_REQUIRED" ]
+        return
+    fi
+    status=0
+    for part in judging schema recipes; do
+        python3 -B "$here/tests/${part}_test.py" || status=1
+    done
+    return "$status"
+}
+
+converters >"$room/converters" 2>&1 & side=$!
+judge; judged=$?
+wait "$side"; converted=$?
+cat "$room/converters"
+[ "$judged" = 0 ] && [ "$converted" = 0 ]

@@ -4,7 +4,7 @@ import re
 import sys
 
 TOP = pathlib.Path(__file__).resolve().parents[3]
-sys.path[:0] = [str(TOP / "tools/python"), str(TOP / "tools/schema"), str(TOP / "tools/xml")]
+sys.path[:0] = [str(TOP / "tools/python"), str(TOP / "tools/schema"), str(TOP / "tools/xml/second_opinion")]
 
 from clauses_test import PARTS, data, files  # noqa: E402
 

@@ -89,6 +89,8 @@ class Feed:
         """Takes the encoding that the document declares."""
         if encoding is not None and not is_served(encoding):
             raise OutsideProfile(*self.here(), f"the encoding {encoding!r} is not served")
+        if encoding is not None and self.first.startswith(codecs.BOM_UTF8) and encoding.lower() != "utf-8":
+            raise OutsideProfile(*self.here(), f"the byte order mark says UTF-8, and the declaration {encoding}: outside the profile")
         if encoding is not None and self.units == "latin-1":
             self.encoding = encoding
 

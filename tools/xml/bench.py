@@ -1,0 +1,172 @@
+#!/usr/bin/env python3
+"""Measures rncv-xml beside jing and xmllint, on the same documents in the same run.
+
+    tools/xml/bench.py [--programs FOLDER] [--work FOLDER] [--repeat N] [--core N] [--megabytes N] [--documents N]
+
+FOLDER has rncv-xml (else build/xml). Each program runs on one processor; a time is the least of N, wall clock; memory is the most of all. jing is
+measured cold (its Java machine starts, and judges all the documents that are named) and, where a Java compiler is there, in a machine that runs
+(`warm`: the schema is loaded once, the least time of a validation). xmllint gets the schema as trang writes it. What is not installed is left out:
+apt-get install jing trang libxml2-utils default-jdk-headless.
+"""
+import argparse
+import os
+import pathlib
+import random
+import shutil
+import subprocess
+import sys
+import tempfile
+import time
+
+HERE = pathlib.Path(__file__).resolve().parent
+SCHEMA = """start = element records { record* }
+record = element record {
+  attribute id { xsd:NCName },
+  attribute kind { "a" | "b" | "c" },
+  element name { text },
+  element count { xsd:integer { minInclusive = "0" } },
+  (element note { text } | element link { attribute to { xsd:NCName } })*
+}
+"""
+WARM = """import com.thaiopensource.validate.ValidationDriver;
+import com.thaiopensource.validate.rng.CompactSchemaReader;
+import com.thaiopensource.util.PropertyMapBuilder;
+import java.io.File;
+
+public class Warm {
+    public static void main(String[] words) throws Exception {
+        ValidationDriver driver = new ValidationDriver(new PropertyMapBuilder().toPropertyMap(), CompactSchemaReader.getInstance());
+        if (!driver.loadSchema(ValidationDriver.fileInputSource(new File(words[1])))) System.exit(3);
+        double least = Double.MAX_VALUE;
+        for (int round = 0; round < Integer.parseInt(words[0]); round++) {
+            long begun = System.nanoTime();
+            for (int at = 2; at < words.length; at++) driver.validate(ValidationDriver.fileInputSource(new File(words[at])));
+            least = Math.min(least, (System.nanoTime() - begun) / 1e9);
+        }
+        System.out.println(least);
+    }
+}
+"""
+
+
+def record(chance, number):
+    rest = f"<note>some words &amp; more, {chance.random()}</note>" if chance.random() < 0.7 else f'<link to="r{chance.randrange(10**6)}"/>'
+    return (f'  <record id="r{number}" kind="{chance.choice("abc")}">\n    <name>Person number {chance.randrange(10**6)}</name>\n'
+            f"    <count>{chance.randrange(1000)}</count>\n    {rest}\n  </record>\n")
+
+
+def write_records(path, size):
+    chance, number, written = random.Random(1), 0, 0
+    with open(path, "w", encoding="ascii") as file:
+        file.write('<?xml version="1.0"?>\n<records>\n')
+        while written < size:
+            written += file.write(record(chance, number))
+            number += 1
+        file.write("</records>\n")
+
+
+def write_workloads(folder, size, count):
+    """The documents of each row of the table."""
+    (folder / "s.rnc").write_text(SCHEMA)
+    (folder / "comment.rnc").write_text("element a { empty }\n")
+    write_records(folder / "small.xml", 2_000)
+    write_records(folder / "large.xml", size)
+    (folder / "comment.xml").write_text("<a><!--" + "x" * size + "--></a>")
+    many = [folder / f"many/{number:05}.xml" for number in range(count)]
+    (folder / "many").mkdir(exist_ok=True)
+    for path in many:
+        write_records(path, 1_000)
+    return [("one small document", "s", [folder / "small.xml"]), (f"{count:,} small documents", "s", many),
+            (f"{size // 1_000_000} MB of records", "s", [folder / "large.xml"]),
+            (f"a comment of {size // 1_000_000} MB", "comment", [folder / "comment.xml"])]
+
+
+class Bench:
+    """Runs programs on one processor."""
+
+    def __init__(self, given, folder):
+        self.given, self.folder = given, folder
+        self.core = max(os.sched_getaffinity(0)) if given.core is None else given.core
+
+    def once(self, words):
+        """Seconds, KiB and the status of one run."""
+        begun = time.perf_counter()
+        child = subprocess.Popen([str(word) for word in words], stdin=subprocess.DEVNULL, stdout=subprocess.DEVNULL, stderr=subprocess.DEVNULL,
+                                 preexec_fn=lambda: os.sched_setaffinity(0, {self.core}))
+        _, status, usage = os.wait4(child.pid, 0)
+        child.returncode = os.waitstatus_to_exitcode(status)
+        return time.perf_counter() - begun, usage.ru_maxrss, child.returncode
+
+    def run(self, words):
+        """The least time of several runs, the most memory, and whether each run said that all is valid."""
+        runs = [self.once(words) for _ in range(self.given.repeat)]
+        return min(run[0] for run in runs), max(run[1] for run in runs), all(run[2] == 0 for run in runs)
+
+    def relax_ng(self, name):
+        """The schema in the XML syntax, for xmllint."""
+        target = self.folder / f"{name}.rng"
+        if shutil.which("trang") and not target.exists():
+            subprocess.run(["trang", self.folder / f"{name}.rnc", target], check=True, stderr=subprocess.DEVNULL)
+        return target if target.exists() else None
+
+    def warm(self):
+        """The class path of the loop in a running Java machine."""
+        listed = subprocess.run(["dpkg", "-L", "libjing-java"], capture_output=True, text=True, check=False).stdout if shutil.which("dpkg") else ""
+        jar = os.environ.get("JING_JAR") or next((path for path in listed.split() if path.endswith("/jing.jar")), None)
+        if not jar or not shutil.which("javac"):
+            return None
+        (self.folder / "Warm.java").write_text(WARM)
+        subprocess.run(["javac", "-cp", jar, "-d", self.folder, self.folder / "Warm.java"], check=True, capture_output=True)
+        return f"{self.folder}:{jar}"
+
+    def peers(self, name, documents, classes):
+        """What each program is called with."""
+        schema = self.folder / f"{name}.rnc"
+        yield "rncv-xml", [self.given.programs / "rncv-xml", "-j", "1", schema, *documents]
+        if shutil.which("jing"):
+            yield "jing cold", ["jing", "-c", schema, *documents]
+        if shutil.which("xmllint") and self.relax_ng(name):
+            yield "xmllint", ["xmllint", "--noout", "--huge", "--relaxng", self.relax_ng(name), *documents]
+        if classes:
+            yield "jing warm", ["java", "-cp", classes, "Warm", "10" if len(documents) == 1 else "3", schema, *documents]
+
+    def row(self, title, name, documents, classes):
+        found = {}
+        for peer, words in self.peers(name, documents, classes):
+            if peer == "jing warm":
+                run = subprocess.run(["taskset", "-c", str(self.core), *map(str, words)], capture_output=True, text=True, check=False)
+                found[peer] = (float(run.stdout.split()[-1]), 0, True) if run.returncode == 0 else (float("nan"), 0, False)
+            else:
+                found[peer] = self.run(words)
+        own = found["rncv-xml"][0]
+        cells = [f"{seconds * 1000:,.1f} ms{f', {memory / 1024:,.1f} MiB' if memory else ''}{'' if good else ' (not valid)'}"
+                 + ("" if peer == "rncv-xml" else f" ({own / seconds:.2f} ×)") for peer, (seconds, memory, good) in found.items()]
+        print("| " + " | ".join([title, *cells]) + " |", flush=True)
+        return list(found)
+
+
+def main():
+    parser = argparse.ArgumentParser(prog="bench.py", description=__doc__.splitlines()[0])
+    parser.add_argument("--programs", type=pathlib.Path, default=HERE.parents[1] / "build/xml")
+    parser.add_argument("--work", type=pathlib.Path)
+    parser.add_argument("--repeat", type=int, default=5)
+    parser.add_argument("--core", type=int)
+    parser.add_argument("--megabytes", type=int, default=51)
+    parser.add_argument("--documents", type=int, default=2_000)
+    given = parser.parse_args()
+    if not os.access(given.programs / "rncv-xml", os.X_OK):
+        print(f"bench.py: no rncv-xml in {given.programs}: tools/xml/build.sh builds it", file=sys.stderr)
+        return 2
+    with tempfile.TemporaryDirectory(prefix="rncv-xml-bench-") as room:
+        folder = given.work or pathlib.Path(room)
+        folder.mkdir(parents=True, exist_ok=True)
+        bench = Bench(given, folder)
+        classes = bench.warm()
+        for workload in write_workloads(folder, given.megabytes * 1_000_000, given.documents):
+            peers = bench.row(*workload, classes)
+        print("columns: the work;", "; ".join(peers), "(in brackets: the time of rncv-xml as a multiple of this one's)")
+    return 0
+
+
+if __name__ == "__main__":
+    sys.exit(main())

@@ -1,0 +1,13 @@
+#!/bin/sh
+# Gives generated documents and mutants of them to the programs, built with the sanitizers of the compiler:   tools/xml/fuzz.sh [SECONDS]
+#
+# 60 seconds, if no number is given. FUZZ_SEED says where to begin. rncv-xml is among the programs where the library is built (RNCV_LIBRARY). Each
+# document has to end with a status of the programs, without a word of the sanitizers, and well-formed exactly if the converter in Python says so.
+set -eu
+here=$(cd "$(dirname "$0")" && pwd)
+room=$(mktemp -d)
+trap 'rm -rf "$room"' EXIT
+CFLAGS="-g -O1 -fsanitize=address,undefined -fno-sanitize-recover=all"
+export CFLAGS
+"$here/build.sh" "$room/programs" || [ -x "$room/programs/xml2pyx" ]
+RNCV_XML_PROGRAMS=$room/programs python3 -B "$here/tests/fuzz.py" "${1:-60}" "$room"

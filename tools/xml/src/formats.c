@@ -1,0 +1,144 @@
+#include "formats.h"
+
+#include "paths.h"
+
+#include <inttypes.h>
+#include <string.h>
+
+void add_text(struct bytes *line, const struct result *result, bool has_color) {
+    bool is_good = result->message[0] == '\0';
+    bytes_add_text(line, has_color ? "\033[1m" : "");
+    add_shown(line, result->file, strlen(result->file), SIZE_MAX);
+    if (result->place.line > 0) {
+        bytes_format(line, ":%" PRIu64 ":%" PRIu64, result->place.line, result->place.column);
+    }
+    bytes_add_text(line, has_color ? ":\033[0m " : ": ");
+    bytes_add_text(line, !has_color ? "" : is_good ? "\033[32m" : "\033[31m");
+    bytes_add_text(line, is_good ? result->verdict : result->message);
+    bytes_add_text(line, has_color ? "\033[0m\n" : "\n");
+}
+
+/* A string of JSON. A byte that is no UTF-8 is written as `\udcXX`, which Python's file names take back. */
+static void add_string(struct bytes *line, const char *text, size_t length) {
+    bytes_add_byte(line, '"');
+    for (size_t at = 0; at < length;) {
+        unsigned char byte = (unsigned char)text[at];
+        size_t size = 1;
+        while (size < 4 && at + size < length && ((unsigned char)text[at + size] & 0xC0) == 0x80) {
+            size++;
+        }
+        if (byte >= 0x80 && !is_utf_8(text + at, size)) {
+            bytes_format(line, "\\udc%02x", byte);
+            size = 1;
+        } else if (byte == '"' || byte == '\\') {
+            bytes_add_byte(line, '\\');
+            bytes_add(line, text + at, 1);
+            size = 1;
+        } else if (byte < ' ' || byte == 0x7F) {
+            bytes_format(line, "\\u%04x", byte);
+            size = 1;
+        } else {
+            size = byte < 0x80 ? 1 : size;
+            bytes_add(line, text + at, size);
+        }
+        at += size;
+    }
+    bytes_add_byte(line, '"');
+}
+
+static void add_member(struct bytes *line, const char *name, const char *text) {
+    bytes_format(line, ", \"%s\": ", name);
+    add_string(line, text, strlen(text));
+}
+
+void add_json(struct bytes *line, const struct result *result) {
+    static const char *const stands[] = {"unknown", "element", "attribute", "text", "end"};
+    bytes_add_text(line, "{\"file\": ");
+    add_string(line, result->file, strlen(result->file));
+    add_member(line, "verdict", result->verdict);
+    if (result->place.line > 0) {
+        bytes_format(line, ", \"line\": %" PRIu64 ", \"column\": %" PRIu64, result->place.line, result->place.column);
+    }
+    if (result->stands != STANDS_NOT_KNOWN && result->name != NULL) {
+        add_member(line, "at", stands[result->stands]);
+        bytes_add_text(line, ", \"name\": ");
+        add_string(line, result->name->data, result->name->length);
+    }
+    if (result->group != 0) {
+        bytes_format(line, ", \"clause\": \"%c%d\"", result->group, result->clause);
+    }
+    if (result->message[0] != '\0') {
+        add_member(line, "message", result->message);
+    }
+    bytes_add_text(line, "}\n");
+}
+
+/* Text in a command of GitHub's: `%` and line ends escaped, in a property `:` and `,` as well. */
+static void add_command_text(struct bytes *line, const char *text, bool is_property) {
+    for (; *text != '\0'; text++) {
+        bool is_escaped = *text == '%' || *text == '\r' || *text == '\n' || (is_property && (*text == ':' || *text == ','));
+        if (is_escaped) {
+            bytes_format(line, "%%%02X", (unsigned)*text);
+        } else {
+            bytes_add_byte(line, *text);
+        }
+    }
+}
+
+void add_github(struct bytes *line, const struct result *result) {
+    bytes_add_text(line, "::error file=");
+    add_command_text(line, result->file, true);
+    if (result->place.line > 0) {
+        bytes_format(line, ",line=%" PRIu64 ",col=%" PRIu64, result->place.line, result->place.column);
+    }
+    bytes_add_text(line, ",title=");
+    add_command_text(line, result->verdict, true);
+    bytes_add_text(line, "::");
+    add_command_text(line, result->message, false);
+    bytes_add_byte(line, '\n');
+}
+
+/* The path as a URI reference: what is not plain is escaped. */
+static void add_uri(struct bytes *line, const char *path) {
+    static const char plain[] = "-._~/!$&'()*+,;=@";
+    bytes_add_byte(line, '"');
+    if (path[0] == '/') {
+        bytes_add_text(line, "file://");
+    }
+    for (; *path != '\0'; path++) {
+        bool is_plain = (*path >= 'a' && *path <= 'z') || (*path >= 'A' && *path <= 'Z') || (*path >= '0' && *path <= '9') ||
+                        strchr(plain, *path) != NULL;
+        if (is_plain) {
+            bytes_add_byte(line, *path);
+        } else {
+            bytes_format(line, "%%%02X", (unsigned)(unsigned char)*path);
+        }
+    }
+    bytes_add_byte(line, '"');
+}
+
+void add_sarif_head(struct bytes *line) {
+    static const char *const rules[] = {"invalid", "malformed", "outside", "failed", "refused"};
+    bytes_add_text(line, "{\"version\": \"2.1.0\", \"$schema\": \"https://json.schemastore.org/sarif-2.1.0.json\", \"runs\": [{\"tool\": "
+                         "{\"driver\": {\"name\": \"rncv-xml\", \"version\": \"" PROGRAM_VERSION "\", \"rules\": [");
+    for (size_t at = 0; at < sizeof rules / sizeof *rules; at++) {
+        bytes_format(line, "%s{\"id\": \"%s\"}", at == 0 ? "" : ", ", rules[at]);
+    }
+    bytes_add_text(line, "]}}, \"columnKind\": \"unicodeCodePoints\", \"results\": [");
+}
+
+void add_sarif(struct bytes *line, const struct result *result, bool is_first) {
+    bytes_format(line, "%s\n{\"ruleId\": \"%s\", \"level\": \"error\", \"message\": {\"text\": ", is_first ? "" : ",", result->verdict);
+    add_string(line, result->message, strlen(result->message));
+    bytes_add_text(line, "}, \"locations\": [{\"physicalLocation\": {\"artifactLocation\": {\"uri\": ");
+    add_uri(line, result->file);
+    bytes_add_byte(line, '}');
+    if (result->place.line > 0) {
+        bytes_format(line, ", \"region\": {\"startLine\": %" PRIu64 ", \"startColumn\": %" PRIu64 "}", result->place.line, result->place.column);
+    }
+    bytes_add_text(line, "}}]}");
+}
+
+void add_sarif_tail(struct bytes *line, bool is_successful) {
+    bytes_format(line, "], \"invocations\": [{\"executionSuccessful\": %s}]}]}\n", is_successful ? "true" : "false");
+}

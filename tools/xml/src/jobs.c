@@ -1,0 +1,163 @@
+#include "jobs.h"
+
+#include <pthread.h>
+#include <stdlib.h>
+#include <string.h>
+
+enum {
+    WINDOW_OF_EACH = 32,  /* documents that may be done before the one that is told next, for each thread */
+    STACK_BYTES = 8388608 /* of a thread: expat calls itself for an entity in an entity */
+};
+
+/* A document and its answer, until it is told. */
+struct slot {
+    struct document document;
+    struct answer answer;
+    bool is_done;
+};
+
+struct jobs {
+    pthread_mutex_t lock;
+    pthread_cond_t room; /* a slot has become free */
+    struct documents *documents;
+    struct shared *shared;
+    struct report *report;
+    struct slot *slots;
+    uint64_t window;
+    uint64_t taken;
+    uint64_t told;
+};
+
+static void judge_one(struct judge *judge, struct slot *slot) {
+    slot->answer = (struct answer)NO_ANSWER;
+    if (slot->document.is_failed) {
+        bytes_add(&slot->answer.message, slot->document.why.data, slot->document.why.length);
+    } else if (slot->document.name != NULL) {
+        judge_document(judge, slot->document.name, &slot->answer);
+    }
+}
+
+static void tell_one(struct report *report, struct slot *slot) {
+    report_answer(report, slot->document.name == NULL ? "?" : slot->document.name, &slot->answer);
+    answer_free(&slot->answer);
+    document_free(&slot->document);
+}
+
+/* Takes the next document into a slot; NULL where there is none. */
+static struct slot *take(struct jobs *jobs) {
+    struct document document;
+    struct slot *slot = NULL;
+    pthread_mutex_lock(&jobs->lock);
+    while (jobs->taken - jobs->told >= jobs->window) {
+        pthread_cond_wait(&jobs->room, &jobs->lock);
+    }
+    if (documents_next(jobs->documents, &document)) {
+        slot = &jobs->slots[jobs->taken++ % jobs->window];
+        slot->document = document;
+        slot->is_done = false;
+    }
+    pthread_mutex_unlock(&jobs->lock);
+    return slot;
+}
+
+/* A slot is done: tells it and those that wait for it, in their order. */
+static void give_back(struct jobs *jobs, struct slot *slot) {
+    pthread_mutex_lock(&jobs->lock);
+    slot->is_done = true;
+    while (jobs->told < jobs->taken && jobs->slots[jobs->told % jobs->window].is_done) {
+        struct slot *next = &jobs->slots[jobs->told % jobs->window];
+        tell_one(jobs->report, next);
+        next->is_done = false;
+        jobs->told++;
+    }
+    pthread_cond_broadcast(&jobs->room);
+    pthread_mutex_unlock(&jobs->lock);
+}
+
+static void *work(void *context) {
+    struct judge *judge = context;
+    struct jobs *jobs = judge->shared->jobs;
+    struct slot *slot;
+    while ((slot = take(jobs)) != NULL) {
+        judge_one(judge, slot);
+        give_back(jobs, slot);
+    }
+    return NULL;
+}
+
+/* Judges in this thread alone. */
+static bool run_alone(struct documents *documents, struct shared *shared, struct report *report) {
+    struct judge judge;
+    struct slot slot;
+    if (!judge_open(&judge, shared)) {
+        return false;
+    }
+    while (documents_next(documents, &slot.document)) {
+        judge_one(&judge, &slot);
+        tell_one(report, &slot);
+    }
+    judge_close(&judge);
+    return true;
+}
+
+/* Begins the threads that can be begun, and waits for them. How many there were. */
+static unsigned run_threads(struct judge *judges, unsigned count) {
+    pthread_t *threads = calloc(count, sizeof *threads);
+    pthread_attr_t attributes;
+    unsigned begun = 0;
+    if (threads == NULL || pthread_attr_init(&attributes) != 0) {
+        free(threads);
+        return 0;
+    }
+    if (pthread_attr_setstacksize(&attributes, STACK_BYTES) == 0) {
+        while (begun < count && pthread_create(&threads[begun], &attributes, work, &judges[begun]) == 0) {
+            begun++;
+        }
+    }
+    for (unsigned at = 0; at < begun; at++) {
+        pthread_join(threads[at], NULL);
+    }
+    pthread_attr_destroy(&attributes);
+    free(threads);
+    return begun;
+}
+
+static bool run_side_by_side(struct jobs *jobs, unsigned count) {
+    struct judge *judges = calloc(count, sizeof *judges);
+    unsigned opened = 0;
+    jobs->slots = calloc(jobs->window, sizeof *jobs->slots);
+    while (judges != NULL && jobs->slots != NULL && opened < count && judge_open(&judges[opened], jobs->shared)) {
+        opened++;
+    }
+    bool is_good = opened > 0 && run_threads(judges, opened) > 0;
+    for (unsigned at = 0; at < opened; at++) {
+        judge_close(&judges[at]);
+    }
+    free(judges);
+    free(jobs->slots);
+    return is_good;
+}
+
+bool jobs_run(struct documents *documents, struct shared *shared, struct report *report, unsigned threads) {
+    struct jobs jobs;
+    if (threads <= 1 || documents->known == 1) {
+        return run_alone(documents, shared, report);
+    }
+    memset(&jobs, 0, sizeof jobs);
+    jobs.documents = documents;
+    jobs.shared = shared;
+    jobs.report = report;
+    jobs.window = (uint64_t)WINDOW_OF_EACH * threads;
+    shared->jobs = &jobs;
+    if (pthread_mutex_init(&jobs.lock, NULL) != 0) {
+        return run_alone(documents, shared, report);
+    }
+    if (pthread_cond_init(&jobs.room, NULL) != 0) {
+        pthread_mutex_destroy(&jobs.lock);
+        return run_alone(documents, shared, report);
+    }
+    bool is_good = run_side_by_side(&jobs, threads);
+    pthread_cond_destroy(&jobs.room);
+    pthread_mutex_destroy(&jobs.lock);
+    return is_good || run_alone(documents, shared, report);
+}

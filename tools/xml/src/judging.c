@@ -1,0 +1,267 @@
+#include "judging.h"
+
+#include "probes.h"
+
+#include <inttypes.h>
+#include <string.h>
+
+enum {
+    PREFIX_BYTES = 1048576, /* of the PYX, kept for changes */
+    MOST_NOTES = 100,
+    SHOWN_CHARACTERS = 40 /* of a text */
+};
+
+/* A document that is being judged. */
+struct judging {
+    struct judge *judge;
+    struct source source;
+    struct answer *answer;
+    struct fault *fault;
+    uint64_t invalid_line; /* 0: not known */
+    struct told told;
+    struct place broken_place; /* of the clause that the document breaks */
+    char broken_kind;
+    rncv_verdict verdict;
+    bool is_broken;
+};
+
+bool judge_open(struct judge *judge, struct shared *shared) {
+    memset(judge, 0, sizeof *judge);
+    judge->shared = shared;
+    return rncv_schema_share(&shared->schema, &judge->schema) == RNCV_DONE;
+}
+
+void judge_close(struct judge *judge) {
+    rncv_schema_free(&judge->schema);
+    bytes_free(&judge->prefix);
+    trail_free(&judge->trail);
+}
+
+void answer_free(struct answer *answer) {
+    bytes_free(&answer->name);
+    bytes_free(&answer->message);
+    bytes_free(&answer->notes);
+}
+
+int status_of(enum verdict verdict) {
+    switch (verdict) {
+    case VERDICT_VALID:
+        return STATUS_VALID;
+    case VERDICT_INVALID:
+        return STATUS_INVALID;
+    case VERDICT_MALFORMED:
+    case VERDICT_OUTSIDE:
+        return STATUS_MALFORMED;
+    default:
+        return STATUS_FAILED;
+    }
+}
+
+/* The length of the character that begins here, as UTF-8 says it; 1 for what is none. */
+static size_t character_length(const char *text, size_t left) {
+    unsigned char byte = (unsigned char)text[0];
+    size_t length = byte < 0xC2 ? 1 : byte < 0xE0 ? 2 : byte < 0xF0 ? 3 : byte < 0xF5 ? 4 : 1;
+    for (size_t at = 1; at < length; at++) {
+        if (at >= left || ((unsigned char)text[at] & 0xC0) != 0x80) {
+            return 1;
+        }
+    }
+    return length;
+}
+
+void add_shown(struct bytes *line, const char *text, size_t length, size_t limit) {
+    size_t count = 0;
+    for (size_t at = 0; at < length; count++) {
+        size_t size = character_length(text + at, length - at);
+        unsigned char byte = (unsigned char)text[at];
+        if (count == limit) {
+            bytes_add_text(line, "..");
+            return;
+        }
+        if (byte == '\n' || byte == '\t' || byte == '\r') {
+            bytes_add_text(line, byte == '\n' ? "\\n" : byte == '\t' ? "\\t" : "\\r");
+        } else if (byte < ' ' || byte == 0x7F) {
+            bytes_format(line, "\\x%02x", byte);
+        } else if (size == 2 && byte == 0xC2 && (unsigned char)text[at + 1] < 0xA0) {
+            bytes_format(line, "\\x%02x", (unsigned char)text[at + 1]);
+        } else {
+            bytes_add(line, text + at, size);
+        }
+        at += size;
+    }
+}
+
+/* Keeps the first lines of the document. */
+static void keep(struct judge *judge, const struct piece *piece) {
+    judge->prefix_is_all = judge->prefix_is_all && judge->prefix.length + piece->length <= PREFIX_BYTES;
+    if (judge->prefix_is_all) {
+        bytes_add(&judge->prefix, piece->bytes, piece->length);
+        judge->prefix_is_all = !judge->prefix.failed;
+    }
+}
+
+/* The document breaks a clause: where, and by what kind of line. */
+static void break_off(struct judging *judging, const struct piece *piece) {
+    struct told told;
+    if (rncv_document_end(&judging->judge->schema, &judging->verdict) != RNCV_DONE) {
+        fault_set(judging->fault, FAULT_MEMORY, (struct place){0, 0}, "out of memory");
+        return;
+    }
+    judging->is_broken = true;
+    trail_find(&judging->judge->trail, piece, judging->verdict.line, &told);
+    judging->broken_place = told.own;
+    judging->broken_kind = told.kind;
+    told_free(&told);
+}
+
+/* Hands the lines to the library. False: no more of them are wanted. */
+static bool take_piece(void *context, const struct piece *piece) {
+    struct judging *judging = context;
+    struct judge *judge = judging->judge;
+    int32_t status = rncv_document_feed(&judge->schema, (const uint8_t *)piece->bytes, piece->length);
+    if (status == RNCV_MALFORMED) {
+        break_off(judging, piece);
+        return false;
+    }
+    uint64_t since = 0;
+    if (status != RNCV_DONE || rncv_document_invalid_since(&judge->schema, &since) != RNCV_DONE) {
+        fault_set(judging->fault, FAULT_MEMORY, (struct place){0, 0}, "out of memory");
+        return false;
+    }
+    if (judging->invalid_line == 0) {
+        keep(judge, piece);
+    }
+    if (since != 0 && judging->invalid_line == 0) {
+        judging->invalid_line = since;
+        trail_find(&judge->trail, piece, since, &judging->told);
+    }
+    if (!trail_advance(&judge->trail, piece)) {
+        fault_set(judging->fault, FAULT_MEMORY, (struct place){0, 0}, "out of memory");
+        return false;
+    }
+    return true;
+}
+
+static void take_note(void *context, struct place place, const char *what) {
+    struct judging *judging = context;
+    struct answer *answer = judging->answer;
+    if (answer->note_count++ < MOST_NOTES) {
+        bytes_format(&answer->notes, "%" PRIu64 ":%" PRIu64 ": note: ", place.line, place.column);
+        add_shown(&answer->notes, what, strlen(what), SIZE_MAX);
+        bytes_add_byte(&answer->notes, '\n');
+    }
+}
+
+static bool read_counted(void *context, char *bytes, size_t size, size_t *length, struct fault *fault) {
+    struct judging *judging = context;
+    struct shared *shared = judging->judge->shared;
+    if (!source_read(&judging->source, bytes, size, length, fault)) {
+        return false;
+    }
+    atomic_fetch_add_explicit(&shared->bytes_read, *length, memory_order_relaxed);
+    shared->tick(shared->context);
+    return true;
+}
+
+/* The limit that a document with this kind of line at its fault goes over. */
+static const char *limit_of(char kind) {
+    switch (kind) {
+    case '(':
+        return "more than 512 elements are open";
+    case 'A':
+        return "a tag has more than 256 attributes and declarations";
+    case '-':
+        return "a text has more than 1,048,576 bytes";
+    default:
+        return rncv_clause_title('P', 10);
+    }
+}
+
+static void answer_broken(const struct judging *judging) {
+    struct answer *answer = judging->answer;
+    int clause = (int)judging->verdict.clause;
+    const char *title = clause == 10 ? limit_of(judging->broken_kind) : rncv_clause_title('P', judging->verdict.clause);
+    answer->verdict = VERDICT_MALFORMED;
+    answer->clause = clause;
+    answer->place = judging->broken_place;
+    bytes_format(&answer->message, "malformed P%d: %s, see docs/CLAUSES.md", clause, title == NULL ? "" : title);
+}
+
+/* `invalid`, and what stands at the place. */
+static void answer_invalid(struct judging *judging) {
+    struct answer *answer = judging->answer;
+    static const char *const words[] = {"invalid", "invalid: at <", "invalid: at attribute ", "invalid: at text \"", "invalid: at the end of <"};
+    static const char *const ends[] = {"", ">", "", "\"", ">"};
+    answer->verdict = VERDICT_INVALID;
+    probe(judging->judge, &judging->told, judging->invalid_line, answer);
+    bytes_add_text(&answer->message, words[answer->stands]);
+    add_shown(&answer->message, answer->name.data, answer->name.length, answer->stands == STANDS_TEXT ? SHOWN_CHARACTERS : SIZE_MAX);
+    bytes_add_text(&answer->message, ends[answer->stands]);
+}
+
+/* What the fault of the conversion makes of the document. */
+static void answer_fault(const struct fault *fault, struct answer *answer) {
+    answer->verdict = fault->kind == FAULT_MALFORMED ? VERDICT_MALFORMED : fault->kind == FAULT_OUTSIDE ? VERDICT_OUTSIDE : VERDICT_FAILED;
+    answer->place = fault->place;
+    add_shown(&answer->message, fault->what.data, fault->what.length, SIZE_MAX);
+}
+
+/* Ends the document, which was handed over whole. */
+static void end_document(struct judging *judging) {
+    struct judge *judge = judging->judge;
+    struct piece nothing = {"", 0, NULL, 0, UINT64_MAX};
+    if (rncv_document_end(&judge->schema, &judging->verdict) != RNCV_DONE) {
+        fault_set(judging->fault, FAULT_MEMORY, (struct place){0, 0}, "out of memory");
+        return;
+    }
+    if (judging->verdict.kind == RNCV_BROKEN) {
+        judging->is_broken = true;
+        judging->broken_place = judge->trail.last;
+    } else if (judging->verdict.kind == RNCV_INVALID && judging->invalid_line == 0) {
+        judging->invalid_line = judging->verdict.line;
+        trail_find(&judge->trail, &nothing, judging->verdict.line, &judging->told);
+    }
+}
+
+static void answer_all(struct judging *judging) {
+    if (judging->is_broken) {
+        answer_broken(judging);
+    } else if (judging->fault->kind != FAULT_NONE) {
+        answer_fault(judging->fault, judging->answer);
+    } else if (judging->verdict.kind == RNCV_INVALID) {
+        answer_invalid(judging);
+    } else if (judging->verdict.kind == RNCV_VALID && judging->invalid_line == 0) {
+        judging->answer->verdict = VERDICT_VALID;
+    } else {
+        fault_set(judging->fault, FAULT_DEVICE, (struct place){0, 0}, "the library gave no verdict");
+        answer_fault(judging->fault, judging->answer);
+    }
+}
+
+void judge_document(struct judge *judge, const char *name, struct answer *answer) {
+    struct fault fault = NO_FAULT;
+    struct judging judging;
+    memset(&judging, 0, sizeof judging);
+    judging.judge = judge;
+    judging.answer = answer;
+    judging.fault = &fault;
+    judging.verdict.kind = -1;
+    trail_clear(&judge->trail);
+    bytes_clear(&judge->prefix);
+    judge->prefix_is_all = !judge->prefix.failed;
+    if (rncv_document_begin(&judge->schema) != RNCV_DONE) {
+        fault_set(&fault, FAULT_MEMORY, (struct place){0, 0}, "out of memory");
+    } else if (source_open(&judging.source, name, judge->shared->streams, &fault)) {
+        convert(&(struct giver){read_counted, &judging}, &(struct taker){take_piece, take_note, &judging}, &fault);
+        source_close(&judging.source);
+    }
+    if (fault.kind == FAULT_NONE) {
+        end_document(&judging);
+    }
+    answer_all(&judging);
+    if (answer->message.failed || answer->notes.failed || answer->name.failed) {
+        answer->verdict = answer->verdict == VERDICT_VALID ? VERDICT_FAILED : answer->verdict;
+    }
+    told_free(&judging.told);
+    fault_free(&fault);
+}

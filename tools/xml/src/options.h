@@ -1,0 +1,52 @@
+/* The words on the command line of rncv-xml. */
+#ifndef OPTIONS_H
+#define OPTIONS_H
+
+#include "schema_files.h"
+
+enum format {
+    FORMAT_TEXT,
+    FORMAT_JSON,
+    FORMAT_SARIF,
+    FORMAT_GITHUB
+};
+
+/* When a thing is done that suits a terminal. */
+enum when {
+    WHEN_TERMINAL,
+    WHEN_ALWAYS,
+    WHEN_NEVER
+};
+
+enum { MOST_JOBS = 64 };
+
+struct options {
+    const char **schemas;
+    size_t schema_count;
+    const char **documents;
+    size_t document_count;
+    const char **globs;
+    size_t glob_count;
+    struct mapping *mappings;
+    size_t mapping_count;
+    const char *files_from;
+    const char *input_name; /* how standard input is called */
+    unsigned jobs;          /* 0: as many as there are processors */
+    enum format format;
+    enum when color;
+    bool is_recursive;
+    bool tells_all;
+    bool is_verbose;
+    bool is_quiet;
+    bool is_strict;
+    bool wants_help;
+    bool wants_version;
+    struct bytes wrong; /* what is wrong with the words */
+};
+
+/* False: the words are wrong, and `wrong` says what; or there was no memory. */
+bool options_read(struct options *options, int count, char **words);
+void options_free(struct options *options);
+const char *options_help(void);
+
+#endif

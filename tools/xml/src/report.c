@@ -1,0 +1,122 @@
+#include "report.h"
+
+#include "formats.h"
+
+#include <inttypes.h>
+#include <stdlib.h>
+#include <string.h>
+#include <unistd.h>
+
+static const char *const verdicts[] = {"valid", "invalid", "malformed", "outside", "failed"};
+
+/* Whether what is printed is coloured: on a terminal, unless NO_COLOR says no. */
+static bool wants_color(const struct options *options) {
+    const char *none = getenv("NO_COLOR");
+    const char *terminal = getenv("TERM");
+    if (options->format != FORMAT_TEXT || options->color == WHEN_NEVER) {
+        return false;
+    }
+    if (options->color == WHEN_ALWAYS) {
+        return true;
+    }
+    return isatty(1) && (none == NULL || none[0] == '\0') && terminal != NULL && strcmp(terminal, "dumb") != 0;
+}
+
+void report_open(struct report *report, const struct options *options, struct output *output, struct progress *progress) {
+    memset(report, 0, sizeof *report);
+    report->options = options;
+    report->output = output;
+    report->progress = progress;
+    report->has_color = wants_color(options);
+    if (options->format == FORMAT_SARIF && !options->is_quiet) {
+        add_sarif_head(&output->waiting);
+    }
+}
+
+static void put(struct report *report, const struct result *result) {
+    struct bytes *waiting = &report->output->waiting;
+    bool is_good = result->message[0] == '\0';
+    switch (report->options->format) {
+    case FORMAT_JSON:
+        add_json(waiting, result);
+        break;
+    case FORMAT_SARIF:
+        if (!is_good) {
+            add_sarif(waiting, result, !report->has_begun);
+            report->has_begun = true;
+        }
+        break;
+    case FORMAT_GITHUB:
+        if (!is_good) {
+            add_github(waiting, result);
+        }
+        break;
+    default:
+        if (!is_good || report->options->tells_all) {
+            add_text(waiting, result, report->has_color);
+        }
+    }
+    if (waiting->length > 0 || waiting->failed) {
+        progress_hide(report->progress);
+        output_flush(report->output);
+    }
+}
+
+/* The notes of a document, each on a line with the document's name. */
+static void put_notes(struct report *report, const char *file, struct answer *answer) {
+    size_t begin = 0;
+    for (size_t at = 0; at < answer->notes.length; at++) {
+        if (answer->notes.data[at] == '\n') {
+            struct bytes line = NO_BYTES;
+            add_shown(&line, file, strlen(file), SIZE_MAX);
+            bytes_add_byte(&line, ':');
+            bytes_add(&line, answer->notes.data + begin, at - begin);
+            report_note(report, bytes_text(&line));
+            bytes_free(&line);
+            begin = at + 1;
+        }
+    }
+}
+
+void report_answer(struct report *report, const char *name, struct answer *answer) {
+    const char *file = strcmp(name, "-") == 0 ? report->options->input_name : name;
+    const char *message = bytes_text(&answer->message);
+    if (answer->verdict != VERDICT_VALID && message[0] == '\0') {
+        message = "out of memory";
+    }
+    struct result result = {file, verdicts[answer->verdict], message, answer->place, answer->stands, &answer->name, answer->clause == 0 ? 0 : 'P',
+                            answer->clause};
+    int status = status_of(answer->verdict);
+    report->counts[answer->verdict]++;
+    report->status = status > report->status ? status : report->status;
+    atomic_fetch_add(&report->progress->done, 1);
+    if (!report->options->is_quiet) {
+        put_notes(report, file, answer);
+        put(report, &result);
+    }
+    progress_tick(report->progress);
+}
+
+void report_schema(struct report *report, const struct schema_fault *fault) {
+    struct result result = {fault->path, fault->status == STATUS_REFUSED ? "refused" : "failed", fault->message, fault->place, STANDS_NOT_KNOWN, NULL,
+                            fault->clause == 0 ? 0 : 'S', fault->clause};
+    report->status = fault->status > report->status ? fault->status : report->status;
+    if (!report->options->is_quiet) {
+        put(report, &result);
+    }
+}
+
+void report_note(struct report *report, const char *line) {
+    if (!report->options->is_quiet) {
+        progress_hide(report->progress);
+        tell_line(line);
+    }
+}
+
+void report_close(struct report *report) {
+    if (report->options->format == FORMAT_SARIF && !report->options->is_quiet) {
+        add_sarif_tail(&report->output->waiting, report->status <= STATUS_MALFORMED);
+    }
+    progress_hide(report->progress);
+    output_flush(report->output);
+}

@@ -1,0 +1,40 @@
+/* What is printed of documents and of a schema: as text, JSON, SARIF, or commands of GitHub. */
+#ifndef REPORT_H
+#define REPORT_H
+
+#include "judging.h"
+#include "options.h"
+#include "progress.h"
+
+struct report {
+    const struct options *options;
+    struct output *output;
+    struct progress *progress;
+    bool has_color;
+    bool has_begun; /* whether a result was printed */
+    unsigned long long counts[VERDICT_FAILED + 1];
+    int status; /* the greatest so far */
+};
+
+/* What is said of the schema, and where in it. */
+struct schema_fault {
+    const char *path;
+    struct place place; /* line 0: none */
+    int clause;         /* S1 to S27; 0: none */
+    const char *message;
+    int status;
+};
+
+void report_open(struct report *report, const struct options *options, struct output *output, struct progress *progress);
+
+/* A document's answer. Whoever calls it for several threads lets one in at a time. */
+void report_answer(struct report *report, const char *name, struct answer *answer);
+void report_schema(struct report *report, const struct schema_fault *fault);
+
+/* A line for people, on standard error. */
+void report_note(struct report *report, const char *line);
+
+/* Ends what was begun, and writes what waits. */
+void report_close(struct report *report);
+
+#endif

@@ -1,0 +1,452 @@
+#include "schema_files.h"
+
+#include "paths.h"
+#include "program.h"
+#include "schema_tokens.h"
+
+#include <stdlib.h>
+#include <string.h>
+
+enum {
+    MOST_FILES = 64,         /* with one more the library says S2 */
+    MOST_BYTES = 1048576,    /* of a file; the same */
+    MOST_VALUES = 100,       /* literals that are kept */
+    MOST_VALUE_BYTES = 100
+};
+
+/* What the words of a mention were found to mean, and where they stand. */
+struct meaning {
+    struct bytes words;
+    struct bytes file; /* empty: no file */
+    size_t by;         /* the index of the file that mentions it */
+};
+
+struct collecting {
+    struct schema_files *files;
+    const struct schema_request *request;
+    struct meaning *meanings;
+    size_t count;
+    size_t capacity;
+};
+
+static void add_bytes(struct bytes *to, const struct bytes *from) {
+    bytes_add(to, from->data, from->length);
+}
+
+static bool is_equal(const struct bytes *one, const struct bytes *other) {
+    return one->length == other->length && (one->length == 0 || memcmp(one->data, other->data, one->length) == 0);
+}
+
+static bool out_of_memory(struct schema_files *files) {
+    files->failed = true;
+    files->problem_status = STATUS_FAILED;
+    return false;
+}
+
+static void problem(struct schema_files *files, int status, const struct bytes *line) {
+    if (files->problem_status == 0) {
+        files->problem_status = status;
+        add_bytes(&files->problem, line);
+    }
+}
+
+/* Adds a file that is handed in by the name. */
+static bool add_file(struct schema_files *files, const struct bytes *name, const char *path) {
+    if (files->count == files->capacity) {
+        size_t capacity = files->capacity == 0 ? 8 : 2 * files->capacity;
+        struct schema_file *list = realloc(files->list, capacity * sizeof *list);
+        if (list == NULL) {
+            return out_of_memory(files);
+        }
+        files->list = list;
+        files->capacity = capacity;
+    }
+    struct schema_file *file = &files->list[files->count++];
+    *file = (struct schema_file){NO_BYTES, NO_BYTES, NO_BYTES};
+    add_bytes(&file->name, name);
+    bytes_add_text(&file->path, path);
+    return file->name.failed || file->path.failed || *bytes_text(&file->path) != *path ? out_of_memory(files) : true;
+}
+
+/* Reads at most one byte more than a file may have. */
+static bool read_content(struct schema_files *files, struct schema_file *file) {
+    struct fault fault = NO_FAULT;
+    struct source source;
+    size_t length = 1;
+    bool is_open = source_open(&source, bytes_text(&file->path), (struct streams){false, false}, &fault);
+    bool is_good = is_open && bytes_reserve(&file->content, 4096);
+    while (is_good && length > 0 && file->content.length <= MOST_BYTES) {
+        size_t room = MOST_BYTES + 1 - file->content.length;
+        size_t wanted = room < 65536 ? room : 65536;
+        is_good = bytes_reserve(&file->content, wanted) &&
+                  source_read(&source, file->content.data + file->content.length, wanted, &length, &fault);
+        file->content.length += is_good ? length : 0;
+    }
+    if (!is_good) {
+        struct bytes line = NO_BYTES;
+        bytes_format(&line, "cannot read file %s: %s", bytes_text(&file->path), fault.kind == FAULT_NONE ? "out of memory" : bytes_text(&fault.what));
+        problem(files, STATUS_FAILED, &line);
+        bytes_free(&line);
+    }
+    if (is_open) {
+        source_close(&source);
+    }
+    fault_free(&fault);
+    return is_good;
+}
+
+/* A literal of the schema, as a value to try. It is written as in the PYX. */
+static void keep_value(struct schema_files *files, const struct bytes *literal) {
+    struct bytes value = NO_BYTES;
+    if (files->value_count == MOST_VALUES || literal->length > MOST_VALUE_BYTES) {
+        return;
+    }
+    for (size_t at = 0; at < literal->length; at++) {
+        char byte = literal->data[at];
+        if (byte == '\n' || byte == '\t' || byte == '\\') {
+            bytes_add_byte(&value, '\\');
+        }
+        bytes_add_byte(&value, byte == '\n' ? 'n' : byte == '\t' ? 't' : byte);
+    }
+    const char *text = bytes_text(&value);
+    bool is_kept = value.failed;
+    for (size_t at = 0; at < files->value_count && !is_kept; at++) {
+        is_kept = files->values[at] == NULL || strcmp(files->values[at], text) == 0;
+    }
+    if (is_kept) {
+        bytes_free(&value);
+        return;
+    }
+    files->values[files->value_count++] = value.data; /* the bytes are the list's from here on */
+}
+
+/* How many datatypes the file allows more than an original did, as rncv-profile writes into it. */
+static unsigned long long loosened_of(const struct bytes *content) {
+    static const char mark[] = "# rncv-profile: ";
+    unsigned long long sum = 0;
+    const char *end = content->data + content->length;
+    for (const char *line = content->data; line != NULL && line < end;) {
+        size_t left = (size_t)(end - line);
+        if (left > sizeof mark && memcmp(line, mark, sizeof mark - 1) == 0) {
+            unsigned long long count = 0;
+            for (const char *at = line + sizeof mark - 1; at < end && *at >= '0' && *at <= '9' && count < 100000000; at++) {
+                count = count * 10 + (unsigned long long)(*at - '0');
+            }
+            sum += count;
+        }
+        const char *feed = memchr(line, '\n', left);
+        line = feed == NULL ? NULL : feed + 1;
+    }
+    return sum;
+}
+
+static const char *mapped(const struct schema_request *request, const struct bytes *words) {
+    for (size_t at = 0; at < request->mapping_count; at++) {
+        const struct mapping *mapping = &request->mappings[at];
+        if (mapping->href_length == words->length && memcmp(mapping->href, words->data, words->length) == 0) {
+            return mapping->file;
+        }
+    }
+    return NULL;
+}
+
+static bool is_given(const struct schema_request *request, const struct bytes *words) {
+    for (size_t at = 1; at < request->given_count; at++) {
+        if (strlen(request->given[at]) == words->length && memcmp(request->given[at], words->data, words->length) == 0) {
+            return true;
+        }
+    }
+    return false;
+}
+
+/* Takes one more file that the words may mean. False: they may mean two, and the problem is told. */
+static bool add_candidate(struct collecting *collecting, struct meaning *meaning, const char *path) {
+    if (meaning->file.length == 0) {
+        bytes_add_text(&meaning->file, path);
+        return true;
+    }
+    if (is_same(bytes_text(&meaning->file), path)) {
+        return true;
+    }
+    struct bytes line = NO_BYTES;
+    struct schema_file *by = &collecting->files->list[meaning->by];
+    bytes_format(&line, "'%s' in %s may be %s or %s", bytes_text(&meaning->words), bytes_text(&by->path), bytes_text(&meaning->file), path);
+    problem(collecting->files, STATUS_REFUSED, &line);
+    bytes_free(&line);
+    return false;
+}
+
+/* Finds the file that the words mean; none may be there. False: there is a problem. */
+static bool find_meaning(struct collecting *collecting, struct meaning *meaning) {
+    const char *file = mapped(collecting->request, &meaning->words);
+    struct ways ways;
+    struct bytes normal = NO_BYTES;
+    bool is_good = true;
+    if (file != NULL) {
+        bytes_add_text(&meaning->file, file);
+        return true;
+    }
+    ways_of(&ways, &meaning->words, bytes_text(&collecting->files->list[meaning->by].path));
+    for (size_t at = 0; at < ways.count && is_good; at++) {
+        const char *way = bytes_text(&ways.list[at]);
+        add_normal(&normal, way);
+        is_good = (!is_file(way) || add_candidate(collecting, meaning, way)) &&
+                  (!is_file(bytes_text(&normal)) || add_candidate(collecting, meaning, bytes_text(&normal)));
+    }
+    if (is_good && is_given(collecting->request, &meaning->words) && is_file(bytes_text(&meaning->words))) {
+        is_good = add_candidate(collecting, meaning, bytes_text(&meaning->words));
+    }
+    ways_free(&ways);
+    bytes_free(&normal);
+    return is_good;
+}
+
+/* Keeps in mind where a file that is not there was looked for. */
+static void keep_missing(struct collecting *collecting, const struct meaning *meaning, size_t at) {
+    struct missing *missing = &collecting->files->missing;
+    struct schema_file *by = &collecting->files->list[meaning->by];
+    struct ways ways;
+    if (missing->is_there) {
+        return;
+    }
+    missing->is_there = true;
+    add_bytes(&missing->name, &meaning->words);
+    add_bytes(&missing->path, &by->path);
+    ways_of(&ways, &meaning->words, bytes_text(&by->path));
+    if (ways.count > 0) {
+        add_normal(&missing->sought, bytes_text(&ways.list[ways.count - 1]));
+    }
+    ways_free(&ways);
+    missing->place = (struct place){1, 1};
+    for (size_t byte = 0; byte < at && byte < by->content.length; byte++) {
+        char here = by->content.data[byte];
+        bool ends = here == '\n' || (here == '\r' && (byte + 1 >= by->content.length || by->content.data[byte + 1] != '\n'));
+        missing->place.line += ends;
+        missing->place.column = ends ? 1 : missing->place.column + (((unsigned char)here & 0xC0) != 0x80);
+    }
+}
+
+/* What the words are, as a line says it. */
+static void add_meaning(struct bytes *line, struct collecting *collecting, struct meaning *meaning) {
+    struct schema_file *by = &collecting->files->list[meaning->by];
+    bytes_format(line, "'%s' in %s is %s", bytes_text(&meaning->words), bytes_text(&by->path),
+                 meaning->file.length == 0 ? "no file" : bytes_text(&meaning->file));
+}
+
+/* Whether the words mean one file here and another elsewhere; the problem is then told. */
+static bool is_two_files(struct collecting *collecting, struct meaning *meaning, struct meaning *before) {
+    bool is_one = (meaning->file.length == 0) == (before->file.length == 0) &&
+                  (meaning->file.length == 0 || is_same(bytes_text(&meaning->file), bytes_text(&before->file)));
+    if (is_one) {
+        return false;
+    }
+    struct bytes line = NO_BYTES;
+    add_meaning(&line, collecting, before);
+    bytes_add_text(&line, " and ");
+    add_meaning(&line, collecting, meaning);
+    bytes_format(&line, ": one name is one file; write one of them as './%s'", bytes_text(&meaning->words));
+    problem(collecting->files, STATUS_REFUSED, &line);
+    bytes_free(&line);
+    return true;
+}
+
+static bool keep_meaning(struct collecting *collecting, const struct meaning *meaning) {
+    if (collecting->count == collecting->capacity) {
+        size_t capacity = collecting->capacity == 0 ? 16 : 2 * collecting->capacity;
+        struct meaning *meanings = realloc(collecting->meanings, capacity * sizeof *meanings);
+        if (meanings == NULL) {
+            return out_of_memory(collecting->files);
+        }
+        collecting->meanings = meanings;
+        collecting->capacity = capacity;
+    }
+    struct meaning *kept = &collecting->meanings[collecting->count++];
+    *kept = (struct meaning){NO_BYTES, NO_BYTES, meaning->by};
+    add_bytes(&kept->words, &meaning->words);
+    add_bytes(&kept->file, &meaning->file);
+    return kept->words.failed || kept->file.failed ? out_of_memory(collecting->files) : true;
+}
+
+/* Hands in the file that is mentioned, unless a file of that name is there. A main file whose name means another file here gets one that no file can
+ * mention, since it has a character that XML does not have. */
+static bool hand_in(struct collecting *collecting, struct meaning *meaning) {
+    struct schema_files *files = collecting->files;
+    const char *path = bytes_text(&meaning->file);
+    if (is_equal(&files->list[0].name, &meaning->words) && !is_same(bytes_text(&files->list[0].path), path)) {
+        struct bytes name = NO_BYTES;
+        bytes_add_byte(&name, '\x01');
+        add_bytes(&name, &files->list[0].name);
+        bytes_free(&files->list[0].name);
+        files->list[0].name = name;
+    }
+    for (size_t at = 0; at < files->count; at++) {
+        if (is_equal(&files->list[at].name, &meaning->words)) {
+            /* a file that is given by these words and is not there stands beside the file that mentions it */
+            if (at > 0 && !is_same(bytes_text(&files->list[at].path), path)) {
+                bytes_clear(&files->list[at].path);
+                bytes_add_text(&files->list[at].path, path);
+            }
+            return files->list[at].path.failed ? out_of_memory(files) : true;
+        }
+    }
+    return add_file(files, &meaning->words, path);
+}
+
+/* Takes one mention, which stands at an offset of the file's. */
+static bool take_mention(struct collecting *collecting, struct meaning *meaning, size_t at) {
+    if (!is_utf_8(meaning->words.data, meaning->words.length)) {
+        return true; /* the library refuses the file */
+    }
+    if (!find_meaning(collecting, meaning)) {
+        return false;
+    }
+    for (size_t index = 0; index < collecting->count; index++) {
+        if (is_equal(&collecting->meanings[index].words, &meaning->words)) {
+            return !is_two_files(collecting, meaning, &collecting->meanings[index]);
+        }
+    }
+    if (!keep_meaning(collecting, meaning)) {
+        return false;
+    }
+    if (meaning->file.length == 0) {
+        keep_missing(collecting, meaning, at);
+        return true;
+    }
+    return hand_in(collecting, meaning);
+}
+
+/* Reads the literal that begins with the token, with its joined segments. `token` is then the token behind it. */
+static void read_literal(struct tokens *tokens, struct token *token, struct bytes *literal) {
+    for (;;) {
+        add_literal(literal, token);
+        *token = tokens_next(tokens);
+        if (!is_sign(token, '~')) {
+            return;
+        }
+        *token = tokens_next(tokens);
+        if (token->kind != TOKEN_LITERAL) {
+            return;
+        }
+    }
+}
+
+/* Takes what the file mentions; in annotations nothing is a mention. */
+static bool take_mentions(struct collecting *collecting, size_t index, struct tokens *tokens) {
+    long depth = 0;
+    bool is_mention = false;
+    bool is_good = true;
+    for (struct token token = tokens_next(tokens); token.kind != TOKEN_NONE && is_good;) {
+        struct meaning meaning = {NO_BYTES, NO_BYTES, index};
+        size_t at = token.at;
+        if (token.kind == TOKEN_LITERAL) {
+            read_literal(tokens, &token, &meaning.words);
+            keep_value(collecting->files, &meaning.words);
+            is_good = !is_mention || take_mention(collecting, &meaning, at);
+            is_mention = false;
+        } else {
+            depth += is_sign(&token, '[') - is_sign(&token, ']');
+            is_mention = depth == 0 && (is_word(&token, "include") || is_word(&token, "external"));
+            token = tokens_next(tokens);
+        }
+        bytes_free(&meaning.words);
+        bytes_free(&meaning.file);
+    }
+    return is_good;
+}
+
+/* Reads a file, and takes what it mentions. What is too large mentions nothing: the library refuses it. */
+static bool take_file(struct collecting *collecting, size_t index) {
+    struct tokens tokens;
+    struct schema_file *file = &collecting->files->list[index];
+    if (!read_content(collecting->files, file)) {
+        return false;
+    }
+    if (file->content.length > MOST_BYTES) {
+        return true;
+    }
+    collecting->files->loosened += loosened_of(&file->content);
+    bool is_good = tokens_open(&tokens, file->content.data, file->content.length) || out_of_memory(collecting->files);
+    is_good = is_good && take_mentions(collecting, index, &tokens);
+    tokens_close(&tokens);
+    return is_good;
+}
+
+/* Adds the files that are given, by their own names; a name that is not UTF-8 is one that no file can mention. */
+static bool add_given(struct schema_files *files, const struct schema_request *request) {
+    bool is_good = true;
+    for (size_t at = 0; at < request->given_count && is_good; at++) {
+        const char *path = request->given[at];
+        struct bytes name = NO_BYTES;
+        if (is_utf_8(path, strlen(path))) {
+            bytes_add_text(&name, path);
+        } else {
+            bytes_format(&name, "\x01%zu", at);
+        }
+        is_good = name.failed ? out_of_memory(files) : add_file(files, &name, path);
+        bytes_free(&name);
+    }
+    return is_good;
+}
+
+bool schema_files_collect(struct schema_files *files, const struct schema_request *request) {
+    static const char *const simple[] = {"1", "a", "0", "true", ""};
+    struct collecting collecting = {files, request, NULL, 0, 0};
+    memset(files, 0, sizeof *files);
+    files->values = calloc(MOST_VALUES, sizeof *files->values);
+    bool is_good = files->values != NULL ? add_given(files, request) : out_of_memory(files);
+    for (size_t at = 0; is_good && at < sizeof simple / sizeof *simple; at++) {
+        struct bytes value = NO_BYTES;
+        bytes_add_text(&value, simple[at]);
+        keep_value(files, &value);
+        bytes_free(&value);
+    }
+    for (size_t at = 0; is_good && at < files->count && at <= MOST_FILES; at++) {
+        is_good = take_file(&collecting, at);
+    }
+    for (size_t at = 0; at < collecting.count; at++) {
+        bytes_free(&collecting.meanings[at].words);
+        bytes_free(&collecting.meanings[at].file);
+    }
+    free(collecting.meanings);
+    return is_good && !files->failed;
+}
+
+int32_t schema_files_compile(const struct schema_files *files, rncv_schema *schema, rncv_fault *fault) {
+    size_t count = files->count <= MOST_FILES ? files->count : MOST_FILES + 1;
+    rncv_file *list = calloc(count, sizeof *list);
+    if (list == NULL) {
+        return RNCV_MEMORY;
+    }
+    for (size_t at = 0; at < count; at++) {
+        const struct schema_file *file = &files->list[at];
+        const char *content = file->content.data == NULL ? "" : file->content.data;
+        list[at] = (rncv_file){(const uint8_t *)file->name.data, file->name.length, (const uint8_t *)content, file->content.length};
+    }
+    int32_t status = rncv_compile(list, count, schema, fault);
+    free(list);
+    return status;
+}
+
+void schema_files_forget(struct schema_files *files) {
+    for (size_t at = 0; at < files->count; at++) {
+        bytes_free(&files->list[at].content);
+    }
+}
+
+void schema_files_free(struct schema_files *files) {
+    for (size_t at = 0; at < files->count; at++) {
+        bytes_free(&files->list[at].name);
+        bytes_free(&files->list[at].path);
+        bytes_free(&files->list[at].content);
+    }
+    for (size_t at = 0; at < files->value_count; at++) {
+        free(files->values[at]);
+    }
+    free(files->values);
+    free(files->list);
+    bytes_free(&files->missing.path);
+    bytes_free(&files->missing.name);
+    bytes_free(&files->missing.sought);
+    bytes_free(&files->problem);
+    memset(files, 0, sizeof *files);
+}

@@ -1,0 +1,63 @@
+/* The files of a schema. What a file mentions is found beside it, and is handed to the library under the words that mention it. */
+#ifndef SCHEMA_FILES_H
+#define SCHEMA_FILES_H
+
+#include "bytes.h"
+#include "fault.h"
+
+#include <rncv.h>
+
+struct schema_file {
+    struct bytes name;    /* under which it is handed in */
+    struct bytes path;    /* where it stands, and how people know it */
+    struct bytes content;
+};
+
+/* A mention of a file that is not there. */
+struct missing {
+    bool is_there;     /* whether there is such a mention */
+    struct bytes path; /* the file that mentions it */
+    struct bytes name; /* the words */
+    struct bytes sought; /* where it was looked for */
+    struct place place;
+};
+
+/* `--map HREF=FILE` */
+struct mapping {
+    const char *href;
+    size_t href_length;
+    const char *file;
+};
+
+struct schema_files {
+    struct schema_file *list; /* the main file first */
+    size_t count;
+    size_t capacity;
+    struct missing missing; /* the first one, in the order in which the library asks */
+    struct bytes problem;   /* why no schema can be made of the files: a line without the program's name */
+    int problem_status;     /* the exit status for that */
+    char **values;          /* literals of the files, as values of attributes in the PYX */
+    size_t value_count;
+    unsigned long long loosened; /* how many datatypes the files allow more than, as rncv-profile says in them */
+    bool failed;            /* there was no memory */
+};
+
+/* What a caller says of the files. */
+struct schema_request {
+    const char *const *given;
+    size_t given_count;
+    const struct mapping *mappings;
+    size_t mapping_count;
+};
+
+/* False: `problem` says why not. */
+bool schema_files_collect(struct schema_files *files, const struct schema_request *request);
+
+/* Compiles the files. The status of the library; RNCV_MEMORY too where there was none for the call. */
+int32_t schema_files_compile(const struct schema_files *files, rncv_schema *schema, rncv_fault *fault);
+
+/* Lets go of the contents, which are wanted no more once the schema is compiled. */
+void schema_files_forget(struct schema_files *files);
+void schema_files_free(struct schema_files *files);
+
+#endif

@@ -1,0 +1,181 @@
+#include "schema_tokens.h"
+
+#include <stdlib.h>
+#include <string.h>
+
+/* What an escaped line feed and an escaped carriage return are while tokens are cut: they end no line and no literal. No character of XML is one of
+ * these two. */
+enum { HIDDEN_FEED = 1, HIDDEN_RETURN = 2 };
+
+static int digit_of(char byte) {
+    return byte >= '0' && byte <= '9' ? byte - '0' : byte >= 'a' && byte <= 'f' ? byte - 'a' + 10 : byte >= 'A' && byte <= 'F' ? byte - 'A' + 10 : -1;
+}
+
+/* The length of the escape that begins here, with the code point that it stands for; 0 if none does. */
+static size_t escape_at(const char *bytes, size_t left, unsigned *code) {
+    size_t at = 1;
+    while (at < left && bytes[at] == 'x') {
+        at++;
+    }
+    if (at == 1 || at >= left || bytes[at] != '{') {
+        return 0;
+    }
+    size_t digits = ++at;
+    *code = 0;
+    while (at < left && digit_of(bytes[at]) >= 0) {
+        *code = *code > 0x110000 ? *code : *code * 16 + (unsigned)digit_of(bytes[at]);
+        at++;
+    }
+    return at > digits && at < left && bytes[at] == '}' ? at + 1 : 0;
+}
+
+static size_t utf_8_of(unsigned code, char *bytes) {
+    if (code < 0x80) {
+        bytes[0] = code == '\n' ? (char)HIDDEN_FEED : code == '\r' ? (char)HIDDEN_RETURN : (char)code;
+        return 1;
+    }
+    size_t length = code < 0x800 ? 2 : code < 0x10000 ? 3 : 4;
+    static const unsigned char leads[] = {0, 0, 0xC0, 0xE0, 0xF0};
+    for (size_t at = length; at-- > 1; code >>= 6) {
+        bytes[at] = (char)(0x80 | (code & 0x3F));
+    }
+    bytes[0] = (char)(leads[length] | code);
+    return length;
+}
+
+/* Replaces the escapes; of each byte it is kept where it comes from. */
+static bool replace_escapes(struct tokens *tokens, const char *bytes, size_t length) {
+    tokens->origins = malloc((length + 1) * sizeof *tokens->origins);
+    if (tokens->origins == NULL) {
+        return false;
+    }
+    for (size_t at = 0; at < length;) {
+        unsigned code;
+        char shown[4] = {bytes[at]};
+        size_t size = bytes[at] == '\\' ? escape_at(bytes + at, length - at, &code) : 0;
+        size_t shown_size = size > 0 && code > 0 && code <= 0x10FFFF ? utf_8_of(code, shown) : 1;
+        for (size_t byte = 0; byte < shown_size; byte++) {
+            tokens->origins[tokens->text.length + byte] = at;
+        }
+        bytes_add(&tokens->text, shown, shown_size);
+        at += size > 0 ? size : 1;
+    }
+    tokens->origins[tokens->text.length] = length;
+    return !tokens->text.failed;
+}
+
+bool tokens_open(struct tokens *tokens, const char *bytes, size_t length) {
+    *tokens = (struct tokens){NO_BYTES, NULL, 0};
+    if (length == 0) {
+        return true;
+    }
+    if (memchr(bytes, '\\', length) != NULL) {
+        return replace_escapes(tokens, bytes, length);
+    }
+    bytes_add(&tokens->text, bytes, length);
+    return !tokens->text.failed;
+}
+
+void tokens_close(struct tokens *tokens) {
+    bytes_free(&tokens->text);
+    free(tokens->origins);
+    tokens->origins = NULL;
+}
+
+static bool begins_name(char byte) {
+    return (byte >= 'A' && byte <= 'Z') || (byte >= 'a' && byte <= 'z') || byte == '_' || (unsigned char)byte >= 0x80;
+}
+
+static bool continues_name(char byte) {
+    return begins_name(byte) || (byte >= '0' && byte <= '9') || byte == '-' || byte == '.';
+}
+
+/* Goes over blanks and comments. */
+static size_t after_blanks(const char *text, size_t at, size_t length) {
+    while (at < length) {
+        char byte = text[at];
+        if (byte == '#') {
+            while (at < length && text[at] != '\n' && text[at] != '\r') {
+                at++;
+            }
+        } else if (byte == ' ' || byte == '\t' || byte == '\n' || byte == '\r') {
+            at++;
+        } else {
+            break;
+        }
+    }
+    return at;
+}
+
+static size_t after_name(const char *text, size_t at, size_t length) {
+    while (at < length && continues_name(text[at])) {
+        at++;
+    }
+    return at;
+}
+
+/* A literal, with one quote or with three. */
+static struct token literal_at(const char *text, size_t at, size_t length, size_t *end) {
+    char quote = text[at];
+    bool is_long = at + 2 < length && text[at + 1] == quote && text[at + 2] == quote;
+    size_t begin = at + (is_long ? 3 : 1);
+    for (size_t here = begin; here < length; here++) {
+        bool closes = text[here] == quote && (!is_long || (here + 2 < length && text[here + 1] == quote && text[here + 2] == quote));
+        if (closes) {
+            *end = here + (is_long ? 3 : 1);
+            return (struct token){TOKEN_LITERAL, {text + begin, here - begin}, at};
+        }
+        if (!is_long && (text[here] == '\n' || text[here] == '\r')) {
+            break;
+        }
+    }
+    /* three quotes that do not end are an empty literal and what follows it */
+    *end = at + 2;
+    return (struct token){is_long ? TOKEN_LITERAL : TOKEN_NONE, {text + at + 1, 0}, at};
+}
+
+static struct token word_at(const char *text, size_t at, size_t length, size_t *end) {
+    size_t begin = at + (text[at] == '\\');
+    enum token_kind kind = begin > at ? TOKEN_NAME : TOKEN_WORD;
+    size_t stop = after_name(text, begin, length);
+    if (kind == TOKEN_WORD && stop + 1 < length && text[stop] == ':' && (begins_name(text[stop + 1]) || text[stop + 1] == '*')) {
+        stop = text[stop + 1] == '*' ? stop + 2 : after_name(text, stop + 1, length);
+        kind = TOKEN_NAME;
+    }
+    *end = stop;
+    return (struct token){kind, {text + begin, stop - begin}, at};
+}
+
+struct token tokens_next(struct tokens *tokens) {
+    const char *text = tokens->text.data;
+    size_t length = tokens->text.length;
+    size_t at = after_blanks(text, tokens->next, length);
+    struct token token = {TOKEN_NONE, {NULL, 0}, at};
+    size_t end = at;
+    if (at < length && (text[at] == '"' || text[at] == '\'')) {
+        token = literal_at(text, at, length, &end);
+    } else if (at < length && (begins_name(text[at]) || (text[at] == '\\' && at + 1 < length && begins_name(text[at + 1])))) {
+        token = word_at(text, at, length, &end);
+    } else if (at < length && memchr(">|&[]=,?*+{}()~-", text[at], 16) != NULL) {
+        token = (struct token){TOKEN_SIGN, {text + at, 1}, at};
+        end = at + 1;
+    }
+    tokens->next = token.kind == TOKEN_NONE ? length : end;
+    token.at = tokens->origins == NULL ? token.at : tokens->origins[token.at];
+    return token;
+}
+
+void add_literal(struct bytes *text, const struct token *token) {
+    for (size_t at = 0; at < token->text.length; at++) {
+        char byte = token->text.data[at];
+        bytes_add_byte(text, byte == HIDDEN_FEED ? '\n' : byte == HIDDEN_RETURN ? '\r' : byte);
+    }
+}
+
+bool is_word(const struct token *token, const char *word) {
+    return token->kind == TOKEN_WORD && token->text.length == strlen(word) && memcmp(token->text.data, word, token->text.length) == 0;
+}
+
+bool is_sign(const struct token *token, char sign) {
+    return token->kind == TOKEN_SIGN && token->text.data[0] == sign;
+}

@@ -1,0 +1,143 @@
+/* xml2pyx: writes the PYX of an XML document to standard output. */
+#include "program.h"
+
+#include <errno.h>
+#include <fcntl.h>
+#include <inttypes.h>
+#include <string.h>
+#include <unistd.h>
+
+static const char usage[] = "usage: xml2pyx [--lines FILE] DOCUMENT.xml";
+
+static const char help[] =
+    "usage: xml2pyx [--lines FILE] DOCUMENT.xml\n"
+    "\n"
+    "Writes the PYX of an XML document to standard output. `-` is standard input.\n"
+    "\n"
+    "  --lines FILE  write here, for each line of the PYX, `LINE COLUMN` of the XML\n"
+    "  --help        this text\n"
+    "  --version     the version\n"
+    "\n"
+    "Exit status: 0; 2 if the XML is malformed or outside the profile, and what was written is to be thrown away; 4 if a file or a\n"
+    "device failed; 5 for wrong words; 130 after Ctrl-C; 141 if the output is closed.\n";
+
+struct options {
+    const char *document;
+    const char *lines;
+    const char *told; /* a text to print instead */
+};
+
+/* False: the words are wrong. */
+static bool options_of(int count, char **words, struct options *options) {
+    bool is_option = true;
+    *options = (struct options){NULL, NULL, NULL};
+    for (int at = 1; at < count; at++) {
+        const char *word = words[at];
+        if (is_option && strcmp(word, "--") == 0) {
+            is_option = false;
+        } else if (is_option && (strcmp(word, "--help") == 0 || strcmp(word, "-h") == 0)) {
+            options->told = help;
+        } else if (is_option && strcmp(word, "--version") == 0) {
+            options->told = "xml2pyx " PROGRAM_VERSION "\n";
+        } else if (is_option && strcmp(word, "--lines") == 0 && at + 1 < count) {
+            options->lines = words[++at];
+        } else if (is_option && strncmp(word, "--lines=", 8) == 0) {
+            options->lines = word + 8;
+        } else if ((is_option && word[0] == '-' && word[1] != '\0') || options->document != NULL) {
+            return false;
+        } else {
+            options->document = word;
+        }
+    }
+    return options->told != NULL || options->document != NULL;
+}
+
+struct writing {
+    const char *document;
+    struct output pyx;
+    struct output lines; /* without a file where no places are wanted */
+};
+
+static bool put(void *context, const struct piece *piece) {
+    struct writing *writing = context;
+    bytes_add(&writing->pyx.waiting, piece->bytes, piece->length);
+    output_flush(&writing->pyx);
+    if (writing->lines.file >= 0) {
+        for (size_t at = 0; at < piece->count; at++) {
+            bytes_format(&writing->lines.waiting, "%" PRIu64 " %" PRIu64 "\n", piece->places[at].line, piece->places[at].column);
+        }
+        output_flush(&writing->lines);
+    }
+    return true;
+}
+
+static void note(void *context, struct place place, const char *what) {
+    const struct writing *writing = context;
+    struct bytes line = NO_BYTES;
+    bytes_format(&line, "%s:%" PRIu64 ":%" PRIu64 ": note: %s", writing->document, place.line, place.column, what);
+    tell_line(bytes_text(&line));
+    bytes_free(&line);
+}
+
+/* Tells a fault, and answers the exit status. */
+static int told(const char *document, struct fault *fault) {
+    struct bytes line = NO_BYTES;
+    bool is_document = fault->kind == FAULT_MALFORMED || fault->kind == FAULT_OUTSIDE;
+    if (fault->kind == FAULT_NONE) {
+        return STATUS_VALID;
+    }
+    if (is_document) {
+        bytes_format(&line, "%s:%" PRIu64 ":%" PRIu64 ": %s", document, fault->place.line, fault->place.column, bytes_text(&fault->what));
+    } else if (strcmp(document, "-") == 0) {
+        bytes_format(&line, "xml2pyx: %s", bytes_text(&fault->what));
+    } else {
+        bytes_format(&line, "xml2pyx: %s: %s", bytes_text(&fault->what), document);
+    }
+    tell_line(bytes_text(&line));
+    bytes_free(&line);
+    return is_document ? STATUS_MALFORMED : STATUS_FAILED;
+}
+
+static int run(const struct options *options, struct streams streams) {
+    struct writing writing = {options->document, {"xml2pyx", 1, streams.output_is_closed, NO_BYTES}, {"xml2pyx", -1, false, NO_BYTES}};
+    struct fault fault = NO_FAULT;
+    struct source source;
+    if (options->lines != NULL) {
+        writing.lines.file = open(options->lines, O_WRONLY | O_CREAT | O_TRUNC | O_CLOEXEC | O_NOCTTY, 0666);
+        if (writing.lines.file < 0) {
+            fault_set(&fault, FAULT_DEVICE, (struct place){0, 0}, "%s", strerror(errno));
+            int status = told(options->lines, &fault);
+            fault_free(&fault);
+            return status;
+        }
+    }
+    if (source_open(&source, options->document, streams, &fault)) {
+        convert(&(struct giver){source_read, &source}, &(struct taker){put, note, &writing}, &fault);
+        source_close(&source);
+    }
+    if (writing.lines.file >= 0 && close(writing.lines.file) != 0) {
+        fault_set(&fault, FAULT_DEVICE, (struct place){0, 0}, "%s", strerror(errno));
+    }
+    int status = told(options->document, &fault);
+    bytes_free(&writing.pyx.waiting);
+    bytes_free(&writing.lines.waiting);
+    fault_free(&fault);
+    return status;
+}
+
+int main(int count, char **words) {
+    struct streams streams = program_begins();
+    struct options options;
+    if (!options_of(count, words, &options)) {
+        tell_line(usage);
+        return STATUS_USAGE;
+    }
+    if (options.told != NULL) {
+        struct output output = {"xml2pyx", 1, streams.output_is_closed, NO_BYTES};
+        bytes_add_text(&output.waiting, options.told);
+        output_flush(&output);
+        bytes_free(&output.waiting);
+        return STATUS_VALID;
+    }
+    return run(&options, streams);
+}
