@@ -1,0 +1,203 @@
+"""Judges what has changed: the schemas in one thread, each XML document in a job. It goes over all that is open each time; what did not change is known."""
+from __future__ import annotations
+
+import dataclasses
+import threading
+import time
+from typing import Any, Dict, List, Optional, Tuple
+
+from rncv_lsp.documents import Document, Documents, uri_of
+from rncv_lsp.findings import INFORMATION, Finding, diagnostic
+from rncv_lsp.jobs import Jobs, start_thread
+from rncv_lsp.outside import rncv
+from rncv_lsp.publishing import Publisher
+from rncv_lsp.rpc import Connection, told
+from rncv_lsp.schema_files import Disk, FileView, SchemaFile, SchemaSet, collected, main_files, opened, state_of
+from rncv_lsp.schemas import Outcome, Schemas, findings_of, refusal
+from rncv_lsp.settings import Settings, schema_by_rule
+from rncv_lsp.texts import Text
+from rncv_lsp.xml_judging import judged, well_formed
+from rncv_lsp.xml_model import Named, schema_named
+from rncv_lsp.xml_source import Given
+
+# How long the server waits for more messages before it judges, and how often it looks whether files that it used have changed.
+SETTLE_SECONDS, MOST_SETTLE_SECONDS, POLL_SECONDS = 0.03, 0.3, 2.0
+
+
+@dataclasses.dataclass(frozen=True)
+class Task:
+    """An XML document to judge: by a schema, or only whether it is well formed. `findings` are those of how it names its schema."""
+
+    document: Document
+    outcome: Optional[Outcome] = None
+    findings: Tuple[Finding, ...] = ()
+    clauses_url: str = ""
+
+    def is_like(self, other: Optional["Task"]) -> bool:
+        """Whether the other one has the same answer."""
+        if other is None or self.document is not other.document or self.outcome is not other.outcome:
+            return False
+        return self.findings == other.findings and self.clauses_url == other.clauses_url
+
+
+class Coordinator:
+    """Judges the open documents, and publishes what is found."""
+
+    def __init__(self, documents: Documents, connection: Connection) -> None:
+        self.settings, self.roots = Settings(), ()  # type: Settings, Tuple[str, ...]
+        self._documents, self._connection = documents, connection
+        self._publisher = Publisher(connection)
+        self._jobs = Jobs(lambda error: connection.log(1, told(error)))
+        self._disk, self._schemas = Disk(), Schemas()
+        self._changed = threading.Condition()
+        self._is_dirty = self._is_told = False
+        self._states: Dict[str, Any] = {}
+        self._tasks: Dict[str, Task] = {}
+        self._validators: Dict[str, Tuple[str, rncv.Validator]] = {}
+
+    def start(self) -> None:
+        """Starts to judge."""
+        start_thread(self._work, "coordinator")
+
+    def touch(self) -> None:
+        """Says that something has changed."""
+        with self._changed:
+            self._is_dirty = True
+            self._changed.notify()
+
+    def _work(self) -> None:
+        while True:
+            self._wait()
+            try:
+                self._go_over()
+            except Exception as error:  # whatever it is, the server goes on
+                self._connection.log(1, told(error))
+
+    def _wait(self) -> None:
+        """Waits until something has changed, and then until no more messages come."""
+        with self._changed:
+            while not self._is_dirty:
+                self._changed.wait(POLL_SECONDS if self._states else None)
+                if not self._is_dirty and any(state_of(path) != state for path, state in self._states.items()):
+                    break
+            limit = time.monotonic() + MOST_SETTLE_SECONDS
+            self._is_dirty = False
+            while self._changed.wait(SETTLE_SECONDS) and time.monotonic() < limit:
+                self._is_dirty = False
+            self._is_dirty = False
+
+    def _go_over(self) -> None:
+        """Judges what is open as it is now."""
+        documents = self._documents.snapshot()
+        view = FileView(documents, self._disk)
+        named = {document.uri: self._named(document) for document in documents if not document.is_schema}
+        mains = {each.path: view.find(each.path) for each in named.values() if each is not None and each.path is not None}
+        sets = {file.key: collected(file, view) for file in mains.values() if file is not None}
+        reached = [key for schema in sets.values() for key in schema.keys]
+        candidates = [opened(document) for document in documents if document.is_schema]
+        sets.update({file.key: collected(file, view) for file in candidates if file.key not in sets})
+        judged_ones = [*dict.fromkeys(file.key for file in mains.values() if file is not None)]
+        judged_ones += [file.key for file in main_files(candidates, sets, reached)]
+        outcomes = {key: self._outcome(sets[key]) for key in judged_ones}
+        self._publish_schemas([(sets[key], outcomes[key]) for key in judged_ones], documents)
+        for document in documents:
+            each = named.get(document.uri)
+            if each is not None or (document.uri in named and document.is_xml):
+                file = mains.get(each.path) if each is not None and each.path is not None else None
+                task = task_of(document, each, sets.get(file.key) if file else None, outcomes)
+                self._put(dataclasses.replace(task, clauses_url=self.settings.clauses_url))
+        self._forget(documents, named, outcomes, view)
+
+    def _named(self, document: Document) -> Optional[Named]:
+        """The schema of a document, which is XML or one that the settings take for it."""
+        by_rule = document.path is not None and schema_by_rule(self.settings, document.path, self.roots) is not None
+        return schema_named(document, self.settings, self.roots) if by_rule or document.is_xml else None
+
+    def _outcome(self, schema: SchemaSet) -> Outcome:
+        """What becomes of a schema; nothing is known of it where there is no library or no memory."""
+        try:
+            return self._schemas.outcome(schema)
+        except rncv.LibraryError as error:
+            if not self._is_told:
+                self._connection.notify("window/showMessage", {"type": 1, "message": f"rncv-lsp: no schema is read: {error}"})
+            self._is_told = True
+        except MemoryError as error:
+            self._connection.log(1, told(error))
+        return Outcome("")
+
+    def _publish_schemas(self, schemas: List[Tuple[SchemaSet, Outcome]], documents: List[Document]) -> None:
+        """Publishes what is found in the files of schemas. A file that is open gets a list, also an empty one."""
+        found: Dict[str, Dict[str, List[Dict[str, Any]]]] = {}
+        for schema, outcome in schemas:
+            each = {file.document.uri: [] for file in schema.files.values() if file.document}  # type: Dict[str, List[Dict[str, Any]]]
+            for file, finding in findings_of(schema, outcome):
+                each.setdefault(uri_of_file(file), []).append(self._diagnostic(file.lines, finding))
+            found[f"schema:{schema.main.key}"] = each
+        self._publisher.set_all("schema:", found, {document.uri: document.version for document in documents})
+
+    def _diagnostic(self, lines: Text, finding: Finding) -> Dict[str, Any]:
+        """A finding as the client wants it."""
+        return diagnostic(lines, finding, self._documents.encoding, self.settings.clauses_url)
+
+    def _put(self, task: Task) -> None:
+        """Has a document judged, unless that was done before."""
+        uri = task.document.uri
+        if not task.is_like(self._tasks.get(uri)):
+            self._tasks[uri] = task
+            self._jobs.put(uri, lambda: self._judge(task))
+
+    def _judge(self, task: Task) -> None:
+        """Judges a document, in a thread of its own."""
+        document = task.document
+
+        def is_cancelled() -> bool:
+            return self._tasks.get(document.uri) is not task or not self._documents.is_current(document)
+
+        try:
+            if task.outcome is not None and task.outcome.validator is not None:
+                found = judged(document, self._validator(document.uri, task.outcome), task.outcome.literals, is_cancelled)
+            else:
+                found = well_formed(document, is_cancelled)
+        except Given:
+            return
+        told_of = [self._diagnostic(document.lines, finding) for finding in (*task.findings, *found)]
+        self._publisher.set_one(f"xml:{document.uri}", document.uri, told_of, lambda: None if is_cancelled() else document.version)
+
+    def _validator(self, uri: str, outcome: Outcome) -> rncv.Validator:
+        """The validator of a document, which is kept while its schema stays the same."""
+        known = self._validators.get(uri)
+        if known is None or known[0] != outcome.name:
+            known = outcome.name, outcome.validator.share()
+            self._validators[uri] = known
+        return known[1]
+
+    def _forget(self, documents: List[Document], named: Dict[str, Optional[Named]], outcomes: Dict[str, Outcome], view: FileView) -> None:
+        """Forgets what belongs to documents that are closed, and to schemas that nobody has."""
+        uris = {document.uri for document in documents if named.get(document.uri) is not None or (document.uri in named and document.is_xml)}
+        for uri in [uri for uri in self._tasks if uri not in uris]:
+            del self._tasks[uri]
+            self._validators.pop(uri, None)
+        self._publisher.drop(lambda name: name.startswith("xml:") and name[4:] not in uris)
+        self._schemas.keep([outcome.name for outcome in outcomes.values()])
+        self._disk.keep(view.seen)
+        self._states = {path: state_of(path) for path in view.seen}
+
+
+def uri_of_file(file: SchemaFile) -> str:
+    """The URI under which a file's diagnostics are sent: that of the client, if it is open."""
+    return file.document.uri if file.document else uri_of(file.path)
+
+
+def task_of(document: Document, named: Optional[Named], schema: Optional[SchemaSet], outcomes: Dict[str, Outcome]) -> Task:
+    """What is to be done with a document."""
+    if named is None:
+        return Task(document)
+    if named.path is None:
+        return Task(document, None, (Finding(named.start, named.end, f"the schema {named.words} is not fetched", "schema", severity=INFORMATION),))
+    if schema is None:
+        return Task(document, None, (Finding(named.start, named.end, f"there is no schema {named.path}", "schema"),))
+    outcome = outcomes[schema.main.key]
+    what = refusal(schema, outcome)
+    if what is not None:
+        return Task(document, None, (Finding(named.start, named.end, what, "schema"),))
+    return Task(document, outcome if outcome.validator is not None else None)

@@ -1,0 +1,33 @@
+"""The program `rncv-lsp`: its words, its streams and its end."""
+from __future__ import annotations
+
+import argparse
+import os
+import sys
+
+from rncv_lsp import __version__
+
+DESCRIPTION = ("A language server for RELAX NG schemas in the compact syntax, and for XML documents that have one. It speaks the Language Server Protocol on "
+               "its standard streams, and reads no file but schemas. The variable RNCV_LIBRARY names the library. docs/EDITORS.md says how to set up editors.")
+
+
+def main() -> None:
+    """Runs the server, and ends the process with its status."""
+    parser = argparse.ArgumentParser(prog="rncv-lsp", description=DESCRIPTION)
+    parser.add_argument("--version", action="version", version=f"rncv-lsp {__version__}")
+    parser.add_argument("--stdio", action="store_true", help="speak on the standard streams, as it does anyway")
+    parser.parse_args()
+    try:
+        from rncv_lsp.server import Server
+    except ImportError as error:
+        print(f"rncv-lsp: {error}: it wants the folder `tools` around it, as in the repository", file=sys.stderr)
+        sys.exit(2)
+    source, sink = sys.stdin.buffer, sys.stdout.buffer
+    # What anything else prints goes elsewhere.
+    sys.stdout = sys.stderr
+    try:
+        status = Server(source, sink).run()
+    except KeyboardInterrupt:
+        status = 130
+    # Threads that judge are not waited for.
+    os._exit(status)

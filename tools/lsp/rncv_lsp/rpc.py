@@ -1,0 +1,172 @@
+"""JSON-RPC 2.0: requests, notifications and answers, on streams of bytes."""
+from __future__ import annotations
+
+import json
+import threading
+from typing import Any, BinaryIO, Callable, Dict, List, Optional
+
+from rncv_lsp.framing import write_message
+
+PARSE_ERROR, INVALID_REQUEST, METHOD_NOT_FOUND, INVALID_PARAMS, INTERNAL_ERROR = -32700, -32600, -32601, -32602, -32603
+NOT_INITIALIZED = -32002
+
+Handler = Callable[[Any], Any]
+
+
+class RpcFault(Exception):
+    """A request that is answered by an error, or a notification that is not taken."""
+
+    def __init__(self, code: int, what: str) -> None:
+        super().__init__(what)
+        self.code, self.what = code, what
+
+
+def member(value: Any, name: str, kind: Any) -> Any:
+    """A member of an object, of this kind."""
+    found = value.get(name) if isinstance(value, dict) else None
+    if not isinstance(found, kind) or isinstance(found, bool):
+        raise RpcFault(INVALID_PARAMS, f"the parameters have no good {name!r}")
+    return found
+
+
+def error_answer(identity: Any, fault: RpcFault) -> Dict[str, Any]:
+    """The answer to a request that was not done."""
+    return {"jsonrpc": "2.0", "id": identity, "error": {"code": fault.code, "message": fault.what}}
+
+
+def parsed(data: bytes) -> Any:
+    """The value of a message."""
+    try:
+        return json.loads(data.decode("utf-8"))
+    except (ValueError, RecursionError):
+        raise RpcFault(PARSE_ERROR, "the message is no JSON in UTF-8") from None
+
+
+class Connection:
+    """The other side: takes messages one at a time, from any thread."""
+
+    def __init__(self, sink: BinaryIO) -> None:
+        self._sink = sink
+        self._lock = threading.Lock()
+        self._waiting: Dict[int, Handler] = {}
+        self._next = 1
+        self._is_closed = False
+
+    def send(self, message: Any) -> None:
+        """Sends a message, or a list of them. Where the other side is gone it is dropped: the end of the input will tell."""
+        data = json.dumps(message, separators=(",", ":")).encode("ascii")
+        with self._lock:
+            try:
+                if not self._is_closed:
+                    write_message(self._sink, data)
+            except (OSError, ValueError):
+                self._is_closed = True
+
+    def notify(self, method: str, params: Any) -> None:
+        """Sends a notification."""
+        self.send({"jsonrpc": "2.0", "method": method, "params": params})
+
+    def ask(self, method: str, params: Any, then: Handler) -> None:
+        """Sends a request. `then` gets its result, if there is one."""
+        with self._lock:
+            identity, self._next = self._next, self._next + 1
+            self._waiting[identity] = then
+        self.send({"jsonrpc": "2.0", "id": identity, "method": method, "params": params})
+
+    def answered(self, message: Dict[str, Any]) -> None:
+        """Takes an answer of the other side."""
+        identity = message.get("id")
+        then = self._waiting.pop(identity, None) if isinstance(identity, int) else None
+        if then is not None and "result" in message:
+            then(message["result"])
+
+    def log(self, kind: int, text: str) -> None:
+        """Tells the client's log: an error (1), a warning (2) or an information (3)."""
+        self.notify("window/logMessage", {"type": kind, "message": f"rncv-lsp: {text}"})
+
+
+class Dispatcher:
+    """Hands each message to the handler of its method. `allow` may raise for a request, or answer False for a notification that is to be dropped."""
+
+    def __init__(self, connection: Connection, allow: Callable[[str, bool], bool]) -> None:
+        self._connection, self._allow = connection, allow
+        self.requests: Dict[str, Handler] = {}
+        self.notifications: Dict[str, Handler] = {}
+
+    def take(self, data: bytes) -> None:
+        """Takes the bytes of a message, or of a batch, and sends the answers to it."""
+        try:
+            value = parsed(data)
+        except RpcFault as fault:
+            self.refuse(fault)
+            return
+        if isinstance(value, list) and value:
+            self._take_batch(value)
+            return
+        answer = self._answer(value)
+        if answer is not None:
+            self._connection.send(answer)
+
+    def _take_batch(self, values: List[Any]) -> None:
+        """Takes the messages of a batch. Those before one that ends the server are answered too."""
+        answers: List[Any] = []
+        try:
+            for value in values:
+                answer = self._answer(value)
+                answers += [] if answer is None else [answer]
+        finally:
+            if answers:
+                self._connection.send(answers)
+
+    def refuse(self, fault: RpcFault) -> None:
+        """Tells that something was no message."""
+        self._connection.send(error_answer(None, fault))
+
+    def _answer(self, message: Any) -> Optional[Dict[str, Any]]:
+        """The answer to one message; none to a notification, or to an answer."""
+        if not isinstance(message, dict):
+            return error_answer(None, RpcFault(INVALID_REQUEST, "the message is no object"))
+        method, identity = message.get("method"), message.get("id")
+        if method is None and ("result" in message or "error" in message):
+            self._guarded(lambda: self._connection.answered(message))
+            return None
+        is_named = isinstance(method, str)
+        if "id" not in message and is_named:
+            self._guarded(lambda: self._notified(method, message.get("params")))
+            return None
+        if not is_named or isinstance(identity, bool) or not isinstance(identity, (int, float, str, type(None))):
+            return error_answer(None, RpcFault(INVALID_REQUEST, "the message is no request"))
+        return self._requested(message)
+
+    def _requested(self, message: Dict[str, Any]) -> Dict[str, Any]:
+        identity, method = message["id"], message["method"]
+        try:
+            self._allow(method, True)
+            handler = self.requests.get(method)
+            if handler is None:
+                raise RpcFault(METHOD_NOT_FOUND, f"no such method: {method}")
+            return {"jsonrpc": "2.0", "id": identity, "result": handler(message.get("params"))}
+        except RpcFault as fault:
+            return error_answer(identity, fault)
+        except Exception as error:  # whatever it is, the server goes on
+            self._connection.log(1, told(error))
+            return error_answer(identity, RpcFault(INTERNAL_ERROR, told(error)))
+
+    def _notified(self, method: str, params: Any) -> None:
+        handler = self.notifications.get(method)
+        if self._allow(method, False) and handler is not None:
+            handler(params)
+
+    def _guarded(self, action: Callable[[], None]) -> None:
+        """Does what has no answer. A fault goes to the client's log."""
+        try:
+            action()
+        except RpcFault as fault:
+            self._connection.log(2, fault.what)
+        except Exception as error:  # whatever it is, the server goes on
+            self._connection.log(1, told(error))
+
+
+def told(error: BaseException) -> str:
+    """An error that the server did not expect, in one line."""
+    return f"internal error: {type(error).__name__}: {error}"

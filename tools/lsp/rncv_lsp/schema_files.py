@@ -1,0 +1,193 @@
+"""The files of a schema: those that are open in the client as they stand there, the others from the disk. Nothing is fetched."""
+from __future__ import annotations
+
+import dataclasses
+import functools
+import os
+import re
+import stat
+import urllib.parse
+from typing import Dict, Iterable, Iterator, List, Optional, Tuple
+
+from rncv_lsp.documents import Document, path_of
+from rncv_lsp.schema_words import FILE_BYTES, Mention, mentions_of
+from rncv_lsp.texts import Text
+
+MOST_FILES = 64
+SCHEME = re.compile(r"([A-Za-z][-+.0-9A-Za-z]+):")
+# The name of the main file. No file mentions it, since XML does not have the first character.
+MAIN = "\x01main"
+
+
+@dataclasses.dataclass(frozen=True)
+class SchemaFile:
+    """A file of a schema. `key` tells files apart, `path` is where it was found, and `document` is it as it is open in the client."""
+
+    key: str
+    path: str
+    content: bytes
+    document: Optional[Document] = None
+
+    @functools.cached_property
+    def lines(self) -> Text:
+        """The text with its lines. What is no UTF-8 has other characters in its place."""
+        return self.document.lines if self.document else Text(self.content.decode("utf-8", "replace"))
+
+    @property
+    def mentions(self) -> Tuple[Mention, ...]:
+        """What the file mentions. One that is too long is refused, and mentions nothing."""
+        return mentions_of(self.lines.text) if len(self.content) <= FILE_BYTES else ()
+
+
+def state_of(path: str) -> Optional[Tuple[int, ...]]:
+    """What changes when a file is written; none where no file is."""
+    try:
+        found = os.stat(path)
+    except (OSError, ValueError):
+        return None
+    return (found.st_dev, found.st_ino, found.st_size, found.st_mtime_ns) if stat.S_ISREG(found.st_mode) else None
+
+
+class Disk:
+    """Files as they were read, and whether they are still so."""
+
+    def __init__(self) -> None:
+        self._known: Dict[str, Tuple[Tuple[int, ...], SchemaFile]] = {}
+
+    def find(self, path: str) -> Optional[SchemaFile]:
+        """The file at a path; none where no file is, or where it cannot be read. One byte more than a file may have is read at most."""
+        state, known = state_of(path), self._known.get(path)
+        if state is None or (known is not None and known[0] == state):
+            return known[1] if state and known else None
+        try:
+            with open(path, "rb") as file:
+                fresh = SchemaFile(os.path.realpath(path), path, file.read(FILE_BYTES + 1))
+        except OSError:
+            return None
+        self._known[path] = state, fresh
+        return fresh
+
+    def keep(self, paths: Iterable[str]) -> None:
+        """Forgets all but these."""
+        wanted = set(paths)
+        self._known = {path: known for path, known in self._known.items() if path in wanted}
+
+
+class FileView:
+    """The files as they are at one moment: the open documents, and the disk. `seen` are all paths that were looked for on the disk."""
+
+    def __init__(self, documents: Iterable[Document], disk: Disk) -> None:
+        self._open = {document.key: document for document in documents if document.path is not None}
+        self._disk = disk
+        self._looked_up: Dict[str, Optional[SchemaFile]] = {}
+
+    @property
+    def seen(self) -> List[str]:
+        """The paths that were looked for."""
+        return list(self._looked_up)
+
+    def find(self, path: str) -> Optional[SchemaFile]:
+        """The file at a path, if there is one."""
+        if path not in self._looked_up:
+            document = self._open.get(os.path.realpath(path)) if "\0" not in path else None
+            self._looked_up[path] = opened(document, path) if document else self._disk.find(path)
+        return self._looked_up[path]
+
+
+def opened(document: Document, path: Optional[str] = None) -> SchemaFile:
+    """An open document as a file of a schema."""
+    return SchemaFile(document.key, path or document.path or document.uri, document.content, document)
+
+
+@dataclasses.dataclass(frozen=True)
+class Trouble:
+    """A mention that leads to no file, or of which it is not clear to which file it leads."""
+
+    file: SchemaFile
+    mention: Mention
+    what: str
+
+
+@dataclasses.dataclass
+class SchemaSet:
+    """The files of a schema, each under the name by which it is handed in, the main one first."""
+
+    main: SchemaFile
+    files: Dict[str, SchemaFile]
+    missing: List[Trouble] = dataclasses.field(default_factory=list)
+    unclear: List[Trouble] = dataclasses.field(default_factory=list)
+
+    @property
+    def keys(self) -> List[str]:
+        """The keys of the files, each once."""
+        return list(dict.fromkeys(file.key for file in self.files.values()))
+
+
+def ways(words: str, path: str) -> Iterator[str]:
+    """Where the words of a mention may lead, beside the file that mentions them: as they stand, and as a URI. Nowhere, if it would have to be fetched."""
+    if SCHEME.match(words):
+        local = path_of(words)
+        if local is not None:
+            yield os.path.normpath(local)
+        return
+    if not words or "\0" in words or not os.path.isabs(path):
+        return
+    folder = os.path.dirname(path)
+    for name in dict.fromkeys((words, urllib.parse.unquote(words))):
+        if "\0" not in name:
+            yield os.path.normpath(os.path.join(folder, name))
+
+
+def collected(main: SchemaFile, view: FileView) -> SchemaSet:
+    """The files of the schema whose main file this is, in the order in which the library loads them."""
+    schema = SchemaSet(main, {MAIN: main})
+    meant: Dict[str, Optional[SchemaFile]] = {}
+    waiting, read = [main], {(os.path.dirname(main.path), main.key)}
+    while waiting and len(schema.files) <= MOST_FILES:
+        file = waiting.pop(0)
+        for mention in file.mentions:
+            found = target(schema, file, mention, view)
+            if mention.words in meant and key_of(meant[mention.words]) != key_of(found):
+                schema.unclear.append(Trouble(file, mention, f"{mention.words!r} is another file where another file mentions it: one name is one file"))
+                continue
+            meant[mention.words] = found
+            if found is None:
+                continue
+            schema.files.setdefault(mention.words, found)
+            place = os.path.dirname(found.path), found.key
+            if place not in read:
+                read.add(place)
+                waiting.append(found)
+    return schema
+
+
+def target(schema: SchemaSet, file: SchemaFile, mention: Mention, view: FileView) -> Optional[SchemaFile]:
+    """The file that is mentioned. Where there is none, or there are two, the schema notes it."""
+    places = list(ways(mention.words, file.path))
+    found = [each for each in map(view.find, places) if each is not None]
+    if not found:
+        where = f"there is no {places[-1]}" if places else "this is no file beside the schema, and nothing is fetched"
+        schema.missing.append(Trouble(file, mention, where))
+        return None
+    if any(each.key != found[0].key for each in found):
+        schema.unclear.append(Trouble(file, mention, f"{mention.words!r} may be {found[0].path} or {found[-1].path}"))
+    return found[0]
+
+
+def key_of(file: Optional[SchemaFile]) -> Optional[str]:
+    """What tells a file from others."""
+    return None if file is None else file.key
+
+
+def main_files(candidates: List[SchemaFile], sets: Dict[str, SchemaSet], reached: Iterable[str]) -> List[SchemaFile]:
+    """Those of the open schemas that are judged as main files: which no other of them mentions, and which are in no schema that is judged anyway. Of
+    files that mention each other the one that was opened first is taken."""
+    covered = set(reached)
+    chosen: List[SchemaFile] = []
+    others = {file.key: {key for other in candidates if other.key != file.key for key in sets[other.key].keys} for file in candidates}
+    for is_last in (False, True):
+        for file in candidates:
+            if file.key not in covered and (is_last or file.key not in others[file.key]):
+                chosen.append(file)
+                covered.update(sets[file.key].keys)
+    return chosen

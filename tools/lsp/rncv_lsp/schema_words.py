@@ -1,0 +1,93 @@
+"""The tokens of a schema's file: which files it mentions, which literals it has, and how far the token at a place goes."""
+from __future__ import annotations
+
+import dataclasses
+import functools
+from typing import Iterator, List, Optional, Sequence, Tuple
+
+from rncv_lsp.outside import ESCAPE, TOKEN, NoToken, Token, meaning, tokens
+
+FILE_BYTES = 1_048_576
+MOST_LITERALS = 100
+LITERAL_LENGTH = 100
+
+
+@dataclasses.dataclass(frozen=True)
+class Mention:
+    """An `include` or an `external`: the name that it mentions, and where the literal stands."""
+
+    words: str
+    start: int
+    end: int
+
+
+@functools.lru_cache(maxsize=128)
+def tokens_of(text: str) -> Tuple[Token, ...]:
+    """The tokens of a text. Where no token begins a character is passed over, so that a file that is being written keeps its mentions."""
+    try:
+        return tuple(tokens(text)[0])
+    except NoToken:
+        return tuple(loose_tokens(text))
+
+
+def loose_tokens(text: str) -> Iterator[Token]:
+    """The tokens of a text as it is written, with its escapes not replaced."""
+    at = 0
+    while at < len(text):
+        found = TOKEN.match(text, at)
+        if found and found.lastgroup != "blank":
+            yield Token(found.lastgroup, meaning(found.lastgroup, found[0]), at, found.end())
+        at = found.end() if found else at + 1
+
+
+def literal_at(found: Sequence[Token], index: int) -> Optional[Mention]:
+    """The literal that begins at this token, with its joined segments; or none."""
+    words, end = [], 0
+    first = index
+    while index < len(found) and found[index].kind == "literal":
+        words.append(found[index].text)
+        end = found[index].end
+        if not (index + 1 < len(found) and found[index + 1].is_sign("~")):
+            break
+        index += 2
+    return Mention("".join(words), found[first].start, end) if words else None
+
+
+@functools.lru_cache(maxsize=256)
+def mentions_of(text: str) -> Tuple[Mention, ...]:
+    """What a file mentions, in the order of its tokens; in annotations nothing is a mention."""
+    if not ("include" in text or "external" in text or "\\x" in text):
+        return ()
+    depth, mentions = 0, []
+    found = tokens_of(text)
+    for index, token in enumerate(found):
+        depth += token.is_sign("[") - token.is_sign("]")
+        mention = literal_at(found, index + 1) if depth == 0 and token.is_keyword("include", "external") else None
+        if mention is not None:
+            mentions.append(mention)
+    return tuple(mentions)
+
+
+def literals_of(texts: Sequence[str]) -> List[str]:
+    """Literals of a schema's files, the first ones that are short: values to try."""
+    found = dict.fromkeys(token.text for text in texts for token in tokens_of(text) if token.kind == "literal" and len(token.text) <= LITERAL_LENGTH)
+    return list(found)[:MOST_LITERALS]
+
+
+def has_start(text: str) -> bool:
+    """Whether a file has a component of its own that is a start, or might have one."""
+    found = tokens_of(text)
+    return any(token.is_keyword("start") and following.is_sign("=", "|=", "&=") for token, following in zip(found, found[1:]))
+
+
+def end_of_token(text: str, start: int) -> int:
+    """Where the token ends that begins at a place. Where none does, the place of an escape, an open literal or a character ends there."""
+    token = next((token for token in tokens_of(text) if token.start == start), None)
+    if token is not None:
+        return token.end
+    escape = ESCAPE.match(text, start)
+    if escape:
+        return escape.end()
+    if text[start:start + 1] in ("'", '"'):
+        return min((at for at in (text.find(end, start) for end in "\r\n") if at >= 0), default=len(text))
+    return min(start + 1, len(text))

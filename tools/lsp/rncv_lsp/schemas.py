@@ -1,0 +1,94 @@
+"""Schemas that are compiled, kept for as long as their files stay as they are, and what is found in files that are none."""
+from __future__ import annotations
+
+import dataclasses
+import hashlib
+from typing import Dict, List, Optional, Tuple
+
+from rncv_lsp.findings import ERROR, INFORMATION, Finding, first_line
+from rncv_lsp.outside import rncv
+from rncv_lsp.schema_files import SchemaFile, SchemaSet, Trouble
+from rncv_lsp.schema_words import end_of_token, has_start, literals_of
+
+PART_HINT = "if this file is a part of another schema, open that one too"
+
+
+@dataclasses.dataclass(frozen=True)
+class Outcome:
+    """What became of a schema's files: a validator, or a fault. `name` tells schemas apart."""
+
+    name: str
+    validator: Optional[rncv.Validator] = None
+    fault: Optional[rncv.SchemaError] = None
+    literals: Tuple[str, ...] = ()
+
+
+def name_of(schema: SchemaSet) -> str:
+    """A name of the files' names and bytes."""
+    total = hashlib.sha256()
+    for name, file in schema.files.items():
+        for part in (name.encode("utf-8", "surrogatepass"), file.content):
+            total.update(b"%d:" % len(part) + part)
+    return total.hexdigest()
+
+
+class Schemas:
+    """The schemas that were compiled. One thread uses it."""
+
+    def __init__(self) -> None:
+        self._known: Dict[str, Outcome] = {}
+
+    def outcome(self, schema: SchemaSet) -> Outcome:
+        """Compiles a schema, unless just these files were compiled before."""
+        name = name_of(schema)
+        if name not in self._known:
+            self._known[name] = compiled(name, schema)
+        return self._known[name]
+
+    def keep(self, names: List[str]) -> None:
+        """Forgets all but these."""
+        self._known = {name: outcome for name, outcome in self._known.items() if name in names}
+
+
+def compiled(name: str, schema: SchemaSet) -> Outcome:
+    """Compiles a schema."""
+    try:
+        validator = rncv.compile({each: file.content for each, file in schema.files.items()})
+    except rncv.SchemaError as fault:
+        return Outcome(name, fault=fault)
+    return Outcome(name, validator, literals=tuple(literals_of([file.lines.text for file in schema.files.values()])))
+
+
+def findings_of(schema: SchemaSet, outcome: Outcome) -> List[Tuple[SchemaFile, Finding]]:
+    """What is found in the files of a schema."""
+    found = [(trouble.file, finding_of(trouble, "files", "")) for trouble in schema.unclear]
+    fault = outcome.fault
+    if fault is None or found:
+        return found
+    if fault.clause == 1 and schema.missing:
+        return [(trouble.file, finding_of(trouble, "S1", fault.title)) for trouble in schema.missing]
+    file = schema.main if fault.file is None else schema.files[fault.file]
+    lines, message, severity = file.lines, f"S{fault.clause}: {fault.title}", ERROR
+    start, end = first_line(lines)
+    if fault.offset is not None:
+        start = len(file.content[:fault.offset].decode("utf-8", "replace"))
+        end = end_of_token(lines.text, start)
+    if fault.clause == 14 and not any(has_start(each.lines.text) for each in schema.files.values()):
+        message, severity = f"{message}; {PART_HINT}", INFORMATION
+    return [(file, Finding(start, end, message, f"S{fault.clause}", fault.title, severity))]
+
+
+def finding_of(trouble: Trouble, code: str, title: str) -> Finding:
+    """A finding at a mention."""
+    message = f"{code}: {title}: {trouble.what}" if title else trouble.what
+    return Finding(trouble.mention.start, trouble.mention.end, message, code, title)
+
+
+def refusal(schema: SchemaSet, outcome: Outcome) -> Optional[str]:
+    """What a document that wants this schema is told of it; none where the schema is good."""
+    found = findings_of(schema, outcome)
+    if not found:
+        return None
+    file, finding = found[0]
+    place = file.lines.position(finding.start, "utf-32")
+    return f"the schema is refused: {file.path}:{place['line'] + 1}:{place['character'] + 1}: {finding.message}"

@@ -1,0 +1,115 @@
+"""XML documents as bytes for the parser, and what the converter makes of them. Of the converter in Python this module alone knows."""
+from __future__ import annotations
+
+import io
+import re
+import xml.parsers.expat
+from typing import Callable, Optional, Tuple
+
+from rncv_lsp.outside import Malformed, OutsideProfile, convert, is_served
+
+PIECE_BYTES = 262_144
+DECLARED = re.compile(r"""<\?xml[ \t\r\n][^>]*?([ \t\r\n]encoding[ \t\r\n]*=[ \t\r\n]*(?:"([^"]*)"|'([^']*)'))""")
+MARK = "\ufeff"
+
+Place = Tuple[int, int]
+Cancelled = Callable[[], bool]
+
+
+class Given(Exception):
+    """The document is judged no more, since it has changed."""
+
+
+class Fault(Exception):
+    """What is wrong with a document, with the line and the column from 1. `is_malformed` tells XML that is not well formed from what is not read."""
+
+    def __init__(self, place: Place, what: str, is_malformed: bool) -> None:
+        super().__init__(what)
+        self.place, self.what, self.is_malformed = place, what, is_malformed
+
+
+class Source(io.RawIOBase):
+    """The bytes of a document, which end where the document has changed meanwhile."""
+
+    def __init__(self, data: bytes, is_cancelled: Cancelled) -> None:
+        super().__init__()
+        self._data, self._at, self._is_cancelled = data, 0, is_cancelled
+
+    def read(self, size: int = -1) -> bytes:
+        """The next bytes."""
+        if self._is_cancelled():
+            raise Given
+        piece = self._data[self._at:self._at + min(size, PIECE_BYTES)] if size >= 0 else self._data[self._at:]
+        self._at += len(piece)
+        return piece
+
+
+def bytes_of(text: str) -> bytes:
+    """A document's text in UTF-8. An encoding that it declares is that of the file on the disk, so blanks stand in its place."""
+    found = DECLARED.match(text, len(MARK) if text.startswith(MARK) else 0)
+    if found and is_served(found[2] or found[3] or ""):
+        text = text[:found.start(1)] + " " * len(found[1]) + text[found.end(1):]
+    return text.removeprefix(MARK).encode("utf-8", "surrogatepass")
+
+
+def offset_of(text: str, place: Place, at: Callable[[int, int], int]) -> int:
+    """The offset in the text of a line and a column of its bytes: a byte order mark is no column."""
+    line, column = place
+    return at(line, column + (1 if line == 1 and text.startswith(MARK) else 0))
+
+
+def hand_on(source: Source, put: Callable[[bytes], None], place: Callable[[Place], None], tell: Callable[[Place, str], None]) -> None:
+    """Hands on the lines of PYX of a document, after each its place, and what is left out of the document. Raises Fault where it cannot go on."""
+    try:
+        convert(source, put, lambda own, told: place(own), lambda line, column, what: tell((line, column), what))
+    except Malformed as fault:
+        raise Fault((fault.line, fault.column), fault.what, True) from None
+    except OutsideProfile as fault:
+        raise Fault((fault.line, fault.column), fault.what, False) from None
+
+
+def want_well_formed(source: Source) -> None:
+    """Raises Fault for a document that is not well formed XML. Nothing external is loaded."""
+    parser = xml.parsers.expat.ParserCreate()
+    try:
+        while piece := source.read(PIECE_BYTES):
+            parser.Parse(piece, False)
+        parser.Parse(b"", True)
+    except xml.parsers.expat.ExpatError as fault:
+        what = xml.parsers.expat.ErrorString(fault.code)
+        if what != "unknown encoding":
+            raise Fault((fault.lineno, fault.offset + 1), f"malformed XML: {what}", True) from None
+    except (LookupError, ValueError):
+        return
+
+
+class Begun(Exception):
+    """The root of a document begins."""
+
+
+def instructions(data: bytes, take: Callable[[str, str, Place], None]) -> None:
+    """Hands on the target, the text and the place of each instruction before the root, but for those of the document type."""
+    parser = xml.parsers.expat.ParserCreate()
+    types = []
+
+    def instruction(target: str, words: str) -> None:
+        if len(types) % 2 == 0:
+            take(target, words, (parser.CurrentLineNumber, parser.CurrentColumnNumber + 1))
+
+    def start(name: str, attributes: object) -> None:
+        raise Begun
+
+    parser.ProcessingInstructionHandler = instruction
+    parser.StartElementHandler = start
+    parser.StartDoctypeDeclHandler = lambda *named: types.append("begins")
+    parser.EndDoctypeDeclHandler = lambda: types.append("ends")
+    try:
+        parser.Parse(data, True)
+    except (Begun, xml.parsers.expat.ExpatError, LookupError, ValueError):
+        return
+
+
+def clean(text: Optional[str], limit: int = 40) -> str:
+    """A text to show: on one line, and not long."""
+    shown = "".join(letter if letter.isprintable() else repr(letter)[1:-1] for letter in (text or "")[:limit])
+    return shown + (".." if text and len(text) > limit else "")
