@@ -82,12 +82,12 @@ def has_start(text: str) -> bool:
 
 def end_of_token(text: str, start: int) -> int:
     """Where the token ends that begins at a place. Where none does, the place of an escape, an open literal or a character ends there."""
-    token = next((token for token in tokens_of(text) if token.start == start), None)
-    if token is not None:
-        return token.end
+    ends = {token.start: token.end for token in tokens_of(text)}
     escape = ESCAPE.match(text, start)
-    if escape:
+    if escape and ends.get(start, 0) < escape.end():
         return escape.end()
+    if start in ends:
+        return ends[start]
     if text[start:start + 1] in ("'", '"'):
         return min((at for at in (text.find(end, start) for end in "\r\n") if at >= 0), default=len(text))
     return min(start + 1, len(text))
