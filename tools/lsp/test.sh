@@ -12,4 +12,23 @@ if [ ! -f "$library" ]; then
 fi
 RNCV_LIBRARY=$(cd "$(dirname "$library")" && pwd)/$(basename "$library")
 export RNCV_LIBRARY
-cd "$here" && exec "${PYTHON:-python3}" -B -m unittest discover -s tests -t tests -p "test_*.py"
+room=$(mktemp -d)
+trap 'rm -rf "$room"' EXIT
+PYTHONPYCACHEPREFIX=$room/compiled
+export PYTHONPYCACHEPREFIX
+cd "$here" || exit 1
+
+# The parts run side by side, and what they print comes in order.
+for part in rpc schemas xml units; do
+    (
+        "${PYTHON:-python3}" -m unittest discover -s tests -t tests -p "test_$part.py" >"$room/$part" 2>&1
+        echo $? >"$room/$part.status"
+    ) &
+done
+wait
+status=0
+for part in rpc schemas xml units; do
+    cat "$room/$part"
+    [ "$(cat "$room/$part.status")" = 0 ] || status=1
+done
+exit "$status"

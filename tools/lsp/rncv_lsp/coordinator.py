@@ -21,7 +21,7 @@ from rncv_lsp.xml_model import Named, schema_named
 from rncv_lsp.xml_source import Given
 
 # How long the server waits for more messages before it judges, and how often it looks whether files that it used have changed.
-SETTLE_SECONDS, MOST_SETTLE_SECONDS, POLL_SECONDS = 0.03, 0.3, 2.0
+SETTLE_SECONDS, MOST_SETTLE_SECONDS, POLL_SECONDS = 0.03, 0.3, 1.0
 
 
 @dataclasses.dataclass(frozen=True)
@@ -179,8 +179,8 @@ class Coordinator:
             self._validators.pop(uri, None)
         self._publisher.drop(lambda name: name.startswith("xml:") and name[4:] not in uris)
         self._schemas.keep([outcome.name for outcome in outcomes.values()])
-        self._disk.keep(view.seen)
-        self._states = {path: state_of(path) for path in view.seen}
+        self._disk.keep(view.states)
+        self._states = view.states
 
 
 def uri_of_file(file: SchemaFile) -> str:

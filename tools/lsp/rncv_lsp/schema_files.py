@@ -74,21 +74,18 @@ class Disk:
 
 
 class FileView:
-    """The files as they are at one moment: the open documents, and the disk. `seen` are all paths that were looked for on the disk."""
+    """The files as they are at one moment: the open documents, and the disk. `states` has each path that was looked for, as it was before that."""
 
     def __init__(self, documents: Iterable[Document], disk: Disk) -> None:
         self._open = {document.key: document for document in documents if document.path is not None}
         self._disk = disk
         self._looked_up: Dict[str, Optional[SchemaFile]] = {}
-
-    @property
-    def seen(self) -> List[str]:
-        """The paths that were looked for."""
-        return list(self._looked_up)
+        self.states: Dict[str, Optional[Tuple[int, ...]]] = {}
 
     def find(self, path: str) -> Optional[SchemaFile]:
         """The file at a path, if there is one."""
         if path not in self._looked_up:
+            self.states[path] = state_of(path)
             document = self._open.get(os.path.realpath(path)) if "\0" not in path else None
             self._looked_up[path] = opened(document, path) if document else self._disk.find(path)
         return self._looked_up[path]

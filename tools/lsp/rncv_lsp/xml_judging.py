@@ -119,7 +119,7 @@ def convert_all(document: Document, judging: Judging, found: List[Finding], is_c
 def well_formed(document: Document, is_cancelled: Cancelled) -> List[Finding]:
     """What is found in a document that has no schema: only whether it is well formed."""
     try:
-        want_well_formed(Source(bytes_of(document.text), is_cancelled))
+        want_well_formed(Source(bytes_of(document.text, True), is_cancelled))
     except Fault as fault:
         return [finding_of(document, fault)]
     return []
@@ -151,16 +151,17 @@ def span(document: Document, place: Place) -> Tuple[int, int]:
 
 def invalid(document: Document, standing: Standing, stands: Stands) -> Finding:
     """What the library says of an invalid document, at what is wrong."""
-    own = standing.own
-    if stands.kind == "attribute" and standing.tag is not None:
-        return Finding(*attribute_span(document, standing.tag, stands.name), f"invalid: at attribute {stands.name}", "invalid")
-    if stands.kind == "element" and standing.tag is not None:
-        return Finding(*span(document, standing.tag), f"invalid: at <{stands.name}>", "invalid")
-    if stands.kind == "text" and standing.text is not None:
-        start, end = text_span(document, standing.text, own)
+    own, tag = standing.own, standing.tag
+    if stands.kind == "attribute" and tag is not None:
+        return Finding(*attribute_span(document, tag.begin, stands.name), f"invalid: at attribute {stands.name}", "invalid")
+    if stands.kind == "element" and tag is not None:
+        return Finding(*span(document, tag.begin), f"invalid: at <{stands.name}>", "invalid")
+    text, behind = (tag.text, tag.begin) if tag is not None else (standing.text, own)
+    if stands.kind == "text" and text is not None:
+        start, end = text_span(document, text.begin, behind)
         return Finding(start, end, f'invalid: at text "{clean(document.text[start:end])}"', "invalid")
     if stands.kind == "end":
-        return Finding(*span(document, standing.tag or own), f"invalid: at the end of <{stands.name}>", "invalid")
+        return Finding(*span(document, tag.begin if tag is not None else own), f"invalid: at the end of <{stands.name}>", "invalid")
     return Finding(*span(document, own), "invalid", "invalid")
 
 

@@ -39,7 +39,7 @@ def schema_named(document: Document, settings: Settings, roots: Tuple[str, ...])
             found.extend([named] if named else [])
 
     if "xml-model" in document.text:
-        instructions(bytes_of(document.text)[:PROLOG_BYTES], take)
+        instructions(bytes_of(document.text, True)[:PROLOG_BYTES], take)
     if found:
         return found[0]
     path = schema_by_rule(settings, document.path, roots) if document.path else None

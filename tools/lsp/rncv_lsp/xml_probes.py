@@ -1,10 +1,10 @@
 """Which of several things at one place is the wrong one: found by judging the first lines of the document again, with changes."""
 from __future__ import annotations
 
-from typing import List, NamedTuple, Optional, Sequence
+from typing import Iterator, List, NamedTuple, Optional, Sequence
 
 from rncv_lsp.outside import rncv
-from rncv_lsp.xml_trail import Standing
+from rncv_lsp.xml_trail import Standing, Tag
 
 MOST_BYTES = 8_388_608
 VALUES = ("1", "a", "0", "true", "")
@@ -26,46 +26,69 @@ class Probes:
 
     def stands(self, standing: Standing) -> Stands:
         """What is wrong at the line."""
-        is_end = standing.kind == b")"
-        if standing.tag is not None:
+        is_end, tag, text = standing.kind == b")", standing.tag, standing.text
+        if tag is not None:
             # An end tag tells of the start before it, and of the end: an instruction in its place tells of the start alone.
-            if not (is_end and self._goes_on([b"?x\n"])):
-                attribute = self._attribute()
-                return Stands("attribute", attribute) if attribute is not None else Stands("element", standing.tag_name)
-        elif standing.text is not None:
-            # An end tag tells of the text before it, and of the end: a start tag in its place tells of the text alone.
-            if not (is_end and self._goes_on([b"(x\n"])):
+            if not (is_end and self._goes_on([*self._first(), b"?x\n"])):
+                return self._in_tag(tag)
+        elif text is not None:
+            # An end tag tells of the text before it, and of the end.
+            if not is_end or (not text.is_blank and (self._lines is None or self._has_better_text(standing.name))):
                 return Stands("text")
         return Stands("end", standing.name) if is_end else Stands("")
 
-    def _goes_on(self, more: List[bytes], count: Optional[int] = None) -> bool:
-        """Whether the first lines, and these, go on to something valid."""
-        if self._lines is None:
-            return False
-        data = b"".join([*self._lines[:count], *more])
+    def _first(self) -> List[bytes]:
+        """The lines that are kept."""
+        return self._lines or []
+
+    def _goes_on(self, lines: List[bytes]) -> bool:
+        """Whether these lines go on to something valid. Where nothing was kept the answer is no."""
+        data = b"".join(lines)
         self._left -= len(data)
-        if self._left < 0:
+        if self._lines is None or self._left < 0:
             return False
         with self._validator.begin() as document:
             return document.feed(data) and document.invalid_since() is None
 
-    def _attribute(self) -> Optional[str]:
-        """The first attribute of the last tag that can be left out, or else can have another value, so that the tag is good."""
-        lines = self._lines or []
-        first = next((at for at in range(len(lines) - 1, -1, -1) if lines[at][:1] != b"A"), len(lines)) + 1
-        found = [at for at in range(first, len(lines)) if not lines[at].startswith((b"Axmlns ", b"Axmlns:"))]
-        for values in (None, [*VALUES, *self._literals]):
-            for at in found:
-                if self._left > 0 and self._is_better(at, values):
-                    return lines[at][1:].partition(b" ")[0].decode("utf-8", "replace")
-        return None
+    def _values(self) -> Iterator[bytes]:
+        """Values to try, as they stand in a line, while there is work left to be done."""
+        for value in (*VALUES, *self._literals):
+            if self._left > 0:
+                yield value.replace("\\", "\\\\").replace("\n", "\\n").replace("\t", "\\t").encode("utf-8", "replace")
 
-    def _is_better(self, at: int, values: Optional[List[str]]) -> bool:
-        """Whether the tag is good without an attribute, or with one of the values."""
-        lines = self._lines or []
-        behind = [*lines[at + 1:], b"?x\n"]
-        if values is None:
-            return self._goes_on(behind, at)
+    def _has_better_text(self, name: str) -> bool:
+        """Whether the end tag is good behind another text. If it is not, something is missing before it."""
+        before, end = without_text(self._first()), b")" + name.encode("utf-8", "replace") + b"\n"
+        return any(self._goes_on([*before, b"-" + value + b"\n", end]) for value in self._values())
+
+    def _in_tag(self, tag: Tag) -> Stands:
+        """What is wrong at the last tag: the text before it, an attribute, or the element."""
+        lines = self._first()
+        begin = next((at for at in range(len(lines) - 1, -1, -1) if lines[at][:1] != b"A"), 0)
+        if tag.text is not None and not tag.text.is_blank and self._goes_on([*without_text(lines[:begin]), *lines[begin:], b"?x\n"]):
+            return Stands("text")
+        found = [at for at in range(begin + 1, len(lines)) if not lines[at].startswith((b"Axmlns ", b"Axmlns:"))]
+        for is_better in (self._is_better_without, self._has_better_value):
+            for at in found:
+                if self._left > 0 and is_better(at):
+                    return Stands("attribute", lines[at][1:].partition(b" ")[0].decode("utf-8", "replace"))
+        return Stands("element", tag.name)
+
+    def _is_better_without(self, at: int) -> bool:
+        """Whether the tag is good without an attribute."""
+        lines = self._first()
+        return self._goes_on([*lines[:at], *lines[at + 1:], b"?x\n"])
+
+    def _has_better_value(self, at: int) -> bool:
+        """Whether the tag is good with another value of an attribute."""
+        lines = self._first()
         name = lines[at].partition(b" ")[0]
-        shown = (value.replace("\\", "\\\\").replace("\n", "\\n").replace("\t", "\\t") for value in values)
-        return any(self._goes_on([name + b" " + value.encode("utf-8", "replace") + b"\n", *behind], at) for value in shown if self._left > 0)
+        return any(self._goes_on([*lines[:at], name + b" " + value + b"\n", *lines[at + 1:], b"?x\n"]) for value in self._values())
+
+
+def without_text(lines: List[bytes]) -> List[bytes]:
+    """The lines without the text at their end, and without the instructions in that."""
+    end = len(lines)
+    while end > 0 and lines[end - 1][:1] in (b"-", b"?"):
+        end -= 1
+    return lines[:end]

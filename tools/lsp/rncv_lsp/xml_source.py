@@ -44,10 +44,10 @@ class Source(io.RawIOBase):
         return piece
 
 
-def bytes_of(text: str) -> bytes:
-    """A document's text in UTF-8. An encoding that it declares is that of the file on the disk, so blanks stand in its place."""
+def bytes_of(text: str, is_any: bool = False) -> bytes:
+    """A document's text in UTF-8. An encoding that it declares is that of the file on the disk, so blanks stand in its place, if it is served or any is."""
     found = DECLARED.match(text, len(MARK) if text.startswith(MARK) else 0)
-    if found and is_served(found[2] or found[3] or ""):
+    if found and (is_any or is_served(found[2] or found[3] or "")):
         text = text[:found.start(1)] + " " * len(found[1]) + text[found.end(1):]
     return text.removeprefix(MARK).encode("utf-8", "surrogatepass")
 
@@ -76,11 +76,7 @@ def want_well_formed(source: Source) -> None:
             parser.Parse(piece, False)
         parser.Parse(b"", True)
     except xml.parsers.expat.ExpatError as fault:
-        what = xml.parsers.expat.ErrorString(fault.code)
-        if what != "unknown encoding":
-            raise Fault((fault.lineno, fault.offset + 1), f"malformed XML: {what}", True) from None
-    except (LookupError, ValueError):
-        return
+        raise Fault((fault.lineno, fault.offset + 1), f"malformed XML: {xml.parsers.expat.ErrorString(fault.code)}", True) from None
 
 
 class Begun(Exception):
@@ -105,7 +101,7 @@ def instructions(data: bytes, take: Callable[[str, str, Place], None]) -> None:
     parser.EndDoctypeDeclHandler = lambda: types.append("ends")
     try:
         parser.Parse(data, True)
-    except (Begun, xml.parsers.expat.ExpatError, LookupError, ValueError):
+    except (Begun, xml.parsers.expat.ExpatError):
         return
 
 

@@ -6,35 +6,53 @@ from typing import NamedTuple, Optional
 from rncv_lsp.xml_source import Place
 
 
+class Run(NamedTuple):
+    """A text: where it begins, and whether it is only blanks so far."""
+
+    begin: Place
+    is_blank: bool
+
+
+class Tag(NamedTuple):
+    """A start tag: where it begins, its element's name, and the text before it."""
+
+    begin: Place
+    name: str
+    text: Optional[Run]
+
+
 class Standing(NamedTuple):
-    """A line: its kind and its place; the place and the name of the tag that ends before it; and where the text begins that may end before it."""
+    """A line: its kind, its place and its name; the tag that ends before it; and the text that may end before it."""
 
     kind: bytes
     own: Place
     name: str
-    tag: Optional[Place]
-    tag_name: str
-    text: Optional[Place]
+    tag: Optional[Tag]
+    text: Optional[Run]
+
+
+def is_blank(line: bytes) -> bool:
+    """Whether the text of a line is only blanks."""
+    return not line[1:].replace(b"\\n", b"").replace(b"\\t", b"").strip()
 
 
 class Trail:
     """Goes over the lines of a document in their order."""
 
     def __init__(self) -> None:
-        self._tag: Optional[Place] = None
-        self._tag_name = ""
-        self._text: Optional[Place] = None
+        self._tag: Optional[Tag] = None
+        self._text: Optional[Run] = None
 
     def take(self, line: bytes, own: Place) -> Standing:
         """What the next line tells of."""
-        kind = line[:1]
+        kind, text = line[:1], self._text
         name = line[1:-1].partition(b" ")[0].decode("utf-8", "replace") if kind in b"(A)" else ""
+        standing = Standing(kind, own, name, self._tag, text)
         if kind == b"A":
-            return Standing(kind, own, name, self._tag, self._tag_name, None)
-        standing = Standing(kind, own, name, self._tag, self._tag_name, self._text)
-        self._tag, self._tag_name = (own, name) if kind == b"(" else (None, "")
+            return standing
+        self._tag = Tag(own, name, text) if kind == b"(" else None
         if kind == b"-":
-            self._text = self._text or own
+            self._text = Run(text.begin if text else own, (text is None or text.is_blank) and is_blank(line))
         elif kind != b"?":
             self._text = None
         return standing
