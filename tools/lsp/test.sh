@@ -14,8 +14,6 @@ RNCV_LIBRARY=$(cd "$(dirname "$library")" && pwd)/$(basename "$library")
 export RNCV_LIBRARY
 room=$(mktemp -d)
 trap 'rm -rf "$room"' EXIT
-PYTHONPYCACHEPREFIX=$room/compiled
-export PYTHONPYCACHEPREFIX
 cd "$here" || exit 1
 
 # The parts run side by side, and what they print comes in order.

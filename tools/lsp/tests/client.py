@@ -11,7 +11,7 @@ import tempfile
 import threading
 import time
 import unittest
-from typing import Any, Callable, Dict, List, Optional
+from typing import Any, Callable, Dict, List, Optional, Set
 
 TOP = pathlib.Path(__file__).resolve().parents[3]
 SERVER = TOP / "tools/lsp/rncv-lsp"
@@ -36,6 +36,7 @@ class Client:
         self.versions: Dict[str, Optional[int]] = {}
         self.published: List[str] = []
         self.other: List[Dict[str, Any]] = []
+        self.opened: Set[str] = set()
         self.settings: Any = None
         self._next = 0
         threading.Thread(target=self._read, daemon=True).start()
@@ -107,6 +108,7 @@ class Client:
 
     def open(self, uri: str, text: str, language: str = "", version: int = 1) -> None:
         """Opens a document."""
+        self.opened.add(uri)
         self.notify("textDocument/didOpen", textDocument={"uri": uri, "languageId": language, "version": version, "text": text})
 
     def change(self, uri: str, version: int, *changes: Any) -> None:
@@ -116,6 +118,7 @@ class Client:
 
     def close(self, uri: str) -> None:
         """Closes a document."""
+        self.opened.discard(uri)
         self.notify("textDocument/didClose", textDocument={"uri": uri})
 
     def found(self, uri: str, version: Optional[int] = 1) -> List[Dict[str, Any]]:
@@ -166,21 +169,35 @@ def span(told: Dict[str, Any]) -> "tuple[int, int, int, int]":
 
 
 class WithServer(unittest.TestCase):
-    """A fresh server that was initialized, and a fresh folder."""
+    """A server that was initialized, and a fresh folder. Where `SHARED` is set the tests of a class have one server, one after the other."""
 
     OPTIONS: Any = None
     CAPABILITIES: Dict[str, Any] = {}
+    SHARED = False
+    shared: Optional[Client] = None
+
+    @classmethod
+    def setUpClass(cls) -> None:
+        if cls.SHARED:
+            cls.shared = Client()
+            cls.addClassCleanup(cls.shared.kill)
+            cls.shared.initialize(cls.OPTIONS, None, **cls.CAPABILITIES)
 
     def setUp(self) -> None:
         room = tempfile.TemporaryDirectory()
         self.addCleanup(room.cleanup)
         self.folder = pathlib.Path(room.name).resolve()
-        self.client = self.started()
-        self.initialized = self.client.initialize(self.OPTIONS, self.folder, **self.CAPABILITIES)
+        if self.shared is not None:
+            self.client = self.shared
+        else:
+            self.client = self.started()
+            self.initialized = self.client.initialize(self.OPTIONS, self.folder, **self.CAPABILITIES)
 
     def tearDown(self) -> None:
         internal = [message for message in self.client.other if "internal error" in str(message)]
         self.assertEqual(internal, [])
+        for uri in list(self.client.opened) if self.shared is not None else ():
+            self.client.close(uri)
 
     def started(self, **environment: str) -> Client:
         """A server."""

@@ -11,6 +11,8 @@ S6 = "S6: the tokens are a sentence of the grammar (CS 2)"
 class Places(WithServer):
     """Where a fault is told."""
 
+    SHARED = True
+
     def one(self, text, name="s.rnc"):
         """The only thing that is found in a schema."""
         uri = self.uri(name)
@@ -71,6 +73,8 @@ class Places(WithServer):
 class Edits(WithServer):
     """Documents that change."""
 
+    SHARED = True
+
     def test_mended_by_edits(self):
         uri = self.uri("s.rnc")
         self.client.open(uri, "# \U0001F600\r\nelement a { text more }\r\n")
@@ -107,6 +111,8 @@ class Edits(WithServer):
 
 class Files(WithServer):
     """Schemas of several files."""
+
+    SHARED = True
 
     MAIN = 'include "parts/b.rnc"\nstart = b\n'
 

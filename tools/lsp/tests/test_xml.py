@@ -12,6 +12,8 @@ LETTER = '''start = element letter { attribute to { "a" | "b" }?, attribute at {
 class Documents(WithServer):
     """Documents with a schema that an instruction names."""
 
+    SHARED = True
+
     def setUp(self):
         super().setUp()
         self.write("s.rnc", LETTER)
@@ -128,6 +130,8 @@ class Documents(WithServer):
 
 class Schemas(WithServer):
     """How documents name their schemas."""
+
+    SHARED = True
 
     def test_ways_to_name_it(self):
         self.write("d/s%20\u00e9.rnc", "element a { text }")
