@@ -1,6 +1,6 @@
 #!/bin/sh
-# Tests of the language server, in less than 15 seconds:   tools/lsp/test.sh [LIBRARY]     (LIBRARY: the built librncv.so, else the one that the variable
-# RNCV_LIBRARY names, else that of build/library)
+# Tests of the language server, in less than 15 seconds:   tools/lsp/test.sh [LIBRARY]     (LIBRARY: the built librncv.so, else the one that the
+# variable RNCV_LIBRARY names, else that of build/library)
 # They want Python 3.9 or newer and no package. Without the library they are skipped aloud; where the variable RNCV_REQUIRED is set that is a failure.
 here=$(cd "$(dirname "$0")" && pwd)
 library=${1:-${RNCV_LIBRARY:-$here/../../build/library/lib/librncv.so}}

@@ -1,4 +1,4 @@
-"""Judges what has changed: the schemas in one thread, each XML document in a job. It goes over all that is open each time; what did not change is known."""
+"""Judges what has changed: schemas in one thread, each XML document in a job. It goes over all that is open each time; what did not change is known."""
 from __future__ import annotations
 
 import dataclasses
@@ -18,7 +18,7 @@ from rncv_lsp.settings import Settings, schema_by_rule
 from rncv_lsp.texts import Text
 from rncv_lsp.xml_judging import judged, well_formed
 from rncv_lsp.xml_model import Named, schema_named
-from rncv_lsp.xml_source import Given
+from rncv_lsp.xml_source import GivenUp
 
 # How long the server waits for more messages before it judges, and how often it looks whether files that it used have changed.
 SETTLE_SECONDS, MOST_SETTLE_SECONDS, POLL_SECONDS = 0.03, 0.3, 1.0
@@ -66,6 +66,7 @@ class Coordinator:
             self._changed.notify()
 
     def _work(self) -> None:
+        """Judges again and again."""
         while True:
             self._wait()
             try:
@@ -151,6 +152,7 @@ class Coordinator:
         document = task.document
 
         def is_cancelled() -> bool:
+            """Whether the answer is no longer wanted."""
             return self._tasks.get(document.uri) is not task or not self._documents.is_current(document)
 
         try:
@@ -158,7 +160,7 @@ class Coordinator:
                 found = judged(document, self._validator(document.uri, task.outcome), task.outcome.literals, is_cancelled)
             else:
                 found = well_formed(document, is_cancelled)
-        except Given:
+        except GivenUp:
             return
         told_of = [self._diagnostic(document.lines, finding) for finding in (*task.findings, *found)]
         self._publisher.set_one(f"xml:{document.uri}", document.uri, told_of, lambda: None if is_cancelled() else document.version)

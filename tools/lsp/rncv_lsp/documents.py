@@ -22,12 +22,11 @@ def path_of(uri: str) -> Optional[str]:
     """The path of a file's URI; none for another URI."""
     try:
         parts = urllib.parse.urlsplit(uri)
+        path = os.fsdecode(urllib.parse.unquote_to_bytes(parts.path))
     except ValueError:
         return None
-    if parts.scheme.lower() != "file" or parts.netloc not in ("", "localhost"):
-        return None
-    path = os.fsdecode(urllib.parse.unquote_to_bytes(parts.path))
-    return path if path and "\0" not in path else None
+    is_local = parts.scheme.lower() == "file" and parts.netloc in ("", "localhost")
+    return path if is_local and path and "\0" not in path else None
 
 
 def uri_of(path: str) -> str:

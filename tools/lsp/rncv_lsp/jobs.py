@@ -49,6 +49,7 @@ class Jobs:
                 self._changed.wait()
 
     def _work(self) -> None:
+        """Runs one job after the other."""
         while True:
             name, job = self._next()
             try:

@@ -7,8 +7,8 @@ import sys
 
 from rncv_lsp import __version__
 
-DESCRIPTION = ("A language server for RELAX NG schemas in the compact syntax, and for XML documents that have one. It speaks the Language Server Protocol on "
-               "its standard streams, and reads no file but schemas. The variable RNCV_LIBRARY names the library. docs/EDITORS.md says how to set up editors.")
+DESCRIPTION = """A language server for RELAX NG schemas in the compact syntax, and for XML documents that have one. It speaks the Language Server Protocol on its
+standard streams, and reads no file but schemas. The variable RNCV_LIBRARY names the library. docs/EDITORS.md says how to set up editors."""
 
 
 def main() -> None:

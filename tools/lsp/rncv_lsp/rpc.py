@@ -139,6 +139,7 @@ class Dispatcher:
         return self._requested(message)
 
     def _requested(self, message: Dict[str, Any]) -> Dict[str, Any]:
+        """The answer to a request."""
         identity, method = message["id"], message["method"]
         try:
             self._allow(method, True)
@@ -153,6 +154,7 @@ class Dispatcher:
             return error_answer(identity, RpcFault(INTERNAL_ERROR, told(error)))
 
     def _notified(self, method: str, params: Any) -> None:
+        """Takes a notification; one that is not known is passed over."""
         handler = self.notifications.get(method)
         if self._allow(method, False) and handler is not None:
             handler(params)

@@ -74,7 +74,7 @@ class Disk:
 
 
 class FileView:
-    """The files as they are at one moment: the open documents, and the disk. `states` has each path that was looked for, as it was before that."""
+    """The files as they are at one moment: the open documents, and the disk. `states` has each path that was looked for, as it was before."""
 
     def __init__(self, documents: Iterable[Document], disk: Disk) -> None:
         self._open = {document.key: document for document in documents if document.path is not None}
@@ -86,7 +86,10 @@ class FileView:
         """The file at a path, if there is one."""
         if path not in self._looked_up:
             self.states[path] = state_of(path)
-            document = self._open.get(os.path.realpath(path)) if "\0" not in path else None
+            try:
+                document = self._open.get(os.path.realpath(path))
+            except (OSError, ValueError):  # what is no path
+                document = None
             self._looked_up[path] = opened(document, path) if document else self._disk.find(path)
         return self._looked_up[path]
 
@@ -121,18 +124,20 @@ class SchemaSet:
 
 
 def ways(words: str, path: str) -> Iterator[str]:
-    """Where the words of a mention may lead, beside the file that mentions them: as they stand, and as a URI. Nowhere, if it would have to be fetched."""
+    """Where the words of a mention may lead, beside the file that mentions them: as they stand, and as a URI. Nowhere, if they are no text, or if the
+    file would have to be fetched."""
+    if any("\ud800" <= letter <= "\udfff" for letter in words):
+        return
     if SCHEME.match(words):
         local = path_of(words)
         if local is not None:
             yield os.path.normpath(local)
         return
-    if not words or "\0" in words or not os.path.isabs(path):
+    if not words or not os.path.isabs(path):
         return
     folder = os.path.dirname(path)
     for name in dict.fromkeys((words, urllib.parse.unquote(words))):
-        if "\0" not in name:
-            yield os.path.normpath(os.path.join(folder, name))
+        yield os.path.normpath(os.path.join(folder, name))
 
 
 def collected(main: SchemaFile, view: FileView) -> SchemaSet:
@@ -145,7 +150,8 @@ def collected(main: SchemaFile, view: FileView) -> SchemaSet:
         for mention in file.mentions:
             found = target(schema, file, mention, view)
             if mention.words in meant and key_of(meant[mention.words]) != key_of(found):
-                schema.unclear.append(Trouble(file, mention, f"{mention.words!r} is another file where another file mentions it: one name is one file"))
+                what = f"{mention.words!r} is another file where another file mentions it: one name is one file"
+                schema.unclear.append(Trouble(file, mention, what))
                 continue
             meant[mention.words] = found
             if found is None:

@@ -66,7 +66,8 @@ class Server:
             if self._state != "new":
                 raise RpcFault(INVALID_REQUEST, "the server was initialized before")
         elif is_request and not is_ready:
-            raise RpcFault(*(NOT_INITIALIZED, "the server is not initialized") if self._state == "new" else (INVALID_REQUEST, "the server is shut down"))
+            is_new = self._state == "new"
+            raise RpcFault(NOT_INITIALIZED if is_new else INVALID_REQUEST, "the server is not initialized" if is_new else "the server is shut down")
         return is_ready or method == "exit"
 
     def _initialize(self, params: Any) -> Any:
@@ -89,20 +90,25 @@ class Server:
         }
 
     def _shutdown(self, params: Any) -> None:
+        """Takes no more documents."""
         self._state = "down"
 
     def _exit(self, params: Any) -> None:
+        """Ends the server."""
         raise Exit
 
     def _opened(self, params: Any) -> None:
+        """A document is open."""
         self._documents.open(new_document(member(params, "textDocument", dict)))
         self._coordinator.touch()
 
     def _changed(self, params: Any) -> None:
+        """A document has changed."""
         self._documents.change(member(params, "textDocument", dict), member(params, "contentChanges", list))
         self._coordinator.touch()
 
     def _closed(self, params: Any) -> None:
+        """A document is closed."""
         self._documents.close(member(member(params, "textDocument", dict), "uri", str))
         self._coordinator.touch()
 
@@ -120,6 +126,7 @@ class Server:
             self._connection.ask("workspace/configuration", {"items": [{"section": "rncv"}]}, self._settings_told)
 
     def _settings_told(self, result: Any) -> None:
+        """Takes the settings that the client answers, if it has some."""
         if isinstance(result, list) and result and isinstance(result[0], dict) and result[0]:
             self._set(result[0])
 
@@ -131,6 +138,7 @@ class Server:
         self._coordinator.touch()
 
     def _folders_changed(self, params: Any) -> None:
+        """Takes the folders of the workspace."""
         event = member(params, "event", dict)
         gone = set(folders_in(event.get("removed")))
         kept = [root for root in self._coordinator.roots if root not in gone]

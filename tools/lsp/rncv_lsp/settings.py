@@ -10,6 +10,7 @@ from typing import Any, List, Optional, Pattern, Tuple
 from rncv_lsp.documents import path_of
 
 GLOB = re.compile(r"(?P<folders>\*\*/)|(?P<all>\*\*)|(?P<some>\*)|(?P<one>\?)|(?P<set>\[[^]/]+\])|\{(?P<either>[^{}]*)\}|(?P<letter>.)", re.S)
+SIGNS = re.compile(r"[\\\][^&~|]")
 
 
 @dataclasses.dataclass(frozen=True)
@@ -63,13 +64,18 @@ def part_of_glob(found: "re.Match[str]") -> str:
     """The regular expression of a part of a pattern."""
     kind, words = found.lastgroup, found[0]
     if kind == "set":
-        inside = words[1:-1]
-        mark = "^" if inside[0] in "!^" and len(inside) > 1 else ""
-        return f"[{mark}{re.sub(r'([][^&~|])', lambda sign: chr(92) + sign[0], inside[len(mark):].replace(chr(92), chr(92) * 2))}]"
+        mark = "^" if words[1] in "!^" and len(words) > 3 else ""
+        # A sign that means something in a set of a regular expression stands for itself, but for the one of a range.
+        return f"[{mark}{SIGNS.sub(escaped, words[1 + len(mark):-1])}]"
     if kind == "either":
         return "(?:" + "|".join(glob(part).pattern[:-2] for part in found["either"].split(",")) + ")"
     known = {"folders": "(?:.*/)?", "all": ".*", "some": "[^/]*", "one": "[^/]"}
     return known.get(kind or "", re.escape(words))
+
+
+def escaped(sign: "re.Match[str]") -> str:
+    """A sign that stands for itself."""
+    return "\\" + sign[0]
 
 
 def matches(pattern: str, path: str, roots: Tuple[str, ...]) -> bool:

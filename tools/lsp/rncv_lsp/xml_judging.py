@@ -18,7 +18,11 @@ NAME = r"[^\s<>/&=\"'?!;]+"
 # What may stand at a place: an end tag, the beginning of a start tag, a reference, an instruction, a name, or any character.
 AT_PLACE = re.compile(rf"</{NAME}\s*>?|<{NAME}|&{NAME};|<\?.*?\?>|{NAME}|[^\r\n]", re.S)
 ATTRIBUTE = re.compile(rf"""\s+({NAME})\s*=\s*(?:"[^"]*"|'[^']*')""")
-LIMITS = {b"(": "more than 512 elements are open", b"A": "a tag has more than 256 attributes and declarations", b"-": "a text has more than 1,048,576 bytes"}
+LIMITS = {
+    b"(": "more than 512 elements are open",
+    b"A": "a tag has more than 256 attributes and declarations",
+    b"-": "a text has more than 1,048,576 bytes",
+}
 
 
 class ClauseBroken(Exception):

@@ -34,6 +34,7 @@ def schema_named(document: Document, settings: Settings, roots: Tuple[str, ...])
     found: List[Named] = []
 
     def take(target: str, words: str, place: Place) -> None:
+        """Takes the first instruction that names a schema."""
         if target == "xml-model" and not found:
             named = by_instruction(document, words, place)
             found.extend([named] if named else [])
@@ -65,5 +66,6 @@ def path_beside(document: Document, href: str) -> Optional[str]:
         return path_of(href)
     if document.path is None:
         return href if os.path.isabs(href) else None
-    places = [os.path.normpath(os.path.join(os.path.dirname(document.path), name)) for name in (urllib.parse.unquote(href), href) if "\0" not in name]
-    return next((place for place in places if os.path.isfile(place)), places[0] if places else None)
+    folder = os.path.dirname(document.path)
+    places = [os.path.normpath(os.path.join(folder, name)) for name in (urllib.parse.unquote(href), href)]
+    return next((place for place in places if os.path.isfile(place)), places[0])

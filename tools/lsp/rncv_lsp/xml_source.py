@@ -16,7 +16,7 @@ Place = Tuple[int, int]
 Cancelled = Callable[[], bool]
 
 
-class Given(Exception):
+class GivenUp(Exception):
     """The document is judged no more, since it has changed."""
 
 
@@ -38,14 +38,15 @@ class Source(io.RawIOBase):
     def read(self, size: int = -1) -> bytes:
         """The next bytes."""
         if self._is_cancelled():
-            raise Given
+            raise GivenUp
         piece = self._data[self._at:self._at + min(size, PIECE_BYTES)] if size >= 0 else self._data[self._at:]
         self._at += len(piece)
         return piece
 
 
 def bytes_of(text: str, is_any: bool = False) -> bytes:
-    """A document's text in UTF-8. An encoding that it declares is that of the file on the disk, so blanks stand in its place, if it is served or any is."""
+    """A document's text in UTF-8. An encoding that it declares is that of the file on the disk, so blanks stand in its place; for one that is not served
+    only if any is taken."""
     found = DECLARED.match(text, len(MARK) if text.startswith(MARK) else 0)
     if found and (is_any or is_served(found[2] or found[3] or "")):
         text = text[:found.start(1)] + " " * len(found[1]) + text[found.end(1):]
@@ -89,10 +90,12 @@ def instructions(data: bytes, take: Callable[[str, str, Place], None]) -> None:
     types = []
 
     def instruction(target: str, words: str) -> None:
+        """Hands on an instruction, outside the document type."""
         if len(types) % 2 == 0:
             take(target, words, (parser.CurrentLineNumber, parser.CurrentColumnNumber + 1))
 
     def start(name: str, attributes: object) -> None:
+        """Ends the reading."""
         raise Begun
 
     parser.ProcessingInstructionHandler = instruction

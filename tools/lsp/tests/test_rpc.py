@@ -1,5 +1,6 @@
 """Tests of messages: how they are framed, what is answered, and how the server ends."""
 import json
+import shutil
 import subprocess
 import sys
 import time
@@ -16,6 +17,11 @@ class Ends(WithServer):
             run = subprocess.run([sys.executable, str(SERVER), *words], capture_output=True, text=True, timeout=20, check=False)
             self.assertEqual(run.returncode, status)
             self.assertIn(shown, run.stdout)
+
+    def test_a_copy_without_the_repository(self):
+        shutil.copytree(SERVER.parent, self.folder / "tools/lsp")
+        run = subprocess.run([sys.executable, str(self.folder / "tools/lsp/rncv-lsp")], input=b"", capture_output=True, timeout=20, check=False)
+        self.assertEqual((run.returncode, run.stderr.count(b"\n")), (2, 1))
 
     def test_shutdown_and_exit(self):
         self.assertIsNone(self.client.request("shutdown")["result"])

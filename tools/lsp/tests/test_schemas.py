@@ -1,5 +1,7 @@
 """Tests of what is found in schemas."""
 import os
+import random
+import re
 import time
 import unittest
 
@@ -98,6 +100,27 @@ class Edits(WithServer):
         self.assertEqual(span(self.client.found(uri, 202)[0]), (0, 0, 0, 1))
         self.assertLess(self.client.published.count(uri), 100)
 
+    def test_edits_anywhere(self):
+        chosen, text, letters = random.Random(2), "element a {\r\n  text }\n", ["\r", "\n", "\r\n", "\U0001F600", "\u00e9", "# ", "{", "}", "a", ""]
+        one, other = self.uri("one.rnc"), self.uri("other.rnc")
+        self.client.open(one, text)
+
+        def place(offset):
+            lines = re.split("\r\n|\r|\n", text[:offset])
+            return len(lines) - 1, len(lines[-1].encode("utf-16-le")) // 2
+
+        for version in range(2, 130):
+            ends = sorted(offset - (text[offset - 1:offset + 1] == "\r\n") for offset in (chosen.randrange(len(text) + 1) for _ in range(2)))
+            words = "".join(chosen.choice(letters) for _ in range(chosen.randrange(4)))
+            ends = ends if chosen.random() < 0.3 else [ends[0], ends[0]]
+            self.client.change(one, version, (*place(ends[0]), *place(ends[1]), words))
+            text = text[:ends[0]] + words + text[ends[1]:]
+        text = text + "}\n}"
+        self.client.change(one, 130, (10_000, 0, 10_000, 0, "}\n}"))
+        self.client.open(other, text, "rnc", 131)
+        self.assertEqual(self.client.found(one, 130), self.client.found(other, 131))
+        self.assertEqual(len(self.client.found(one, 130)), 1)
+
     def test_a_language_and_no_path(self):
         self.client.open("untitled:one", "element a {", "rnc")
         self.assertEqual(len(self.client.found("untitled:one")), 1)
@@ -152,6 +175,16 @@ class Files(WithServer):
         self.assertEqual({told["code"] for told in found}, {"S1"})
         self.assertIn(str(self.folder / "c.rnc"), found[1]["message"])
         self.assertIn("nothing is fetched", found[2]["message"])
+
+    def test_names_that_are_none(self):
+        main = self.uri("main.rnc")
+        odd = ("\ud800.rnc", "\udc80", "a%00b", "\\x{FFFD}", "x" * 5_000, "file:///%00", "file://host/x.rnc", "file:", "http://[", "/")
+        for version, words in enumerate(odd, 1):
+            self.client.close(main)
+            self.client.open(main, f'include "{words}"', "", version)
+            self.assertIn(self.client.found(main, version)[0]["code"], ("S1", "S3"), words)
+        self.client.open("file:///\ud800.rnc", "element a { text }")
+        self.assertEqual(self.client.found("file:///\ud800.rnc"), [])
 
     def test_names_of_files(self):
         self.write("a b/\u00e9.rnc", 'include "../c.rnc"')

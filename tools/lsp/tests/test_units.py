@@ -41,11 +41,12 @@ class Units(unittest.TestCase):
         self.assertEqual(edited("abcd", change, "utf-16"), "abcxd")
 
     def test_patterns(self):
-        roots = ("/work/site",)
+        roots = ("/home/site",)
         for pattern, path, wanted in (
-                ("**/*.xhtml", "/work/site/a.xhtml", True), ("**/*.xhtml", "/other/b/a.xhtml", True), ("*.xml", "/other/b/a.xml", True),
-                ("notes/*.xml", "/work/site/notes/a.xml", True), ("notes/*.xml", "/work/site/notes/b/a.xml", False), ("notes/*.xml", "/other/notes/a.xml", False),
-                ("/work/**/a?.xml", "/work/b/c/ab.xml", True), ("/work/**/a?.xml", "/work/b/c/a.xml", False), ("a[!b-c].xml", "/x/ad.xml", True),
+                ("**/*.xhtml", "/home/site/a.xhtml", True), ("**/*.xhtml", "/other/b/a.xhtml", True), ("*.xml", "/other/b/a.xml", True),
+                ("notes/*.xml", "/home/site/notes/a.xml", True),
+                ("notes/*.xml", "/home/site/notes/b/a.xml", False), ("notes/*.xml", "/other/notes/a.xml", False),
+                ("/home/**/a?.xml", "/home/b/c/ab.xml", True), ("/home/**/a?.xml", "/home/b/c/a.xml", False), ("a[!b-c].xml", "/x/ad.xml", True),
                 ("a[!b-c].xml", "/x/ab.xml", False), ("a[]].xml", "/x/a.xml", False), ("{a,b*}.xml", "/x/bc.xml", True), ("{a,b*}.xml", "/x/c.xml", False),
                 ("a.xml", "/x/aXxml", False), ("[z-a]", "/x/a", False), ("**", "/x/y", True), ("a[\\].x", "/x/a\\.x", True), ("a[^&&~].x", "/x/ab.x", True)):
             self.assertEqual(matches(pattern, path, roots), wanted, (pattern, path))
