@@ -1,14 +1,23 @@
 """Tests of parts of the server by themselves."""
+import io
+import json
+import queue
 import random
 import re
 import sys
+import time
 import unittest
 
 from client import TOP
 
 sys.path.insert(0, str(TOP / "tools/lsp"))
+from rncv_lsp.coordinator import Coordinator  # noqa: E402
+from rncv_lsp.documents import Document, Documents  # noqa: E402
 from rncv_lsp.findings import slug  # noqa: E402
+from rncv_lsp.framing import read_message  # noqa: E402
+from rncv_lsp.jobs import Jobs  # noqa: E402
 from rncv_lsp.outside import rncv  # noqa: E402
+from rncv_lsp.rpc import Connection, Dispatcher  # noqa: E402
 from rncv_lsp.settings import matches  # noqa: E402
 from rncv_lsp.texts import CODECS, Text, edited, units  # noqa: E402
 
@@ -58,6 +67,62 @@ class Units(unittest.TestCase):
         for clause, title in headings.items():
             self.assertEqual(slug(f"{clause}: {rncv.clause_title(clause[0], int(clause[1:]))}"), slug(f"{clause}: {title}"))
         self.assertEqual(slug("P5: the escapes are `\\n`, `\\t` and `\\\\` (profile)"), "p5-the-escapes-are-n-t-and--profile")
+
+
+class Broken:
+    """A device that is gone."""
+
+    def write(self, data):
+        raise BrokenPipeError
+
+    flush = write
+
+
+class Faults(unittest.TestCase):
+    """What goes wrong in the server is told, and it goes on."""
+
+    def setUp(self):
+        self.sink = io.BytesIO()
+        self.connection = Connection(self.sink)
+
+    def sent(self):
+        """The messages that were sent."""
+        source = io.BytesIO(self.sink.getvalue())
+        return [json.loads(data) for data in iter(lambda: read_message(source), None)]
+
+    def test_handlers(self):
+        dispatcher = Dispatcher(self.connection, lambda method, is_request: True)
+        dispatcher.requests["r"] = dispatcher.notifications["n"] = lambda params: [][0]
+        dispatcher.take(b'{"id": 1, "method": "r"}')
+        dispatcher.take(b'{"method": "n"}')
+        told = "internal error: IndexError: list index out of range"
+        log = {"jsonrpc": "2.0", "method": "window/logMessage", "params": {"type": 1, "message": f"rncv-lsp: {told}"}}
+        self.assertEqual(self.sent(), [log, {"jsonrpc": "2.0", "id": 1, "error": {"code": -32603, "message": told}}, log])
+
+    def test_jobs(self):
+        told, done = queue.Queue(), queue.Queue()
+        jobs = Jobs(told.put)
+        for number in range(5):
+            jobs.put("fault", lambda: [][0])
+            self.assertIsInstance(told.get(timeout=20), IndexError)
+            jobs.put("good", lambda: done.put(number))
+            self.assertEqual(done.get(timeout=20), number)
+
+    def test_judging(self):
+        documents = Documents()
+        coordinator = Coordinator(documents, self.connection)
+        documents.open(Document("file:///none/s.rnc", "/none/s.rnc", "/none/s.rnc", "rnc", 1, 5))
+        coordinator.start()
+        coordinator.touch()
+        limit = time.monotonic() + 20
+        while not self.sink.getvalue() and time.monotonic() < limit:
+            time.sleep(0.01)
+        self.assertIn("internal error: AttributeError", self.sent()[0]["params"]["message"])
+
+    def test_the_other_side_is_gone(self):
+        connection = Connection(Broken())
+        connection.log(1, "x")
+        connection.notify("x", None)
 
 
 if __name__ == "__main__":
