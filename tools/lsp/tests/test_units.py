@@ -16,11 +16,13 @@ from rncv_lsp.documents import Document, Documents  # noqa: E402
 from rncv_lsp.findings import slug  # noqa: E402
 from rncv_lsp.framing import read_message  # noqa: E402
 from rncv_lsp.jobs import Jobs  # noqa: E402
-from rncv_lsp.outside import rncv  # noqa: E402
+from rncv_lsp.outside import OutsideProfile, convert, rncv  # noqa: E402
 from rncv_lsp.rpc import Connection, Dispatcher  # noqa: E402
 from rncv_lsp.settings import matches  # noqa: E402
 from rncv_lsp.texts import CODECS, Text, edited, units  # noqa: E402
+from rncv_lsp.xml_judging import judged  # noqa: E402
 
+TEXTS = ("1", "t", " ", "\n", "<!-- c -->", "<?p?>", "&amp;", "")
 LETTERS = ["a", "\u00e9", "\u20ac", "\U0001F600", "\r", "\n", "\r\n", "\ud800", ""]
 
 
@@ -67,6 +69,44 @@ class Units(unittest.TestCase):
         for clause, title in headings.items():
             self.assertEqual(slug(f"{clause}: {rncv.clause_title(clause[0], int(clause[1:]))}"), slug(f"{clause}: {title}"))
         self.assertEqual(slug("P5: the escapes are `\\n`, `\\t` and `\\\\` (profile)"), "p5-the-escapes-are-n-t-and--profile")
+
+
+class Verdicts(unittest.TestCase):
+    """What is found in a document is what the library says of the same lines."""
+
+    SCHEMA = b"""start = element a { attribute x { xsd:integer }?, (element b { attribute y { "1" | "2" }?, xsd:integer }
+                 | element c { (element b { text })*, text })*, element d { empty }? }"""
+
+    def setUp(self):
+        self.chosen = random.Random(3)
+
+    def element(self, name, depth):
+        """An element, valid or not."""
+        attributes = "".join(f' {each}="{self.chosen.choice("123q")}"' for each in self.chosen.sample("xy", self.chosen.choice((0, 0, 0, 1, 2))))
+        kinds = (lambda: self.element(self.chosen.choice("bcd"), depth + 1) if depth < 4 else "", lambda: self.chosen.choice(TEXTS))
+        return f"<{name}{attributes}>{''.join(self.chosen.choice(kinds)() for _ in range(self.chosen.randrange(4)))}</{name}>"
+
+    def test_generated_documents(self):
+        kinds = set()
+        with rncv.compile({"s.rnc": self.SCHEMA}) as validator:
+            for _ in range(400):
+                text = self.element("a", 0)
+                if self.chosen.random() < 0.2:
+                    cut = self.chosen.randrange(len(text))
+                    text = text[:cut] + self.chosen.choice('<>&"x') + text[cut + 1:]
+                found = judged(Document("u", "/u", "/u", "xml", 1, text), validator, lambda: ["1", "2"], lambda: False)
+                codes = [finding.code for finding in found]
+                lines = []
+                try:
+                    convert(io.BytesIO(text.encode("utf-8")), lines.append)
+                    wanted = validator.validate(b"".join(lines)).kind
+                    self.assertEqual(codes, {"valid": [], "invalid": ["invalid"]}.get(wanted, codes), text)
+                except OutsideProfile:
+                    wanted = "no document"
+                    self.assertIn(codes[0], ("malformed", "outside"), text)
+                self.assertTrue(all(0 <= finding.start <= finding.end <= len(text) for finding in found), text)
+                kinds.update([wanted, *(" ".join(finding.message.split()[:3]) for finding in found if finding.code == "invalid")])
+        self.assertGreaterEqual(kinds, {"valid", "invalid", "no document", "invalid: at attribute", "invalid: at text", "invalid: at the", "invalid: at <b>"})
 
 
 class Broken:
