@@ -21,7 +21,7 @@ class Mention:
     end: int
 
 
-@functools.lru_cache(maxsize=128)
+@functools.lru_cache(maxsize=4)
 def tokens_of(text: str) -> Tuple[Token, ...]:
     """The tokens of a text. Where no token begins a character is passed over, so that a file that is being written keeps its mentions."""
     try:
@@ -53,7 +53,7 @@ def literal_at(found: Sequence[Token], index: int) -> Optional[Mention]:
     return Mention("".join(words), found[first].start, end) if words else None
 
 
-@functools.lru_cache(maxsize=256)
+@functools.lru_cache(maxsize=128)
 def mentions_of(text: str) -> Tuple[Mention, ...]:
     """What a file mentions, in the order of its tokens; in annotations nothing is a mention."""
     if not ("include" in text or "external" in text or "\\x" in text):

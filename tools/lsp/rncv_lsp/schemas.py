@@ -15,12 +15,16 @@ PART_HINT = "if this file is a part of another schema, open that one too"
 
 @dataclasses.dataclass(frozen=True)
 class Outcome:
-    """What became of a schema's files: a validator, or a fault. `name` tells schemas apart."""
+    """What became of a schema's files: a validator, or a fault. `name` tells schemas apart, and `texts` are the files."""
 
     name: str
     validator: Optional[rncv.Validator] = None
     fault: Optional[rncv.SchemaError] = None
-    literals: Tuple[str, ...] = ()
+    texts: Tuple[str, ...] = ()
+
+    def literals(self) -> List[str]:
+        """Some literals of the files."""
+        return literals_of(self.texts)
 
 
 def name_of(schema: SchemaSet) -> str:
@@ -56,7 +60,7 @@ def compiled(name: str, schema: SchemaSet) -> Outcome:
         validator = rncv.compile({each: file.content for each, file in schema.files.items()})
     except rncv.SchemaError as fault:
         return Outcome(name, fault=fault)
-    return Outcome(name, validator, literals=tuple(literals_of([file.lines.text for file in schema.files.values()])))
+    return Outcome(name, validator, texts=tuple(file.lines.text for file in schema.files.values()))
 
 
 def findings_of(schema: SchemaSet, outcome: Outcome) -> List[Tuple[SchemaFile, Finding]]:

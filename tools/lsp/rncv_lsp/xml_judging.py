@@ -2,12 +2,12 @@
 from __future__ import annotations
 
 import re
-from typing import List, Optional, Sequence, Tuple
+from typing import List, Optional, Tuple
 
 from rncv_lsp.documents import Document
 from rncv_lsp.findings import INFORMATION, Finding
 from rncv_lsp.outside import rncv
-from rncv_lsp.xml_probes import Probes, Stands
+from rncv_lsp.xml_probes import Literals, Probes, Stands
 from rncv_lsp.xml_source import Cancelled, Fault, Place, Source, bytes_of, clean, hand_on, offset_of, want_well_formed
 from rncv_lsp.xml_trail import Standing, Trail
 
@@ -91,7 +91,7 @@ class Judging:
         return self._standings[index if 0 <= index < len(self._standings) else -1]
 
 
-def judged(document: Document, validator: rncv.Validator, literals: Sequence[str], is_cancelled: Cancelled) -> List[Finding]:
+def judged(document: Document, validator: rncv.Validator, literals: Literals, is_cancelled: Cancelled) -> List[Finding]:
     """What is found in a document that has a schema."""
     found: List[Finding] = []
     with validator.begin() as begun:

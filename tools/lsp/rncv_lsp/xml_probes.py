@@ -1,13 +1,15 @@
 """Which of several things at one place is the wrong one: found by judging the first lines of the document again, with changes."""
 from __future__ import annotations
 
-from typing import Iterator, List, NamedTuple, Optional, Sequence
+import itertools
+from typing import Callable, Iterator, List, NamedTuple, Optional, Sequence
 
 from rncv_lsp.outside import rncv
 from rncv_lsp.xml_trail import Standing, Tag
 
 MOST_BYTES = 8_388_608
 VALUES = ("1", "a", "0", "true", "")
+Literals = Callable[[], Sequence[str]]
 
 
 class Stands(NamedTuple):
@@ -20,7 +22,7 @@ class Stands(NamedTuple):
 class Probes:
     """Judges first lines of a document. `lines` are those before the line that is told; none where they were not kept."""
 
-    def __init__(self, validator: rncv.Validator, lines: Optional[List[bytes]], literals: Sequence[str]) -> None:
+    def __init__(self, validator: rncv.Validator, lines: Optional[List[bytes]], literals: Literals) -> None:
         self._validator, self._lines, self._literals = validator, lines, literals
         self._left = MOST_BYTES
 
@@ -52,9 +54,13 @@ class Probes:
 
     def _values(self) -> Iterator[bytes]:
         """Values to try, as they stand in a line, while there is work left to be done."""
-        for value in (*VALUES, *self._literals):
+        for value in itertools.chain(VALUES, self._more()):
             if self._left > 0:
                 yield value.replace("\\", "\\\\").replace("\n", "\\n").replace("\t", "\\t").encode("utf-8", "replace")
+
+    def _more(self) -> Iterator[str]:
+        """The literals of the schema, which are looked up when they are wanted."""
+        yield from self._literals()
 
     def _has_better_text(self, name: str) -> bool:
         """Whether the end tag is good behind another text. If it is not, something is missing before it."""

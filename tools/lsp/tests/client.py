@@ -181,7 +181,7 @@ class WithServer(unittest.TestCase):
         if cls.SHARED:
             cls.shared = Client()
             cls.addClassCleanup(cls.shared.kill)
-            cls.shared.initialize(cls.OPTIONS, None, **cls.CAPABILITIES)
+            cls.initialized = cls.shared.initialize(cls.OPTIONS, None, **cls.CAPABILITIES)
 
     def setUp(self) -> None:
         room = tempfile.TemporaryDirectory()
@@ -189,6 +189,7 @@ class WithServer(unittest.TestCase):
         self.folder = pathlib.Path(room.name).resolve()
         if self.shared is not None:
             self.client = self.shared
+            self.client.other.clear()
         else:
             self.client = self.started()
             self.initialized = self.client.initialize(self.OPTIONS, self.folder, **self.CAPABILITIES)

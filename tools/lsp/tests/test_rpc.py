@@ -85,6 +85,8 @@ class NotInitialized(WithServer):
 class Messages(WithServer):
     """Messages that are odd, or none."""
 
+    SHARED = True
+
     def error(self, data):
         """The code of the error without an identity that some bytes are answered by."""
         self.client.write(data)
@@ -100,7 +102,7 @@ class Messages(WithServer):
         self.assertEqual(self.client.request("textDocument/hover", {})["error"]["code"], -32601)
         self.client.notify("$/cancelRequest", id=1)
         self.client.notify("some/thing")
-        self.assertEqual(self.client.stop(), 0)
+        self.assertEqual(self.client.request("textDocument/hover", {})["error"]["code"], -32601)
         self.assertEqual([message for message in self.client.other if "method" in message], [])
 
     def test_odd_pieces(self):
@@ -163,7 +165,7 @@ class Messages(WithServer):
     def test_answers_that_nobody_waits_for(self):
         for answer in ({"id": 1, "result": 5}, {"id": "x", "result": None}, {"id": None, "error": {"code": 1, "message": ""}}, {"id": [], "result": 1}):
             self.client.write(framed({"jsonrpc": "2.0", **answer}))
-        self.assertEqual(self.client.stop(), 0)
+        self.assertEqual(self.client.request("x")["error"]["code"], -32601)
 
 
 if __name__ == "__main__":

@@ -1,17 +1,28 @@
 """Tests of parts of the server by themselves."""
+import io
+import json
+import queue
 import random
 import re
 import sys
+import time
 import unittest
 
 from client import TOP
 
 sys.path.insert(0, str(TOP / "tools/lsp"))
+from rncv_lsp.coordinator import Coordinator  # noqa: E402
+from rncv_lsp.documents import Document, Documents  # noqa: E402
 from rncv_lsp.findings import slug  # noqa: E402
-from rncv_lsp.outside import rncv  # noqa: E402
+from rncv_lsp.framing import read_message  # noqa: E402
+from rncv_lsp.jobs import Jobs  # noqa: E402
+from rncv_lsp.outside import OutsideProfile, convert, rncv  # noqa: E402
+from rncv_lsp.rpc import Connection, Dispatcher  # noqa: E402
 from rncv_lsp.settings import matches  # noqa: E402
 from rncv_lsp.texts import CODECS, Text, edited, units  # noqa: E402
+from rncv_lsp.xml_judging import judged  # noqa: E402
 
+TEXTS = ("1", "t", " ", "\n", "<!-- c -->", "<?p?>", "&amp;", "")
 LETTERS = ["a", "\u00e9", "\u20ac", "\U0001F600", "\r", "\n", "\r\n", "\ud800", ""]
 
 
@@ -58,6 +69,100 @@ class Units(unittest.TestCase):
         for clause, title in headings.items():
             self.assertEqual(slug(f"{clause}: {rncv.clause_title(clause[0], int(clause[1:]))}"), slug(f"{clause}: {title}"))
         self.assertEqual(slug("P5: the escapes are `\\n`, `\\t` and `\\\\` (profile)"), "p5-the-escapes-are-n-t-and--profile")
+
+
+class Verdicts(unittest.TestCase):
+    """What is found in a document is what the library says of the same lines."""
+
+    SCHEMA = b"""start = element a { attribute x { xsd:integer }?, (element b { attribute y { "1" | "2" }?, xsd:integer }
+                 | element c { (element b { text })*, text })*, element d { empty }? }"""
+
+    def setUp(self):
+        self.chosen = random.Random(3)
+
+    def element(self, name, depth):
+        """An element, valid or not."""
+        attributes = "".join(f' {each}="{self.chosen.choice("123q")}"' for each in self.chosen.sample("xy", self.chosen.choice((0, 0, 0, 1, 2))))
+        kinds = (lambda: self.element(self.chosen.choice("bcd"), depth + 1) if depth < 4 else "", lambda: self.chosen.choice(TEXTS))
+        return f"<{name}{attributes}>{''.join(self.chosen.choice(kinds)() for _ in range(self.chosen.randrange(4)))}</{name}>"
+
+    def test_generated_documents(self):
+        kinds = set()
+        with rncv.compile({"s.rnc": self.SCHEMA}) as validator:
+            for _ in range(400):
+                text = self.element("a", 0)
+                if self.chosen.random() < 0.2:
+                    cut = self.chosen.randrange(len(text))
+                    text = text[:cut] + self.chosen.choice('<>&"x') + text[cut + 1:]
+                found = judged(Document("u", "/u", "/u", "xml", 1, text), validator, lambda: ["1", "2"], lambda: False)
+                codes = [finding.code for finding in found]
+                lines = []
+                try:
+                    convert(io.BytesIO(text.encode("utf-8")), lines.append)
+                    wanted = validator.validate(b"".join(lines)).kind
+                    self.assertEqual(codes, {"valid": [], "invalid": ["invalid"]}.get(wanted, codes), text)
+                except OutsideProfile:
+                    wanted = "no document"
+                    self.assertIn(codes[0], ("malformed", "outside"), text)
+                self.assertTrue(all(0 <= finding.start <= finding.end <= len(text) for finding in found), text)
+                kinds.update([wanted, *(" ".join(finding.message.split()[:3]) for finding in found if finding.code == "invalid")])
+        self.assertGreaterEqual(kinds, {"valid", "invalid", "no document", "invalid: at attribute", "invalid: at text", "invalid: at the", "invalid: at <b>"})
+
+
+class Broken:
+    """A device that is gone."""
+
+    def write(self, data):
+        raise BrokenPipeError
+
+    flush = write
+
+
+class Faults(unittest.TestCase):
+    """What goes wrong in the server is told, and it goes on."""
+
+    def setUp(self):
+        self.sink = io.BytesIO()
+        self.connection = Connection(self.sink)
+
+    def sent(self):
+        """The messages that were sent."""
+        source = io.BytesIO(self.sink.getvalue())
+        return [json.loads(data) for data in iter(lambda: read_message(source), None)]
+
+    def test_handlers(self):
+        dispatcher = Dispatcher(self.connection, lambda method, is_request: True)
+        dispatcher.requests["r"] = dispatcher.notifications["n"] = lambda params: [][0]
+        dispatcher.take(b'{"id": 1, "method": "r"}')
+        dispatcher.take(b'{"method": "n"}')
+        told = "internal error: IndexError: list index out of range"
+        log = {"jsonrpc": "2.0", "method": "window/logMessage", "params": {"type": 1, "message": f"rncv-lsp: {told}"}}
+        self.assertEqual(self.sent(), [log, {"jsonrpc": "2.0", "id": 1, "error": {"code": -32603, "message": told}}, log])
+
+    def test_jobs(self):
+        told, done = queue.Queue(), queue.Queue()
+        jobs = Jobs(told.put)
+        for number in range(5):
+            jobs.put("fault", lambda: [][0])
+            self.assertIsInstance(told.get(timeout=20), IndexError)
+            jobs.put("good", lambda: done.put(number))
+            self.assertEqual(done.get(timeout=20), number)
+
+    def test_judging(self):
+        documents = Documents()
+        coordinator = Coordinator(documents, self.connection)
+        documents.open(Document("file:///none/s.rnc", "/none/s.rnc", "/none/s.rnc", "rnc", 1, 5))
+        coordinator.start()
+        coordinator.touch()
+        limit = time.monotonic() + 20
+        while not self.sink.getvalue() and time.monotonic() < limit:
+            time.sleep(0.01)
+        self.assertIn("internal error: AttributeError", self.sent()[0]["params"]["message"])
+
+    def test_the_other_side_is_gone(self):
+        connection = Connection(Broken())
+        connection.log(1, "x")
+        connection.notify("x", None)
 
 
 if __name__ == "__main__":
