@@ -2,8 +2,7 @@
 # Builds the C library and tests it:   tools/library/test.sh
 #
 # Once as LLVM and once as Rattle's own compiler build it: each test program, alone, under valgrind and with the sanitizers of the C compiler; the
-# names that the shared object exports against those of the header; the header as C and as C++; and the shared object from Python, by the package and by
-# the language server. What is not installed is told and skipped.
+# names that the shared object exports against those of the header; the header as C and as C++; and the shared object from Python. What is not installed is told and skipped.
 # It writes below build/library-tests/. RNCV_LIBRARY names a folder where build.sh has built the library by LLVM, which is then not built again.
 # RNCV_ARCHIVE names a built librncv_c.a to test instead, and then nothing is proved here.
 set -eu
@@ -67,7 +66,6 @@ for backend in ${BACKENDS:-llvm rattle}; do
     run python3 -B "$here/tests/library_test.py" "$build/lib/librncv.so"
     run python3 -B "$here/tests/rows_test.py" "$build/lib/librncv.so"
     run "$top/tools/python/test.sh" "$build/lib/librncv.so"
-    run "$top/tools/lsp/test.sh" "$build/lib/librncv.so"
 
     # the programs of README and of docs/LIBRARY.md
     run python3 -B "$here/tests/readme_test.py" "$build"
