@@ -108,7 +108,7 @@ bool source_open(struct source *source, const char *name, struct streams streams
         fault_set(fault, FAULT_DEVICE, (struct place){0, 0}, "%s", strerror(errno));
         return false;
     }
-    source->is_large = fstat(source->file, &found) != 0 || !S_ISREG(found.st_mode) || found.st_size > LARGE_BYTES;
+    source->is_large = fstat(source->file, &found) == 0 && S_ISREG(found.st_mode) && found.st_size > LARGE_BYTES;
     return true;
 }
 

@@ -47,7 +47,7 @@ struct source {
     int file;
     bool is_open;
     bool is_input;
-    bool is_large; /* more than a few pieces, or it is not known how much will come */
+    bool is_large; /* a file of more than a few pieces; what comes from elsewhere may keep a reader waiting, and is not */
 };
 
 /* False: the fault says what the system says. */

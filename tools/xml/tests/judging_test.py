@@ -296,6 +296,22 @@ class Ends(InFolder):
             self.assertIn(run.returncode, (1, 2, 4, 127, -11 if b"error while loading" in run.stderr else 4), (size, run.stdout, run.stderr))
         self.assertIn(2, seen)
 
+    def test_an_answer_does_not_wait_for_the_rest(self):
+        """What is malformed ends the reading of a pipe at once."""
+        with subprocess.Popen([RNCV_XML, "s.rnc", "-"], cwd=self.folder, stdin=subprocess.PIPE, stdout=subprocess.PIPE) as run:
+            run.stdin.write(b'<a x="1"><p:b/>' + b"<b/>" * 10_000)
+            run.stdin.flush()
+            self.assertEqual(run.wait(30), 2)
+            self.assertRegex(run.stdout.read(), b"^-:1:10: malformed P11: ")
+
+    def test_one_thread_and_two_say_the_same(self):
+        good = '<a x="1">\n' + "<!-- some words -->\n" * 30_000 + "<b/></a>"
+        for number, text in enumerate((good, good[:-4], good.replace("<b/>", "<c/>"), good.replace("<b/>", "<p:b/>"), good + "<", good.replace('"1"', "1"))):
+            self.write(f"{number}.xml", text)
+            one, two = (self.judge("-j", jobs, "--all", "s.rnc", f"{number}.xml") for jobs in ("1", "2"))
+            self.assertEqual(one, two)
+            self.assertEqual(one[1], (0, 2, 1, 2, 2, 2)[number])
+
     def test_costs(self):
         self.write("r.rnc", "element r { element b { attribute x { text }, text }* }")
         small, large = (peak_of([RNCV_XML, "-j1", self.folder / "r.rnc", self.write("d.xml", "<r>" + '<b x="1">t</b>\n' * count + "</r>")])
