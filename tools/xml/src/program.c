@@ -2,15 +2,20 @@
 
 #include <errno.h>
 #include <fcntl.h>
-#include <signal.h>
 #include <string.h>
 #include <sys/stat.h>
 #include <unistd.h>
 
 enum { LARGE_BYTES = 262144 };
 
+volatile sig_atomic_t bar_is_shown = 0;
+
 static void interrupted(int number) {
+    static const char line_without_bar[] = "\r\033[K";
     (void)number;
+    if (bar_is_shown && write(2, line_without_bar, sizeof line_without_bar - 1) < 0) {
+        _exit(STATUS_INTERRUPTED); /* the terminal has gone */
+    }
     _exit(STATUS_INTERRUPTED);
 }
 

@@ -5,6 +5,8 @@
 #include "bytes.h"
 #include "conversion.h"
 
+#include <signal.h>
+
 #define PROGRAM_VERSION "0.1.0"
 
 /* The exit statuses; the greatest of them is the program's. */
@@ -18,6 +20,9 @@ enum {
     STATUS_INTERRUPTED = 130,
     STATUS_CLOSED_PIPE = 141
 };
+
+/* Whether a bar stands on the terminal, which Ctrl-C takes away: the one thing that the handler of a signal has to know. */
+extern volatile sig_atomic_t bar_is_shown;
 
 /* Which of the standard streams were closed when the program began. */
 struct streams {

@@ -47,7 +47,8 @@ class Lines(InFolder):
         self.invalid(hours, '<a at="2" k="of"/>', "1:1: invalid: at attribute k")
         self.invalid(hours, '<a at="2" l="on"/>', "1:1: invalid: at attribute l")
         self.invalid(hours, '<a k="on"/>', "1:1: invalid: at <a>")
-        self.invalid("element a { element b { attribute x { 'yes' }, attribute y { 'no' } } }", '<a>\n <b x="yes" y="yes"/></a>', "2:2: invalid: at attribute y")
+        self.invalid("element a { element b { attribute x { 'yes' }, attribute y { 'no' } } }", '<a>\n <b x="yes" y="yes"/></a>',
+                     "2:2: invalid: at attribute y")
 
     def test_long_texts_are_shown_by_their_beginning(self):
         self.invalid("element a { xsd:integer }", f"<a>{'x' * 100}</a>", f'1:4: invalid: at text "{"x" * 40}.."')
@@ -221,7 +222,8 @@ class Formats(InFolder):
         self.assertEqual(self.judge("--color", "always", "s.rnc", "bad.xml")[0], colored)
         self.wanted("script")
         environment = {name: value for name, value in os.environ.items() if name != "NO_COLOR"}
-        for more, wanted in (({}, colored), ({"NO_COLOR": "1"}, "bad.xml:3:3: invalid: at <c>\n"), ({"TERM": "dumb"}, "bad.xml:3:3: invalid: at <c>\n")):
+        plain = "bad.xml:3:3: invalid: at <c>\n"
+        for more, wanted in (({}, colored), ({"NO_COLOR": "1"}, plain), ({"TERM": "dumb"}, plain)):
             run = subprocess.run(["script", "-qec", f"{RNCV_XML} s.rnc bad.xml", "/dev/null"], cwd=self.folder, stdin=subprocess.DEVNULL,
                                  capture_output=True, check=False, env={**environment, "TERM": "xterm", **more})
             self.assertEqual(run.stdout.decode().replace("\r\n", "\n"), wanted)
@@ -270,7 +272,8 @@ class Ends(InFolder):
     def test_a_closed_pipe(self):
         many = "bad.xml " * 3000
         for jobs in ("1", "3"):
-            self.assertEqual(self.shell(f"rncv-xml -j {jobs} s.rnc {many} | head -n 1; echo ${{PIPESTATUS[0]}}"), ("bad.xml:3:3: invalid: at <c>\n141\n", 0))
+            script = f"rncv-xml -j {jobs} s.rnc {many} | head -n 1; echo ${{PIPESTATUS[0]}}"
+            self.assertEqual(self.shell(script), ("bad.xml:3:3: invalid: at <c>\n141\n", 0))
 
     def test_interrupt(self):
         for jobs in ("1", "3"):
@@ -306,7 +309,8 @@ class Ends(InFolder):
 
     def test_one_thread_and_two_say_the_same(self):
         good = '<a x="1">\n' + "<!-- some words -->\n" * 30_000 + "<b/></a>"
-        for number, text in enumerate((good, good[:-4], good.replace("<b/>", "<c/>"), good.replace("<b/>", "<p:b/>"), good + "<", good.replace('"1"', "1"))):
+        changed = good.replace("<b/>", "<c/>"), good.replace("<b/>", "<p:b/>"), good + "<", good.replace('"1"', "1")
+        for number, text in enumerate((good, good[:-4], *changed)):
             self.write(f"{number}.xml", text)
             one, two = (self.judge("-j", jobs, "--all", "s.rnc", f"{number}.xml") for jobs in ("1", "2"))
             self.assertEqual(one, two)
