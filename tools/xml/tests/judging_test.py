@@ -8,7 +8,7 @@ import sys
 import time
 import unittest
 
-from testing import PROGRAMS, RNCV_XML, SCHEMA, TOP, InFolder, peak_of
+from testing import RNCV_XML, SCHEMA, TOP, InFolder, peak_of
 
 
 class Lines(InFolder):
@@ -330,5 +330,4 @@ class Ends(InFolder):
 
 
 if __name__ == "__main__":
-    print(PROGRAMS)
     unittest.main(verbosity=1)
