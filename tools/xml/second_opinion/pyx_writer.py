@@ -1,4 +1,4 @@
-"""XML to PYX lines, as a stream: what `xml2pyx` and `rncv-xml` share. Nothing here is proved.
+"""XML to PYX lines, as a stream: a second opinion on what the programs in C make of a document. Nothing here is proved.
 
 The PYX is that of docs/LANGUAGE.md. Memory is bounded by one tag and one piece of text, and not by the document.
 """

@@ -6,7 +6,7 @@
 #include <string.h>
 
 enum {
-    PIECE_BYTES = 16384,  /* of PYX, handed on at once */
+    PIECE_BYTES = 65536,  /* of PYX, handed on at once */
     TEXT_CHARACTERS = 65536 /* of a text that are held at most */
 };
 

@@ -2,15 +2,20 @@
 
 #include <errno.h>
 #include <fcntl.h>
-#include <signal.h>
 #include <string.h>
 #include <sys/stat.h>
 #include <unistd.h>
 
 enum { LARGE_BYTES = 262144 };
 
+volatile sig_atomic_t bar_is_shown = 0;
+
 static void interrupted(int number) {
+    static const char line_without_bar[] = "\r\033[K";
     (void)number;
+    if (bar_is_shown && write(2, line_without_bar, sizeof line_without_bar - 1) < 0) {
+        _exit(STATUS_INTERRUPTED); /* the terminal has gone */
+    }
     _exit(STATUS_INTERRUPTED);
 }
 
@@ -108,7 +113,7 @@ bool source_open(struct source *source, const char *name, struct streams streams
         fault_set(fault, FAULT_DEVICE, (struct place){0, 0}, "%s", strerror(errno));
         return false;
     }
-    source->is_large = fstat(source->file, &found) != 0 || !S_ISREG(found.st_mode) || found.st_size > LARGE_BYTES;
+    source->is_large = fstat(source->file, &found) == 0 && S_ISREG(found.st_mode) && found.st_size > LARGE_BYTES;
     return true;
 }
 

@@ -5,6 +5,8 @@
 #include "bytes.h"
 #include "conversion.h"
 
+#include <signal.h>
+
 #define PROGRAM_VERSION "0.9.0"
 
 /* The exit statuses; the greatest of them is the program's. */
@@ -18,6 +20,9 @@ enum {
     STATUS_INTERRUPTED = 130,
     STATUS_CLOSED_PIPE = 141
 };
+
+/* Whether a bar stands on the terminal, which Ctrl-C takes away: the one thing that the handler of a signal has to know. */
+extern volatile sig_atomic_t bar_is_shown;
 
 /* Which of the standard streams were closed when the program began. */
 struct streams {
@@ -47,7 +52,7 @@ struct source {
     int file;
     bool is_open;
     bool is_input;
-    bool is_large; /* more than a few pieces, or it is not known how much will come */
+    bool is_large; /* a file of more than a few pieces; what comes from elsewhere may keep a reader waiting, and is not */
 };
 
 /* False: the fault says what the system says. */

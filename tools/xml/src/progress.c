@@ -1,6 +1,6 @@
 #include "progress.h"
 
-#include "bytes.h"
+#include "program.h"
 
 #include <unistd.h>
 
@@ -66,6 +66,7 @@ void progress_tick(void *context) {
     bytes_add_text(&line, " MB\033[K");
     pthread_mutex_lock(&progress->lock);
     progress->is_shown = true;
+    bar_is_shown = 1;
     draw(&line);
     pthread_mutex_unlock(&progress->lock);
     bytes_free(&line);
@@ -82,6 +83,7 @@ void progress_hide(struct progress *progress) {
         draw(&line);
         bytes_free(&line);
         progress->is_shown = false;
+        bar_is_shown = 0;
     }
     pthread_mutex_unlock(&progress->lock);
 }

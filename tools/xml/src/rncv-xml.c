@@ -186,7 +186,8 @@ int main(int count, char **words) {
     int status;
     if (!options_read(&options, count, words)) {
         struct bytes line = NO_BYTES;
-        bytes_format(&line, "rncv-xml: %s\nusage: rncv-xml [OPTIONS] SCHEMA.rnc [DOCUMENT.xml | FOLDER | -]..    (--help says more)", bytes_text(&options.wrong));
+        bytes_format(&line, "rncv-xml: %s\nusage: rncv-xml [OPTIONS] SCHEMA.rnc [DOCUMENT.xml | FOLDER | -]..    (--help says more)",
+                     bytes_text(&options.wrong));
         tell_line(bytes_text(&line));
         bytes_free(&line);
         status = STATUS_USAGE;

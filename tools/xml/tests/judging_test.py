@@ -8,7 +8,7 @@ import sys
 import time
 import unittest
 
-from testing import PROGRAMS, RNCV_XML, SCHEMA, TOP, InFolder, peak_of
+from testing import RNCV_XML, SCHEMA, TOP, InFolder, peak_of
 
 
 class Lines(InFolder):
@@ -47,7 +47,8 @@ class Lines(InFolder):
         self.invalid(hours, '<a at="2" k="of"/>', "1:1: invalid: at attribute k")
         self.invalid(hours, '<a at="2" l="on"/>', "1:1: invalid: at attribute l")
         self.invalid(hours, '<a k="on"/>', "1:1: invalid: at <a>")
-        self.invalid("element a { element b { attribute x { 'yes' }, attribute y { 'no' } } }", '<a>\n <b x="yes" y="yes"/></a>', "2:2: invalid: at attribute y")
+        self.invalid("element a { element b { attribute x { 'yes' }, attribute y { 'no' } } }", '<a>\n <b x="yes" y="yes"/></a>',
+                     "2:2: invalid: at attribute y")
 
     def test_long_texts_are_shown_by_their_beginning(self):
         self.invalid("element a { xsd:integer }", f"<a>{'x' * 100}</a>", f'1:4: invalid: at text "{"x" * 40}.."')
@@ -221,7 +222,8 @@ class Formats(InFolder):
         self.assertEqual(self.judge("--color", "always", "s.rnc", "bad.xml")[0], colored)
         self.wanted("script")
         environment = {name: value for name, value in os.environ.items() if name != "NO_COLOR"}
-        for more, wanted in (({}, colored), ({"NO_COLOR": "1"}, "bad.xml:3:3: invalid: at <c>\n"), ({"TERM": "dumb"}, "bad.xml:3:3: invalid: at <c>\n")):
+        plain = "bad.xml:3:3: invalid: at <c>\n"
+        for more, wanted in (({}, colored), ({"NO_COLOR": "1"}, plain), ({"TERM": "dumb"}, plain)):
             run = subprocess.run(["script", "-qec", f"{RNCV_XML} s.rnc bad.xml", "/dev/null"], cwd=self.folder, stdin=subprocess.DEVNULL,
                                  capture_output=True, check=False, env={**environment, "TERM": "xterm", **more})
             self.assertEqual(run.stdout.decode().replace("\r\n", "\n"), wanted)
@@ -270,7 +272,8 @@ class Ends(InFolder):
     def test_a_closed_pipe(self):
         many = "bad.xml " * 3000
         for jobs in ("1", "3"):
-            self.assertEqual(self.shell(f"rncv-xml -j {jobs} s.rnc {many} | head -n 1; echo ${{PIPESTATUS[0]}}"), ("bad.xml:3:3: invalid: at <c>\n141\n", 0))
+            script = f"rncv-xml -j {jobs} s.rnc {many} | head -n 1; echo ${{PIPESTATUS[0]}}"
+            self.assertEqual(self.shell(script), ("bad.xml:3:3: invalid: at <c>\n141\n", 0))
 
     def test_interrupt(self):
         for jobs in ("1", "3"):
@@ -296,6 +299,23 @@ class Ends(InFolder):
             self.assertIn(run.returncode, (1, 2, 4, 127, -11 if b"error while loading" in run.stderr else 4), (size, run.stdout, run.stderr))
         self.assertIn(2, seen)
 
+    def test_an_answer_does_not_wait_for_the_rest(self):
+        """What is malformed ends the reading of a pipe at once."""
+        with subprocess.Popen([RNCV_XML, "s.rnc", "-"], cwd=self.folder, stdin=subprocess.PIPE, stdout=subprocess.PIPE) as run:
+            run.stdin.write(b'<a x="1"><p:b/>' + b"<b/>" * 10_000)
+            run.stdin.flush()
+            self.assertEqual(run.wait(30), 2)
+            self.assertRegex(run.stdout.read(), b"^-:1:10: malformed P11: ")
+
+    def test_one_thread_and_two_say_the_same(self):
+        good = '<a x="1">\n' + "<!-- some words -->\n" * 30_000 + "<b/></a>"
+        changed = good.replace("<b/>", "<c/>"), good.replace("<b/>", "<p:b/>"), good + "<", good.replace('"1"', "1")
+        for number, text in enumerate((good, good[:-4], *changed)):
+            self.write(f"{number}.xml", text)
+            one, two = (self.judge("-j", jobs, "--all", "s.rnc", f"{number}.xml") for jobs in ("1", "2"))
+            self.assertEqual(one, two)
+            self.assertEqual(one[1], (0, 2, 1, 2, 2, 2)[number])
+
     def test_costs(self):
         self.write("r.rnc", "element r { element b { attribute x { text }, text }* }")
         small, large = (peak_of([RNCV_XML, "-j1", self.folder / "r.rnc", self.write("d.xml", "<r>" + '<b x="1">t</b>\n' * count + "</r>")])
@@ -310,5 +330,4 @@ class Ends(InFolder):
 
 
 if __name__ == "__main__":
-    print(PROGRAMS)
     unittest.main(verbosity=1)

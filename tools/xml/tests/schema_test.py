@@ -170,15 +170,18 @@ class Loosened(InFolder):
 
     def setUp(self):
         super().setUp()
-        self.write("main.rnc", 'include "b.rnc"\nstart = element feed { element updated { xsd:token }, a }\n# rncv-profile: 1 datatype loosened, see main.profile.txt\n')
-        self.write("b.rnc", "a = attribute x { xsd:token }, attribute y { xsd:token }\n# rncv-profile: 2 datatypes loosened, see main.profile.txt\n")
+        self.write("main.rnc", 'include "b.rnc"\nstart = element feed { element updated { xsd:token }, a }\n'
+                               "# rncv-profile: 1 datatype loosened, see main.profile.txt\n")
+        self.write("b.rnc", "a = attribute x { xsd:token }, attribute y { xsd:token }\n"
+                            "# rncv-profile: 2 datatypes loosened, see main.profile.txt\n")
         self.write("feed.xml", '<feed x="" y=""><updated>yesterday</updated></feed>')
 
     def test_the_closing_line(self):
         told = "by a schema that 3 datatypes were loosened in (see main.profile.txt)"
         self.assertEqual(self.run_in(RNCV_XML, "main.rnc", "feed.xml"), ("", f"1 valid, {told}\n", 0))
         many = "feed.xml\n" * 2_000
-        self.assertEqual(self.run_in(RNCV_XML, "--files-from", "-", "main.rnc", "good.xml", given=many.encode())[1:], (f"2,000 valid, 1 invalid, {told}\n", 1))
+        self.assertEqual(self.run_in(RNCV_XML, "--files-from", "-", "main.rnc", "good.xml", given=many.encode())[1:], (
+            f"2,000 valid, 1 invalid, {told}\n", 1))
         self.assertEqual(self.run_in(RNCV_XML, "--quiet", "main.rnc", "feed.xml"), ("", "", 0))
 
     def test_strict_profile(self):

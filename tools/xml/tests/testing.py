@@ -1,4 +1,7 @@
-"""What the tests of `rncv-xml` and `xml2pyx` share. The variable RNCV_XML_PROGRAMS names the folder with the two programs, RNCV_PROGRAM the built `rncv`."""
+"""What the tests of `rncv-xml` and `xml2pyx` share.
+
+The variable RNCV_XML_PROGRAMS names the folder with the two programs, RNCV_PROGRAM the built `rncv`.
+"""
 import os
 import pathlib
 import shutil
