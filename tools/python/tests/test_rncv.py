@@ -73,7 +73,7 @@ class Documents(unittest.TestCase):
                 self.assertEqual(self.judged(validator, (path / "document.pyx").read_bytes()), VALID)
 
     def test_letters(self):
-        told = page("README.md")
+        told = page("docs/LANGUAGE.md")
         self.assertIn("\nvalid\n", told)
         document = (LETTER / "document.pyx").read_bytes()
         with rncv.compile(LETTER / "s.rnc") as validator:
@@ -259,7 +259,7 @@ class Schemas(unittest.TestCase):
         rncv.compile(files).close()
 
     def test_simple_text(self):
-        told = page("README.md")
+        told = page("docs/LANGUAGE.md")
         with rncv.compile(LETTER / "s.rnc") as validator:
             text = validator.simple_text()
             self.assertIn(f"$ rncv simple s.rnc\n{text.decode()}```", told)
