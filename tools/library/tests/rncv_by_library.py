@@ -15,9 +15,10 @@ STATUS = {"Good": 0, "Invalid": 1, "Malformed": 2, "Refused": 3}
 
 def main():
     words = sys.argv[1:]
-    if "--" in words:
-        words.remove("--")
-    if len(words) < 2 or words[0] not in ("valid", "check", "simple"):
+    marked = words.index("--") if "--" in words else len(words)
+    has_option = any(len(word) > 1 and word.startswith("-") for word in words[:marked])
+    words = words[:marked] + words[marked + 1 :]
+    if has_option or len(words) < 2 or words[0] not in ("valid", "check", "simple"):
         print("usage: rncv valid|check|simple FILES..", file=sys.stderr)
         return 5
     here = os.path.dirname(os.path.abspath(__file__))
