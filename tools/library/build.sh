@@ -3,7 +3,7 @@
 #
 # FOLDER (else build/library at the top of the repository) then has include/rncv.h, lib/librncv.a, lib/librncv.so and lib/pkgconfig/rncv.pc.
 # BACKEND is `llvm` or `rattle`, the compiler of the proved code. PREFIX says where the files will be installed; else rncv.pc names FOLDER.
-# It wants `rt`, a C compiler and binutils. `rt lib` proves what has changed.
+# It wants `rt`, a C compiler and binutils. What has changed is proved (archive.sh).
 set -eu
 
 here=$(cd "$(dirname "$0")" && pwd)
@@ -24,8 +24,8 @@ version=$(number MAJOR).$(number MINOR).$(number PATCH)
 # RNCV_ARCHIVE names a built librncv_c.a, and then nothing is proved here.
 archive=${RNCV_ARCHIVE:-}
 if [ -z "$archive" ]; then
-    archive=$top/crates/rncv_c/out/librncv_c.a
-    (cd "$top/crates/rncv_c" && rt lib --backend "$backend") > "$folder/rt-lib.log" 2>&1 || { cat "$folder/rt-lib.log"; exit 1; }
+    archive=$folder/librncv_c.a
+    "$here/archive.sh" "$backend" "$archive" > "$folder/archive.log" 2>&1 || { cat "$folder/archive.log"; exit 1; }
 fi
 
 # One object: the proved code, the kit's three functions over malloc, realloc and free, and the titles of the clauses. It shows the names of
@@ -43,4 +43,4 @@ $cc -shared -o "$folder/lib/librncv.so.$version" "$folder/rncv.o" -Wl,-soname,"l
 ln -sf "librncv.so.$version" "$folder/lib/librncv.so.$major"
 ln -sf "librncv.so.$major" "$folder/lib/librncv.so"
 sed -e "s|@prefix@|$prefix|" -e "s|@version@|$version|" "$here/rncv.pc.in" > "$folder/lib/pkgconfig/rncv.pc"
-rm -rf "$folder/objects" "$folder/rncv.o"
+rm -rf "$folder/objects" "$folder/rncv.o" "$folder/librncv_c.a"
