@@ -31,11 +31,11 @@ set -- "$@" -L "dependency=$kit/rlibs"
 for folder in "$top"/crates/*/out/rlib; do
     set -- "$@" -L "dependency=$folder"
 done
-set -- "$@" --antt-project "$kit/rattle/logic/antt-project.json" --logic-built "$kit/logic_built" --links rncv_c=
+set -- "$@" --antt-project "$kit/rattle/logic/antt-project.json" --links rncv_c=
 
 # one check serves both compilers
 checked=$top/build/library-checked
 mkdir -p "$top/build"
 cd "$crate"
-[ -d "$checked" ] || "$kit/bin/rattle" check "$@" --jobs 2 -o "$checked"
+[ -d "$checked" ] || "$kit/bin/rattle" check "$@" --logic-built "$kit/logic_built" --jobs 2 -o "$checked"
 "$kit/bin/rattle" build "$@" --crate-checked "$checked" --toolchain "$kit/toolchain" --backend "$backend" -o "$file"
