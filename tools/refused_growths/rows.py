@@ -1,9 +1,10 @@
 #!/usr/bin/env python3
-"""Runs a program over rows of schemas and documents with each growth of memory refused in turn:   rows.py PROGRAM SHIM [ROWS]
+"""Runs a program with each growth of memory refused in turn:   rows.py PROGRAM SHIM [valid|check|simple DOCUMENT FILE..]
 
-PROGRAM is the built `rncv`, or another that answers as it does (`by_library.c`). SHIM is `refuse.c` as a shared object. ROWS is a file of rows, else
-`rows.txt`. A run whose growth was refused has to answer `rncv: out of memory`, with status 4 and nothing on standard output, or exactly as the row says.
-Only a refused shrink may leave the answer. test.sh builds what is needed and calls this.
+PROGRAM is the built `rncv`, or another that answers as it does (`by_library.c`). SHIM is `refuse.c` as a shared object. The rows of `rows.txt` are run,
+and words that are no command line; or one row with these files, whose answer is that of a run in which nothing is refused. A run whose growth was
+refused has to answer `rncv: out of memory`, with status 4 and nothing on standard output. Only a refused shrink may leave the row's own answer. test.sh
+and run.sh build what is needed and call this.
 """
 import os
 import pathlib
@@ -25,6 +26,9 @@ class Row:
 
     def __init__(self, words, files, document, wanted):
         self.words, self.files, self.document, self.wanted = words, files, document, wanted
+
+    def __str__(self):
+        return " ".join(os.fsdecode(word) for word in self.words)[:60]
 
     @classmethod
     def read(cls, line):
@@ -58,7 +62,7 @@ class Runner:
         actions += [(os.POSIX_SPAWN_DUP2, stream, at) for at, stream in enumerate(streams, 1)]
         child = os.posix_spawn(self._program, [self._program, *row.words], {**self._environment, "REFUSE": str(growth)}, file_actions=actions)
         status = os.waitstatus_to_exitcode(os.waitpid(child, 0)[1])
-        out, errors, told = (os.pread(stream, 100_000, 0) for stream in streams)
+        out, errors, told = (os.pread(stream, 1 << 22, 0) for stream in streams)
         return (status, out, errors), told
 
 
@@ -75,7 +79,7 @@ class Count:
             self.left += 1
         elif answer != NO_MEMORY:
             self.wrong += 1
-            print(f"growth {growth} ({letter.decode()}) of {row.words[:5]}: {answer}, and not out of memory")
+            print(f"growth {growth} ({letter.decode()}) of {row}: {answer}, and not out of memory")
 
 
 def refuse_each(runner, row, count):
@@ -84,7 +88,7 @@ def refuse_each(runner, row, count):
     answer, letter = runner.run(row, 0)
     if answer != row.wanted or letter:
         count.wrong += 1
-        print(f"{row.words[:5]}: {answer}, and not {row.wanted}")
+        print(f"{row}: {answer}, and not {row.wanted}")
         return
     growth = 0
     while letter or growth == 0:
@@ -94,7 +98,7 @@ def refuse_each(runner, row, count):
             count.take(row, growth, answer, letter)
         elif answer != row.wanted or growth == 1:
             count.wrong += 1
-            print(f"{row.words[:5]}: {answer} with no growth refused, of {growth - 1}")
+            print(f"{row}: {answer} with no growth refused, of {growth - 1}")
 
 
 def rows_of(path):
@@ -104,14 +108,24 @@ def rows_of(path):
     return rows + [Row(words, [(b"s.rnc", b"element a { empty }")], b"", USAGE) for words in WRONG_WORDS]
 
 
-def main(program, shim, path=HERE / "rows.txt"):
-    """Tries all rows, and answers the exit status."""
-    program, shim, rows = os.path.abspath(program), os.path.abspath(shim), rows_of(path)
-    count = Count()
-    signal.alarm(SECONDS)
+def row_over(runner, command, document, *names):
+    """The row of files that are there."""
+    row = Row([command, *names], [], pathlib.Path(document).read_bytes(), None)
+    runner.begin(row)
+    row.wanted = runner.run(row, 0)[0]
+    return row
+
+
+def main(program, shim, *words):
+    """Tries all rows, or the one of these words, and answers the exit status."""
+    count, rows = Count(), [] if words else rows_of(HERE / "rows.txt")
+    signal.alarm(0 if words else SECONDS)
     with tempfile.TemporaryDirectory() as folder, tempfile.TemporaryDirectory() as room:
-        os.chdir(folder)
-        runner = Runner(program, shim, room)
+        runner = Runner(os.path.abspath(program), os.path.abspath(shim), room)
+        if words:
+            rows.append(row_over(runner, *words))
+        else:
+            os.chdir(folder)
         for row in rows:
             refuse_each(runner, row, count)
         os.chdir("/")
