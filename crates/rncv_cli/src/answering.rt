@@ -22,9 +22,10 @@ use std::io::{ErrorKind, Read, Write};
 /// The words are those that `std::env::args` returns, the program's name first. `open_file` opens the file with a name,
 /// as `std::fs::open` does. `reader` has the document. The answer is written to `writer`.
 ///
-/// Fails with `Usage` if the words are no command line, or if an error is in their place, as for a word that is not
-/// UTF-8. Fails with `Memory` if such an error is out of memory. Only the answer for the given words is written, or a
-/// beginning of it after a failed write or flush. Costs what `answer_words` costs, and copies of the words.
+/// Fails with `Usage` if the words are no command line, or if `args` returned an error in their place, as for a word
+/// that is not UTF-8. Fails with `Memory` if such an error is out of memory. Only the answer for the given words is
+/// written, or a beginning of it after a failed write or flush. Costs what `answer_words` costs, and copies of the
+/// words.
 pub fn answer_command_line<O: Fn(&str) -> io::Result<T>, T: Read + Drop, R: Read + Drop, W: Write>(
     alloc: Global,
     given: io::Result<Args>,
@@ -53,11 +54,11 @@ pub fn answer_command_line<O: Fn(&str) -> io::Result<T>, T: Read + Drop, R: Read
     }
 }
 
-/// Reads the files that the words name, runs the command with a reader that has the document, writes the answer,
+/// Reads the files that the words name, and runs the command with a reader that has the document. Writes the answer,
 /// flushes the writer, and returns it. `open_file` opens the file with a name.
 ///
-/// The answer and the status are those of `run` for the command and for what is read of the files, the first of which
-/// is the main one. Fails with `File` and the first file that cannot be read, before the document is read. Fails with
+/// The answer and the status are those of `run` for the command and for what is read of the files. The first file is
+/// the main one. Fails with `File` and the first file that cannot be read, before the document is read. Fails with
 /// `Read` if a read of the document failed, with `Write` if a write or flush failed, and with `Memory` when out of
 /// memory. After `Write`, a beginning of the answer is written, or all of it; after any other fault nothing is. Costs
 /// what `read_files` and `run` cost.

@@ -1,9 +1,9 @@
 //! What is around `run` in the program `rncv`: its words, its files, its faults and its exit status.
 //!
 //! `answer_command_line` writes the answer of `run` for the words of the command line and for what is read of their
-//! files, the first of which is the main one. After a fault, at most a beginning of that answer is written. `words`
-//! accepts exactly the words of a command line. A `Fault` is printed as its line on standard error. `exit_of` returns
-//! the exit status of each answer.
+//! files. The first file is the main one. After a fault, at most a beginning of that answer is written. `words` accepts
+//! exactly the words of a command line. A `Fault` is printed as its line on standard error. `exit_of` returns the exit
+//! status of each answer.
 #![tactic(auto)]
 
 mod answering;

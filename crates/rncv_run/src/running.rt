@@ -32,8 +32,8 @@ use std::io::{Read, Write};
 /// - For `Valid`, the verdict on the document that `input` has left: `malformed Pk line N` with its first fault if it
 ///   is no document. Otherwise `valid` exactly if it matches the schema by the rules of section 6 of the RELAX NG
 ///   Specification, applied to the files as they are written. Otherwise `invalid line N`: no document that begins with
-///   its lines up to line N is valid, and no element before line N has a name that no element of the schema's simple
-///   form may have.
+///   its lines up to line N is valid. No start that is reported before line N has a name that no element of the
+///   schema's simple form may have.
 ///
 /// A line feed ends the line. If the schema is refused, the input is not read. The bytes of files that the main one
 /// does not reach are ignored.

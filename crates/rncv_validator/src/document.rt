@@ -116,9 +116,9 @@ impl Document {
     /// The verdict is `Malformed` with the first fault if the bytes that were fed are no document. Otherwise it is
     /// `Valid` exactly if the document matches the schema by the rules of section 6 of the RELAX NG Specification,
     /// applied to the files as they are written. Otherwise it is `Invalid` with a line. No document that begins with
-    /// the lines up to this line is valid, and no element before it has a name that no element of the schema's simple
-    /// form may have. The verdict is an error only if this call, or an earlier call for the document, ran out of
-    /// memory.
+    /// the lines up to this line is valid. No start that is reported before this line has a name that no element of the
+    /// schema's simple form may have. The verdict is an error only if this call, or an earlier call for the document,
+    /// ran out of memory.
     pub fn finish(self) -> (Validator, Result<Verdict, OutOfMemory>)
         ensures grammar { result.0 ≡ self.grammar }
         ensures verdict { IfOk result.1 (λ v. (s : Schema) (bytes : List ℕ) → Judges self.grammar s → HasBeenFed self bytes → IsVerdictOn s bytes v) }

@@ -93,9 +93,9 @@ impl<'a> Matcher<'a> {
     /// Returns the outcome of the document with the events that were taken: `Valid` exactly if the document is valid by
     /// the grammar, otherwise `Invalid` with the line of one of its events, counted from 1.
     ///
-    /// No continuation after the event of that line is valid, and before it each element has a name that the grammar
-    /// has. The line need not be the first such line. RELAX NG Specification, section 6.3. Fails exactly if a call of
-    /// `event` ran out of memory. Allocates nothing. Costs a test of each alternative.
+    /// No continuation after the event of that line is valid, and each start before it has a name that the grammar has.
+    /// The line need not be the first such one. RELAX NG Specification, section 6.3. Fails exactly if a call of `event` ran
+    /// out of memory. Allocates nothing. Costs a test of each alternative.
     pub fn outcome(&self) -> Result<Outcome, OutOfMemory>
         ensures outcome { IfOk result (λ o. (bytes : List ℕ) (d : Placed) → IsPyxDocument bytes d → Knows self.now (events_of d)
             → IsOutcome (judges_by self.now) d o) }
@@ -124,10 +124,10 @@ impl Events for Matcher<'_> {
     /// Takes the next event.
     ///
     /// RELAX NG Specification, section 6.2. Fails only when out of memory. After that, each call fails with that error.
-    /// A start costs some look-ups by hashing for each alternative of the innermost open element whose pattern and name
-    /// are known, and otherwise a walk through the parts of the pattern. The same holds for each attribute, and for a
-    /// text. An end costs a choice for each way out of the element. If there are many patterns, those that are not held
-    /// are freed, in one pass over all.
+    /// A start costs, for each alternative of the innermost open element, some look-ups by hashing if its pattern and
+    /// the name are known. Otherwise it costs a walk through the parts of the pattern. The same holds for each
+    /// attribute, and for a text. An end costs a choice for each way out of the element. If there are many patterns,
+    /// those that are not held are freed, in one pass over all.
     fn event(&mut self, event: Event<'_>) -> Result<(), OutOfMemory>
         ensures stands { OnOk result (Hands HasGoneOn self.old self.new (event_of event.entry ∷ [])) }
         ensures kept { OnOk result (¬ (HasRunOut self.new)) }

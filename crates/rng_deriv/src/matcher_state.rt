@@ -8,8 +8,7 @@ use crate::progress::Progress;
 /// What a matcher keeps of a document, and what it has learned about a grammar, without the grammar.
 ///
 /// `Matcher::into_state` returns it, and `Matcher::resume` makes a matcher from it and the grammar. So a document can
-/// be kept between two of its pieces where a borrow of the grammar is impossible, as in a structure that is passed to
-/// C.
+/// be kept between two of its pieces in a structure that cannot borrow the grammar, such as one that is passed to C.
 #[derive(Drop)]
 pub struct MatcherState {
     pub(crate) learned: Learned,

@@ -39,10 +39,10 @@ ghost use Rattle.rng_deriv_laws.specs.plain.LevelEvents.{LevelsAnswer, NoLevelsA
 /// document that begins with the events so far is valid. The state is `never` after a start whose name is in the class
 /// of no element, and after the events of an invalid document.
 ///
-/// A matcher of levels whose events obey the rules of `LevelEvents` has a nullable alternative after the events of a
-/// document exactly if the document is valid. If all alternatives are notAllowed, or if none is nullable at the end of
-/// a document, no document that begins with the events so far is valid. A start whose name is in the class of no
-/// element leaves no alternative.
+/// A matcher of levels is one whose events obey the rules of `LevelEvents`. After the events of a document, it has a
+/// nullable alternative exactly if the document is valid. If all alternatives are notAllowed, or if none is nullable at
+/// the end of a document, no document that begins with the events so far is valid. A start whose name is in the class
+/// of no element leaves no alternative.
 pub fn matching_laws()
     ensures accepted { AcceptsValidDocuments }
     ensures never { NeverIsInvalid }

@@ -2,7 +2,7 @@
 //!
 //! The definitions that the contracts of all other crates cite are in this crate's `specs/`: which names a class holds,
 //! which documents a pattern matches, and which lines are a document. Its own calls keep the invariants of the tables
-//! of a simple grammar, count the failed calls of a reader or a writer, and write a whole slice to a device.
+//! of a simple grammar. They count the failed calls of a reader or a writer, and write a whole slice to a device.
 #![tactic(auto)]
 
 mod blanks;

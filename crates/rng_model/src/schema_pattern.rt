@@ -3,8 +3,8 @@ use crate::datatype::{Datatype, DatatypeValue};
 use crate::name::NameClass;
 use crate::place::Place;
 
-/// A pattern as it is written in a schema of one or more grammars, with its members in their order, and with mentions
-/// of files followed.
+/// A pattern as it is written in a schema of one or more grammars. Its members are in order, and mentions of files are
+/// followed.
 ///
 /// RELAX NG Specification, section 3, and sections 4.6, 4.7 and 4.18 for other files and nested grammars. A choice of
 /// no members means `NotAllowed`, a group or an interleave of none means `Empty`. One of one member means that member.

@@ -115,7 +115,7 @@ abbrev pub prefixes_of_body : syntax.Body → List Declarable
 prefixes_of_body (syntax.pattern_body p) = prefixes_of_pattern p
 prefixes_of_body (syntax.grammar_body cs) = prefixes_of_components cs
 
--- it is in this body
+-- the prefix is in this body
 abbrev pub IsPrefixIn : Declarable → syntax.Body → Type 0
 IsPrefixIn x b = Among x (prefixes_of_body b)
 

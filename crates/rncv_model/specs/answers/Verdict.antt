@@ -23,8 +23,8 @@ StartsUnknown IsUnknown (a_start name attrs) = IsUnknown name
 StartsUnknown IsUnknown (a_string text) = ⊥
 StartsUnknown IsUnknown an_end = ⊥
 
--- The bytes are a document, and n is one of its lines. No document that begins with its lines up to n is valid. Before
--- line n there is no start of an element with a name that no element may have.
+-- The bytes are a document, and n is one of its lines. No document that begins with its lines up to n is valid. No
+-- start of an element with a name that no element may have is reported before line n.
 pub record IsInvalidFrom (IsValid : Item → Type 0) (IsUnknown : Name → Type 0) (bytes : List ℕ) (n : ℕ) : Type 0 where
   pub document : Placed
   pub is_document : IsPyxDocument bytes document
