@@ -92,7 +92,7 @@ pub extern "C" fn rncv_document_begin(alloc: Global, schema: &mut Handle) -> i32
 /// Passes the next piece of the document, of any length.
 ///
 /// Returns 0 on success; 2 if the document breaks a clause; 3 when out of memory; 4 exactly if no document is begun.
-/// After 2 or 3, every later call for the document returns the same. One pass over the piece.
+/// After 2 or 3, every later call of this function for the document returns the same. One pass over the piece.
 #[unsafe(no_mangle)]
 pub extern "C" fn rncv_document_feed(alloc: Global, schema: &mut Handle, bytes: &[u8]) -> i32
     ensures taken { IfSome (document_in schema.old.held) (λ d. IsSomeAnd (document_in schema.new.held) (HasTaken bytes.now result d)) }

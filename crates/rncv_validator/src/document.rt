@@ -33,9 +33,9 @@ pub struct Document {
     pub(crate) alloc: Global,
     pub(crate) grammar: Arc<SimpleGrammar>,
     pub(crate) reader: Reader,
-    /// What the matcher keeps: `None` while the matcher works, and after it ran out of memory.
+    /// What the matcher keeps. It is `None` while the matcher works, and after it ran out of memory.
     pub(crate) state: Option<MatcherState>,
-    /// the error that every call returns
+    /// The error that every call of `feed` returns.
     pub(crate) fault: Option<DocumentFault>,
 }
 
@@ -62,7 +62,7 @@ impl Document {
     ///
     /// Fails with `Malformed` and the broken clause of the least line, and of the least number there, whatever bytes
     /// follow. Fails with `Memory` when out of memory, and if the document would have 2^63 bytes or more. After an
-    /// error, every call returns the same error. One pass over the piece.
+    /// error, every call of `feed` returns the same error. One pass over the piece.
     ///
     /// XML 1.0, sections 2.2 and 3.1; Namespaces in XML 1.0, sections 3 to 6; RELAX NG Specification, section 6.
     pub fn feed(&mut self, piece: &[u8]) -> Result<(), DocumentFault>

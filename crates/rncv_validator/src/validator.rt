@@ -79,9 +79,9 @@ impl Validator {
 
     /// Begins a document. The document takes the validator, and returns it when it is finished.
     ///
-    /// Allocates memory for the first document, in proportion to the schema. If this fails, each call on the document
-    /// returns that error. The first document costs a look-up by hashing for each pattern of the schema, the next ones
-    /// cost nothing.
+    /// Allocates memory for the first document, in proportion to the schema. If this fails, each call of `feed` and
+    /// `finish` returns that error. The first document costs a look-up by hashing for each pattern of the schema, the
+    /// next ones cost nothing.
     pub fn document(self, alloc: Global) -> Document
         ensures grammar { result.grammar ≡ self }
         ensures begun { HasBeenFed result [] }

@@ -10,7 +10,7 @@ use std::alloc::Global;
 /// RELAX NG Specification, sections 4.6, 4.7 and 4.18: a grammar may be nested in another, and may be in another file.
 #[derive(Drop, PartialEq, Eq, Hash)]
 pub struct Place {
-    /// the outermost number first
+    /// The outermost number first.
     numbers: Vec<usize>,
 }
 

@@ -36,7 +36,7 @@ module _ {A : Type 0} (same : A → A → Bool) where
     pub reached : AllByRecursion (IsReached start line) all
 
   -- The same step by step, as it is computed. As long as something is written and has no line, the first such thing
-  -- gets its line. `lines` is the number of lines so far.
+  -- gets its line. In `numbered_from`, `lines` is the number of lines so far.
   abbrev pub numbered_at : Option A → (A → List A → List A) → List A → List A
   numbered_at None next written = written
   numbered_at (Some a) next written = next a written

@@ -18,7 +18,7 @@ use Rattle.rncv_model.specs.declared.verdict.Verdict.TheVariants.{Valid, Malform
 use Rattle.rncv_validator.specs.declared.fault.DocumentFault.{DocumentFault}
 use Rattle.rncv_validator.specs.declared.fault.DocumentFault.TheVariants as faults
 
--- a grammar, what is read, what the grammar says of it, and the fault that every call returns
+-- a grammar, what is read, what the grammar says of it, and the fault that every call of `feed` returns
 pub record Judging : Type 0 where
   pub grammar : Table
   pub reader : Kept
