@@ -25,7 +25,7 @@ pub struct Position {
     pub held: Option<Held>,
 }
 
-/// Drops the held string, given that an element is beside it: a blank string counts as nothing there (RELAX NG
+/// Settles the held string, given that an element is beside it. A blank string counts as nothing there (RELAX NG
 /// Specification, section 6.2.7).
 fn settle(position: &mut Position)
     ensures inside { (trees : List (Simple ℕ)) → IsPositionInside trees position.old → IsStateInside trees position.new.state }

@@ -55,7 +55,7 @@ module _ (files : List NamedFile) (main : Name) where
 abbrev pub tree_in : TakenFiles → Name → Option FileTree
 tree_in read f = lookup (bytes_eq f) read
 
--- the names that a file mentions; a missing file mentions nothing
+-- the names that a file mentions; a file that is not among these mentions nothing
 abbrev pub hrefs_if : Option FileTree → List Name
 hrefs_if None = []
 hrefs_if (Some t) = hrefs_of t
