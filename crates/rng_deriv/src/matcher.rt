@@ -94,8 +94,8 @@ impl<'a> Matcher<'a> {
     /// the grammar, otherwise `Invalid` with the line of one of its events, counted from 1.
     ///
     /// No continuation after the event of that line is valid, and each start before it has a name that the grammar has.
-    /// The line need not be the first such one. RELAX NG Specification, section 6.3. Fails exactly if a call of `event` ran
-    /// out of memory. Allocates nothing. Costs a test of each alternative.
+    /// The line need not be the first one of this kind. RELAX NG Specification, section 6.3. Fails exactly if a call of
+    /// `event` ran out of memory. Allocates nothing. Costs a test of each alternative.
     pub fn outcome(&self) -> Result<Outcome, OutOfMemory>
         ensures outcome { IfOk result (λ o. (bytes : List ℕ) (d : Placed) → IsPyxDocument bytes d → Knows self.now (events_of d)
             → IsOutcome (judges_by self.now) d o) }
