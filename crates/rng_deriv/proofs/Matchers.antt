@@ -1,4 +1,4 @@
--- A matcher of a grammar, by what the matcher of events inside it does.
+-- A matcher of a grammar, given what the event matcher inside it does.
 use Rattle.std.proofs.Common.{◌≡◌, ◌∙◌, ℕ, List, [], ◌∷◌, ◌++◌, Result, Ok, Err, OnOk, append_assoc, sym, subst}
 use Rattle.rng_model.specs.documents.Handing.{Hands}
 use Rattle.rng_model.specs.documents.PyxTrees.{Event}
