@@ -22,7 +22,8 @@ pub in_the_braces : mentions_of (grammar_file (components_of (include (mention (
     included_file (mention (codes "g") 1) (components_of in_braces) ∷ external_file (mention (codes "x") 6) ∷ []
 in_the_braces = refl
 
--- `start = a, external "x"`, `div { include "g" }` and `a = grammar { include "g" }`: a file that is mentioned twice, in a `div` and in a nested grammar
+-- `start = a, external "x"`, `div { include "g" }` and `a = grammar { include "g" }`: a file that is mentioned twice,
+-- in a `div` and in a nested grammar
 pub in_order : mentions_of (grammar_file (components_of (start methods.Plain (members group (ref (codes "a") ∷ external (mention (codes "x") 5) ∷ []))
     ∷ div (components_of (include (mention (codes "g") 9) (components_of []) ∷ []))
     ∷ define (codes "a") methods.Plain (grammar (components_of (include (mention (codes "g") 16) (components_of []) ∷ []))) ∷ []))) ≡

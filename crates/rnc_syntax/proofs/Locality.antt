@@ -20,8 +20,7 @@ SameHead-behind [] a b h = h
 SameHead-behind (x ∷ xs) a b h = refl
 
 -- What `read` returns for `ts`, `deeper` returns wherever the tokens that were read come before the same token: the
--- same value,
--- or the same stuck token. If `read` finds the tokens too deep, nothing is claimed.
+-- same value, or the same stuck token. If `read` finds the tokens too deep, nothing is claimed.
 pub data LocalAt {A : Type 0} (read deeper : List Lexeme → Outcome A) (ts : List Lexeme) : Type 0 where
   reads : (x : A) (front rest : List Lexeme) → ts ≡ front ++ rest → read ts ≡ Ok (x, rest)
       → ((other : List Lexeme) → SameHead rest other → deeper (front ++ other) ≡ Ok (x, other)) → LocalAt read deeper ts

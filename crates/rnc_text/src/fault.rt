@@ -9,9 +9,9 @@ use rng_model::OutOfMemory;
 pub enum TextFault {
     /// The text breaks a clause at an offset in bytes.
     ///
-    /// Clause 3: the file is not UTF-8. The offset is the length of its longest front that is UTF-8.
-    /// Clause 4: XML does not allow a character, or an escape is bad. The offset is where it begins in the file.
-    /// Clause 5: neither a blank, a comment nor a token begins at the offset in the decoded text.
+    /// - Clause 3: the file is not UTF-8. The offset is the length of its longest front that is UTF-8.
+    /// - Clause 4: XML does not allow a character, or an escape is bad. The offset is where it begins in the file.
+    /// - Clause 5: neither a blank, a comment nor a token begins at the offset in the decoded text.
     At { clause: u8, offset: u64 },
     /// Out of memory. Says nothing about the text.
     Memory,

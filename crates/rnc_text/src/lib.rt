@@ -7,8 +7,8 @@
 //! made of words, names, segments, signs, spaces and line ends.
 //!
 //! Order of reading: in `rnc_model/specs`, `Characters` and `Decoding` (the decoded text of bytes), `Tokens` and `Cut`
-//! (its tokens); in `specs/`, `Answers` (what a call returns) and `Marks` (texts that are made of tokens). The others are
-//! for the proofs.
+//! (its tokens); in `specs/`, `Answers` (what a call returns) and `Marks` (texts that are made of tokens). The others
+//! are for the proofs.
 #![tactic(auto)]
 
 mod character;

@@ -1,6 +1,5 @@
 -- S16 by an order of the definitions: those of the order have one tree each, and those of a stuck rest have none. What
--- is
--- met from the start is what the clause is about.
+-- is met from the start is what the clause is about.
 use Rattle.std.proofs.Common.{◌≡◌, refl, sym, subst, Some, ◌⊎◌, inl, inr, List, [], Contains, arith}
 use Rattle.std.proofs.lemmas.List.Elements.{Contains-push_cases}
 use Rattle.rng_model.specs.simple.Tree.{Tree, leaf}

@@ -127,8 +127,7 @@ asked_for d ds = elim (asked d ds) [
 -- ---- numberings
 
 -- These elements are numbered in this order: each has its class, and its body with numbers at the points. Everything
--- that is
--- numbered is met.
+-- that is numbered is met.
 pub record IsNumbering (s : Schema) (ls : List Leaf) (v : Numbering) : Type 0 where
   pub count : length v.elements ≡ length ls
   pub each : (k : ℕ) (m : Leaf) (e : NameClass × Tree Spot) → slice_get ls k ≡ Some m → slice_get v.elements k ≡ Some e

@@ -92,7 +92,8 @@ handed_on = an_include refl refl (a_start (element_is empty_is) nothing) nothing
 
 -- ---- external files
 
--- `external "b.rnc" inherit = p`, where p is `v` and b.rnc is `element a { empty }`: the pattern of the file, its names in the namespace of p
+-- `external "b.rnc" inherit = p`, where p is `v` and b.rnc is `element a { empty }`: the pattern of the file, its names
+-- in the namespace of p
 external_pattern : Reads (always (pattern_file (empty_element inherited (codes "a")))) [] (0 ∷ []) (tree.external (mention (given (codes "v"))))
     (pattern.external (read_element (codes "v") (codes "a"))) []
 external_pattern = pattern_file_is refl (element_is empty_is)

@@ -1,6 +1,5 @@
 -- The places of the grammars of a schema have bounded length, so a walk through nested grammars ends: a step to a child
--- makes
--- the way longer by one, and reduces what is left to read by at least one.
+-- makes the way longer by one, and reduces what is left to read by at least one.
 use Rattle.std.proofs.Common.{◌≡◌, sym, subst, ap, ◌∙◌, ℕ, suc, ◌+◌, ◌-◌, ◌*◌, ◌<◌, ◌≤◌, List, [], ◌∷◌, ◌++◌, length, arith, inl, inr, Option, Some}
 use Rattle.std.proofs.Common.{filter, not}
 use Rattle.std.proofs.lemmas.List.{length-append}
@@ -137,8 +136,7 @@ module _ (files : List ℕ → Option FileTree) (largest : ℕ) (fits : (f : Nam
       (both_within (nested_in left) (nested_in overriding) kept (all_more braces (omega arith))) (all_more more (omega arith)))
 
   -- If the components of the main file are readable, so are those of each grammar. With the length of its place, a
-  -- grammar
-  -- has no more left to read than they have.
+  -- grammar has no more left to read than they have.
   pub grammars_within : {main : FileTree} {x : Place} {o : Option Place} {u : List ℕ} {cs : tree.Components} → HasGrammar files main x o u cs → (n : ℕ)
       → AreReadable files n (main_grammar main) → Within (left_to_read largest n (size_of_components (main_grammar main))) x cs
   grammars_within (main_is e) n r =

@@ -1,6 +1,5 @@
 -- What simplification keeps: a leaf of a part with no notAllowed beside it, outside choices, is a leaf of the simple
--- form of the
--- whole; and what is made of such parts is not notAllowed.
+-- form of the whole; and what is made of such parts is not notAllowed.
 use Rattle.std.proofs.Common.{◌≡◌, ◌⊎◌, inl, inr, refl, List, ℕ}
 use Rattle.rng_model.specs.names.Names.{NameClass}
 use Rattle.rng_model.specs.simple.Tree.{Datatype, Connector, choice, group, interleave, Tree, empty, text, leaf, attribute, list, data_of, data_except}

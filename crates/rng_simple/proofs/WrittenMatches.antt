@@ -1,8 +1,6 @@
 -- A pattern as it is written matches what its unfolded tree matches, if an element of the tree is read by the tree of
--- its body,
--- or by the simple form of that tree. What matches is not notAllowed, so a leaf that takes part in a match is also one
--- of the
--- simple form. So only the elements that are reached through simple forms need trees.
+-- its body, or by the simple form of that tree. What matches is not notAllowed, so a leaf that takes part in a match is
+-- also one of the simple form. So only the elements that are reached through simple forms need trees.
 use Rattle.std.proofs.Common.{◌≡◌, refl, sym, ap, subst, List, [], ℕ, ◌∷◌, Option, Some, None, inl, inr}
 use Rattle.rng_model.specs.names.Names.{NameClass, In}
 use Rattle.rng_model.specs.simple.Tree.{Connector, choice, Tree, not_allowed, leaf, Trees}
@@ -244,8 +242,7 @@ module _ (s : Schema) (texts : Texts) where
   body_is {t = t} (is_written {x} g) e v = subst (λ b. Unfolds s x b t) (sym g) (subst (λ k. IsBodyOf s k t) (sym (one_element refl e)) v)
 
   -- The tree matches what the pattern matches. R holds for the leaves of its simple form, and each element with R has a
-  -- tree whose
-  -- simple form has only leaves with R.
+  -- tree whose simple form has only leaves with R.
   module _ (R : Leaf → Type 0) (tree_at : (l : Leaf) → R l → (t : Tree Leaf) × IsBodyOf s l t × ((k : Leaf) → FormHas k t → R k)) where
     mutual
       pub to_tree : {x : Place} {a : Tree Point} {xs : List Attribute} {ns : List Item} → Written x a xs ns → (t : Tree Leaf) → Unfolds s x a t

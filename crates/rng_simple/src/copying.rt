@@ -14,7 +14,8 @@ use crate::simple_parts::row_of;
 use rng_model::{Datatype, DatatypeValue, ElementId, NameClass, PatternId, Simple};
 use std::alloc::{AllocError, Global};
 
-/// The row as a pattern. `places` maps its children to patterns. Appends the element of the row, if it has one, to `listed`.
+/// The row as a pattern. `places` maps its children to patterns. Appends the element of the row, if it has one, to
+/// `listed`.
 pub fn copied_row(
     alloc: Global,
     table: &FinishedRows<'_>,

@@ -409,8 +409,7 @@ begins_method (sign AndEqual ∷ ts) = true
 begins_method _ = false
 
 -- The body is a grammar: it begins with a component's keyword, or with an identifier and a method, or it has no tokens
--- where
--- that is allowed.
+-- where that is allowed.
 abbrev pub is_grammar_body : Bool → List Lexeme → Bool
 is_grammar_body may_be_empty [] = may_be_empty
 is_grammar_body may_be_empty (keyword keywords.Start s ∷ ts) = true

@@ -1,6 +1,5 @@
 -- Marks: words, names, segments, signs, single spaces and line ends. A text of marks, each separated from the next, is
--- cut into
--- exactly their pieces (RELAX NG Compact Syntax, "Lexical structure").
+-- cut into exactly their pieces (RELAX NG Compact Syntax, "Lexical structure").
 use Rattle.std.specs.Prelude.{◌≡◌, ℕ, Bool, true, false, not, ◌&&◌, ◌||◌, ◌==◌, List, [], ◌∷◌, ◌++◌, map, flat_map, codes}
 use Rattle.std.specs.Char.{IsScalar}
 use Rattle.std.specs.List.{list_all}

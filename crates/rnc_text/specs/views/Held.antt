@@ -9,8 +9,7 @@ abbrev pub unmarked : ℕ → Character
 unmarked c = if c == 0xA then LineEnd else Ordinary c
 
 -- The characters with these numbers, at the end of a text of `whole` bytes. The marks are the offsets of the LFs that
--- are no
--- line ends, in order.
+-- are no line ends, in order.
 unfoldable pub marked : ℕ → List ℕ → List ℕ → List Character
 marked whole marks [] = []
 marked whole [] (c ∷ cs) = unmarked c ∷ marked whole [] cs

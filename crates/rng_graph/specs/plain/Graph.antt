@@ -1,6 +1,5 @@
 -- A schema by numbers: the definitions and the elements that are met, each with one number, and their bodies with
--- numbers at
--- the points. The steps after collecting need only the numbers.
+-- numbers at the points. The steps after collecting need only the numbers.
 use Rattle.std.specs.Prelude.{◌≡◌, ℕ, ◌+◌, ◌<◌, ◌≤◌, List, [], ◌∷◌, ◌++◌, length, slice_get, slice_index_or, Option, Some, None, Bool, true, ◌&&◌}
 use Rattle.std.specs.Prelude.{if◌then◌else◌, Contains}
 use Rattle.std.specs.Str.{bytes_eq}

@@ -1,6 +1,5 @@
 -- The plain functions that number what a pattern mentions: each definition when it is first met, each element when its
--- body is
--- done. Private contracts cite them; `IsResolved` and `IsGraphOf` state what they must return.
+-- body is done. Private contracts cite them; `IsResolved` and `IsGraphOf` state what they must return.
 use Rattle.std.specs.Prelude.{ℕ, List, [], ◌∷◌, ◌++◌, length, Option, Some, None, if◌then◌else◌}
 use Rattle.std.specs.List.{list_any}
 use Rattle.rng_model.specs.names.Names.{NameClass}

@@ -1,6 +1,5 @@
 -- Which schema a graph in memory is of, and what the result about expansion and depth must be (RELAX NG Specification,
--- section
--- 4.19; the limit of depth is profile).
+-- section 4.19; the limit of depth is profile).
 use Rattle.std.specs.Prelude.{◌≡◌, ◌⊎◌, ℕ, ◌<◌, List, length, map, All, Contains}
 use Rattle.rng_model.specs.schema.Schema.{Schema, Definition}
 use Rattle.rng_model.specs.schema.SchemaClauses.{BreaksExpansion, BreaksDepth}

@@ -9,8 +9,7 @@ use Rattle.rng_load.specs.declared.schema.Schema.{Schema}
 use Rattle.rnc_model.specs.loading.LoadedSchema.{AreSchema}
 
 -- The files break no clause and are this schema, or the fault is their verdict, unless memory ran out. The verdict is
--- unique, so this
--- determines the result.
+-- unique, so this determines the result.
 abbrev pub IsLoaded : List NamedFile → Name → Result Schema SchemaFault → Type 0
 IsLoaded files main (Ok s) = (read : TakenFiles) × FilesHaveOnlyVerdict files main (are_taken read) × AreSchema read main (schema_of s)
 IsLoaded files main (Err fault) = IfSome (verdict_of_fault fault) (FilesHaveOnlyVerdict files main)

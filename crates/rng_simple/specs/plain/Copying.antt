@@ -86,8 +86,7 @@ pub record IsCopied (ps : List Simple) (listed : List ℕ) (place : ℕ) (t : tr
   pub is : simple_renamed (listed_at listed) (tree_numbered ps place) ≡ t
 
 -- The pattern with this number is the row, over the trees of the patterns of its children, which come before it. If the
--- row is
--- an element, its number is in the list.
+-- row is an element, its number is in the list.
 pub record IsRowTree (l : Labels) (ps : List Simple) (places listed : List ℕ) (i : ℕ) (r : Row) (place : ℕ) : Type 0 where
   pub number : ℕ
   pub tree : tree_numbered ps place ≡ row_tree l (λ a. tree_numbered ps (place_of places a)) (numbered_row number r)

@@ -23,8 +23,8 @@ pub data IsNumberReached (first : Simple ℕ) (body : ℕ → Simple ℕ) : ℕ 
   in_body : {j k : ℕ} → IsNumberReached first body j → LeafIn k (as_tree (body j)) → IsNumberReached first body k
 
 -- The elements of the grammar are those in `seen`, by their numbers in the graph: exactly those that the start reaches
--- through
--- simple forms, each once, with their name classes nested, and with the simple forms of the start and of the bodies.
+-- through simple forms, each once, with their name classes nested, and with the simple forms of the start and of the
+-- bodies.
 pub record IsGrammarBy (classes : List NameClass) (g : Graph) (values : ℕ → Simple ℕ) (seen : List ℕ) (h : Grammar) : Type 0 where
   pub reached : (k : ℕ) → IsNumberReached (values 0) (content_simple g values) k ↔ Contains seen k
   pub distinct : (i j k : ℕ) → slice_get seen i ≡ Some k → slice_get seen j ≡ Some k → i ≡ j
@@ -38,8 +38,7 @@ pub record IsGrammarBy (classes : List NameClass) (g : Graph) (values : ℕ → 
       → simple_renamed (λ n. slice_index_or seen n 0) e.1 ≡ content_simple g values k
 
 -- The grammar is made of the graph: along this order the definitions have these simple forms, and the grammar consists
--- of those
--- of the start and of the reached elements, up to numbering.
+-- of those of the start and of the reached elements, up to numbering.
 pub record IsMadeOf (classes : List NameClass) (g : Graph) (order : List ℕ) (h : Grammar) : Type 0 where
   pub values : ℕ → Simple ℕ
   pub filled : IsFilledBy g (spot_simple values) values order

@@ -36,8 +36,7 @@ abbrev pub AreBodies : Schema → (Leaf → Simple Leaf) → Type 0
 AreBodies s simples = (l : Leaf) → IsReachedBySimpleForms s l → (t : Tree Leaf) → IsBodyOf s l t → simples l ≡ simple_of t
 
 -- the grammar lists exactly these elements, each once, all of which are reached, and has the simple forms of their
--- bodies and of
--- the start
+-- bodies and of the start
 pub record IsNumbering (s : Schema) (ls : List Leaf) (first : Simple Leaf) (simples : Leaf → Simple Leaf) (g : Grammar) : Type 0 where
   pub count : length ls ≡ length g.elements
   pub distinct : AreDistinct ls

@@ -1,6 +1,5 @@
 -- The plain function that simplifies a tree, from the leaves up (RELAX NG Specification, sections 4.12 to 4.15, 4.20
--- and
--- 4.21). Private contracts cite it; `Step` and `SimpleForm` of `rng_model` state what it must return.
+-- and 4.21). Private contracts cite it; `Step` and `SimpleForm` of `rng_model` state what it must return.
 use Rattle.rng_model.specs.names.Names.{NameClass}
 use Rattle.rng_model.specs.simple.Tree.{Datatype, Connector, choice, group, interleave}
 use Rattle.rng_model.specs.simple.Tree.{Tree, not_allowed, empty, text, leaf, attribute, list, data_of, data_except, value, mixed, optional, zero_or_more, one_or_more}

@@ -1,6 +1,5 @@
 -- The plain function that fills a table of simple forms: the simple form of a pattern, given that of each of its
--- points.
--- Private contracts cite it.
+-- points. Private contracts cite it.
 use Rattle.rng_model.specs.simple.Tree.{Connector, choice, interleave}
 use Rattle.rng_model.specs.simple.Tree.{Tree, not_allowed, empty, text, leaf, attribute, list, data_of, data_except, value, mixed, optional, zero_or_more, one_or_more}
 use Rattle.rng_model.specs.simple.Tree.{joined, Trees, no_trees, tree_and}
