@@ -62,7 +62,7 @@ impl Reader {
         }
     }
 
-    /// `literal | "inherit"`.
+    /// Reads `literal | "inherit"`.
     #[tactic(auto, unfolding(crate::specs::plain::Productions::uri_at))]
     fn uri<'t, 'a>(self, tokens: &'t [Token<'a>]) -> Result<(Uri<'a>, &'t [Token<'a>]), ReadFault>
         ensures reads { Gives stop_of (λ x. (uri_of x.0, lexemes_in self.count x.1.now)) result (uri_at (lexemes_in self.count tokens.now)) }
@@ -77,7 +77,7 @@ impl Reader {
         }
     }
 
-    /// `word "=" uri`.
+    /// Reads `word "=" uri`.
     #[tactic(auto, unfolding(crate::specs::plain::Productions::prefix_at))]
     fn prefix<'t, 'a>(
         self,

@@ -57,8 +57,8 @@ pub struct Parameter<'a> {
 
 /// A mention of another file.
 ///
-/// It has the file name as it is written, the prefix of the namespace that the file inherits, if one is named, and the
-/// number, from 1, of the word `include` or `external` among the tokens.
+/// It has the file name as it is written. It has the prefix of the namespace that the file inherits, if one is named. It
+/// has the number, from 1, of the word `include` or `external` among the tokens.
 ///
 /// RELAX NG Compact Syntax, "Syntax" (`include`, `external`).
 #[derive(Drop)]

@@ -100,7 +100,7 @@ reached text rest left line column offset u v reaches small offset-is before aft
       position_is = r.2 ∙ ap (λ (x : List ℕ). position line column x after) none ∙ position_here line column after;
     }
 
--- ---- behind decoded characters
+-- ---- after decoded characters
 
 -- if the first characters of `all` decode to `count` bytes, those that remain decode to `more` bytes, with the same
 -- rest after them
@@ -164,7 +164,7 @@ spelled_by bytes text numbers u s e = encodes_same (chars text) numbers (encodes
 pub spelling_utf8 : (bytes numbers : List ℕ) → IsSpelling bytes numbers → IsUtf8 bytes
 spelling_utf8 bytes numbers s = (numbers, (s.scalars, s.spelled))
 
--- what is behind decoded characters, and what is before it
+-- what follows decoded characters, and what comes before
 record Split (all after : List ℕ) : Type 0 where
   pub before : List ℕ
   pub is : all ≡ before ++ after

@@ -21,7 +21,7 @@ pub is_out : (count n : ℕ) (cs : List ℕ) → 7 ≤ count → hexadecimal_end
 unfolding hexadecimal_end
 is_out count n cs le = let e : 7 - count ≡ 0 = omega arith in rw e refl
 
--- the largest number of so many digits
+-- numbers of n digits are less than this
 abbrev pub most : ℕ → ℕ
 most zero = 1
 most (suc n) = 16 * most n

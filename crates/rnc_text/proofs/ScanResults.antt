@@ -130,7 +130,7 @@ looks_end quote from end w e = w.found ∙ ap (with_before w.before) (ap (until_
 
 -- ---- the pieces
 
--- a token with what it says, between two cursors
+-- a token with its text, between two cursors
 pub finds_token : (from to : Cursor) (part : Part) (found : Found) (kind : TokenKind) (says all : List Character)
     → found ≡ Some (token kind says all, remaining to) → IsPast from all to → told part ≡ Some (kind, bytes_of says) → FindsPart from part to found
 finds_token from to part found kind says all is past told = record { piece = token kind says all; is = is; past = past; says = told }

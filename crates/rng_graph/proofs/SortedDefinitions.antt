@@ -166,7 +166,7 @@ module _ (s : Schema) (ds : List Definition) (has_body : (d : Definition) → Co
   pub split : Covers s (Contains ds) → IsSplit s whole.done (Contains whole.todo)
   split all = record { order = whole.sorted.order; stuck = whole.stuck; all = λ w m. wider w (all w m) }
 
-  -- S16 is broken where a definition is met that leads to itself
+  -- S16 is broken if a definition is met that leads to itself
   pub loop_breaks : Covers s (Contains ds) → (c : Definition) → Met s (to_definition c) → Leads s c c → BreaksExpansion s
   loop_breaks all c m loop = elim (whole.sorted.all c (all (to_definition c) m)) [
     | inl h ↦ let t = order_trees s whole.sorted.order c h in absurd (none_of_stuck s (λ d. Leads s d c) (leading_is_stuck s c loop) c loop t.0 t.1)

@@ -19,8 +19,8 @@ use std::alloc::Global;
 /// Loads the schema whose main file has the name `main`, from the given files.
 ///
 /// The load order begins with the main file. For each file in load order, the files follow that it mentions with
-/// `include` or `external`, at any depth, in the order of its tokens, unless they are in the order already. The bytes
-/// of other files are not read. The call fails with the first clause that is broken:
+/// `include` or `external`, at any depth, in the order of its tokens. A file that is in the order already is not added
+/// again. The bytes of other files are not read. The call fails with the first clause that is broken:
 ///
 /// - `File` with the name of the first file in load order that breaks a clause by itself, and the first clause that it
 ///   breaks:
@@ -43,8 +43,9 @@ use std::alloc::Global;
 ///
 /// - The main file inherits the empty namespace. A mentioned file inherits the namespace that the mention names with
 ///   `inherit`, or otherwise the default namespace of the file that mentions it.
-/// - An include adds to its grammar the components of its file, without the starts and without the components of each
-///   name that its braces override, and then the components in its braces.
+/// - An include adds to its grammar the components of its file, except for those that its braces override. These are the
+///   starts if the braces have a start, and the components of each name that the braces define. The components in the
+///   braces follow.
 /// - An external is replaced by the pattern of its file. If the file is a grammar, it is a nested grammar there.
 /// - Each grammar that is nested in a component is at its place, and the grammar around it is that of the component.
 ///

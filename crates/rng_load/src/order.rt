@@ -18,8 +18,8 @@ use std::alloc::Global;
 /// Returns the files that the main file reaches, by name in load order, each with its tree.
 ///
 /// The load order begins with the main file. For each file in load order, the files follow that it mentions, in the
-/// order of its tokens, unless they are in the order already. Fails with `File` for the first file in load order that
-/// breaks a clause by itself, with the first clause that it breaks, 1 to 8. Files after it are not read.
+/// order of its tokens. A file that is in the order already is not added again. Fails with `File` for the first file in
+/// load order that breaks a clause by itself, with the first clause that it breaks, 1 to 8. Files after it are not read.
 ///
 /// Decodes and parses each file once, however often it is mentioned.
 pub fn load_in_order(

@@ -357,7 +357,7 @@ component_with inside w ts = annotated (bare_component_with inside w) ts
 unfoldable pub components_with : Inside → Setting → List Lexeme → Outcome (List Component)
 components_with inside w ts = many (component_front w) (component_with inside w) ts
 
--- how patterns and components inside brackets are read, if n brackets more may be open
+-- how patterns and components inside brackets are read, if n brackets may be open, including these
 unfoldable pub inside_at : ℕ → Inside
 inside_at zero = record { class = λ ts. Err TooDeep; pattern = λ ts. Err TooDeep; components = λ w ts. Err TooDeep }
 inside_at (suc n) = record {

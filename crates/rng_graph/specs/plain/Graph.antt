@@ -142,8 +142,7 @@ pub record IsPartOf (s : Schema) (ds : List Definition) (ls : List Leaf) (g : Gr
   pub definitions_apart : ArePairwiseApart same_definition ds
   pub elements_apart : ArePairwiseApart same_leaf ls
 
--- the lists with what a body adds: each new member is the aim of one of the body's points, and is not in the lists
--- before
+-- what a body adds to the lists: each new member is the aim of one of its points, and no member is there twice
 pub record Brings (s : Schema) (x : Place) (a : Tree Point) (ds : List Definition) (ls : List Leaf) (more_ds : List Definition)
     (more_ls : List Leaf) : Type 0 where
   pub definitions : (d : Definition) → Contains more_ds d → (l : Point) × LeafIn l a × (aim s x l ≡ to_definition d)

@@ -10,7 +10,7 @@ use Rattle.rnc_model.specs.loading.SchemaFile.{FileVerdict, breaks, has_tree}
 use Rattle.rng_load.specs.declared.fault.FileFault.{FileFault}
 use Rattle.rng_load.specs.declared.fault.FileFault.TheVariants.{Clause, Memory}
 
--- the offset of a fault is dropped
+-- offsets, and the numbers of tokens, are dropped
 abbrev pub fault_of_text : TextFault → FileFault
 fault_of_text (texts.At clause offset) = Clause clause
 fault_of_text texts.Memory = Memory
