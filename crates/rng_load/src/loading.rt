@@ -43,9 +43,9 @@ use std::alloc::Global;
 ///
 /// - The main file inherits the empty namespace. A mentioned file inherits the namespace that the mention names with
 ///   `inherit`, or otherwise the default namespace of the file that mentions it.
-/// - An include adds to its grammar the components of its file, except for those that its braces override. These are the
-///   starts if the braces have a start, and the components of each name that the braces define. The components in the
-///   braces follow.
+/// - An include adds to its grammar the components of its file, except for those that its braces override. These are
+///   the starts if the braces have a start, and the components of each name that the braces define. The components in
+///   the braces follow.
 /// - An external is replaced by the pattern of its file. If the file is a grammar, it is a nested grammar there.
 /// - Each grammar that is nested in a component is at its place, and the grammar around it is that of the component.
 ///
