@@ -86,7 +86,7 @@ pub fn rest_of_leaf(
     table.empty()
 }
 
-/// Returns the ways of a pattern that is neither a joined pattern nor a repetition. Elements that take the same have
+/// Returns the ways of a pattern that is not joined and not a repetition. Elements that take the same have
 /// one leaf.
 pub fn ways_of_leaf(
     alloc: Global,

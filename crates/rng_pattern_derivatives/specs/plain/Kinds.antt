@@ -58,7 +58,7 @@ IsOfItems (kinds.Element q) = Unit {0}
 IsOfItems (kinds.Attribute q) = ⊥
 IsOfItems kinds.Text = Unit {0}
 
--- it is neither a joined pattern nor a repetition
+-- it is not a joined pattern and not a repetition
 abbrev pub IsAlone : Simple ℕ → Type 0
 IsAlone s_not_allowed = Unit {0}
 IsAlone s_empty = Unit {0}
