@@ -21,7 +21,7 @@ listed_names : (cs : List names.NameClass) → list_of (names.classes_of cs) ≡
 listed_names [] = refl
 listed_names (c ∷ cs) = ap (λ (xs : List names.NameClass). c ∷ xs) (listed_names cs)
 
--- two members and more are those of their choice
+-- two or more members are those of their choice
 members_some : (c x : names.NameClass) (xs : List names.NameClass) → members_in (some_of (members_in c ++ x ∷ xs)) ≡ members_in c ++ x ∷ xs
 members_some names.any_name x xs = ap (λ (ys : List names.NameClass). names.any_name ∷ x ∷ ys) (listed_names xs)
 members_some (names.any_except c) x xs = ap (λ (ys : List names.NameClass). names.any_except c ∷ x ∷ ys) (listed_names xs)
