@@ -105,8 +105,8 @@ fn is_paired(class: &NameClass) -> bool
     }
 }
 
-/// Returns true only if a pattern is of the kinds that the matcher over trees supports, its children are below `next`,
-/// its ref is below `count`, and its name class is paired.
+/// Returns true only if a pattern is of the kinds that the matcher over trees supports. Its children must be below
+/// `next`, its ref below `count`, and its name class must be paired.
 fn fits(pattern: &Simple, next: usize, count: usize) -> bool
     ensures inside { OnTrue result (AreChildrenBelow next pattern.now × IsLeafListed count pattern.now) }
     ensures paired { OnTrue result (IsClassPaired pattern.now) }

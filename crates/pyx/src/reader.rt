@@ -49,8 +49,8 @@ impl Reader {
         self.fed
     }
 
-    /// Returns how many bytes are kept: of the line that has begun, of the lines of the tag that is being read, of the
-    /// name and the declarations of each open element, and of the text that is joined so far.
+    /// Returns how many bytes are kept. They are the line that has begun, the lines of the tag that is being read, the
+    /// name and the declarations of each open element, and the text that is joined so far.
     ///
     /// It is at most 8,641,445,888. After a fault it is 0. Buffers for reuse and the at most 256 names that have been
     /// looked up are not counted. Allocates nothing. The cost is linear in the open elements and their declarations.
@@ -64,7 +64,8 @@ impl Reader {
         self.pieces.held()
     }
 
-    /// Reads the next piece of the document, and hands out the events of the lines that it ends.
+    /// Reads the next piece of the document, and hands out the events of the lines that it ends. All pieces together
+    /// must have fewer than 2^63 bytes.
     ///
     /// A line is judged when its line feed comes or when it exceeds 65,536 bytes. A tag is judged at the line after it.
     /// An error is `PyxFault::At`, the broken clause with the least line, and there the least number, whatever comes
@@ -97,7 +98,7 @@ impl Reader {
     ///
     /// Returns `Ok` exactly if all bytes are a document. The events that were handed out are then its events. An error
     /// is `PyxFault::At`, the broken clause with the least line, and there the least number, or `PyxFault::Memory`.
-    /// After an error of `feed` it is the same error.
+    /// After an error of `feed` it is the same error. The cost is at most that of one line and one tag.
     pub fn finish<E: Events>(self, events: &mut E) -> Result<(), PyxFault>
         ensures document { UnlessMemory result (Ends (Hands E.stands events.old events.new) self result) }
         ensures sticky { IfSome self.fault (λ f. result ≡ Err f) }

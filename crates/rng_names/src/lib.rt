@@ -1,5 +1,5 @@
-//! Name classes and keys of names: which names a class holds, whether two classes have a name in common, and which
-//! names no class of a grammar distinguishes (RELAX NG Specification, sections 6.1 and 7.3).
+//! Name classes and keys of names (RELAX NG Specification, sections 6.1 and 7.3): which names a class holds, whether
+//! two classes have a name in common, and which names no class of a grammar distinguishes.
 //!
 //! `contains` returns exactly whether a class holds a name, and allocates nothing. `overlap` returns exactly whether
 //! some name is in both of two classes, among all pairs of texts and not only those that are written in them. It fails

@@ -7,8 +7,8 @@ ghost use Rattle.rng_names.specs.plain.Written.{longest};
 use rng_model::NameClass;
 use std::alloc::{AllocError, Global};
 
-/// Returns the number of bytes in the longest text that is written in the class, as a namespace or a local name, or 0
-/// if there is none. Allocates nothing.
+/// Returns the number of bytes in the longest text that is written in the class, as a namespace or a local name.
+/// Returns 0 if there is none. Allocates nothing.
 ///
 /// The cost is linear in the size of the class, but does not depend on the length of its texts.
 pub fn longest(class: &NameClass) -> usize

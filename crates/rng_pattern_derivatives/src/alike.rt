@@ -19,8 +19,8 @@ struct Content {
 /// The elements found so far, the first one of each content.
 type Met = HashMap<Content, ElementId>;
 
-/// Returns for each element of a grammar the first one with the same name and the same body, or the element itself if
-/// its class is not one name.
+/// Returns for each element of a grammar the first one with the same name and the same body. If the class of an element
+/// is not one name, this is the element itself.
 ///
 /// Each of the two elements may replace the other (RELAX NG Specification, section 6.2.7). Fails only when out of
 /// memory. The cost is one look-up for each element.

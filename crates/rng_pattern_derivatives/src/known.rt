@@ -49,8 +49,8 @@ pub struct Known {
 
 impl Known {
     /// Creates a value without known ways, for a grammar that these keys of names serve. Fails only when out of memory.
-    /// The cost is a few look-ups for each element and for each attribute whose name class is one name, and one look-up
-    /// for each data and each value.
+    /// The cost is a few look-ups for each element and for each attribute whose name class is one name. Each data and
+    /// each value costs one look-up.
     pub fn new(alloc: Global, grammar: &SimpleGrammar, keys: &NameKeys) -> Result<Self, OutOfMemory>
         requires { KeysServe grammar.now keys.now }
         ensures { IfOk result (λ known. (ns : List Node) → AreAllKnown grammar.now keys.now ns known) }

@@ -49,8 +49,8 @@ pub enum Candidates<'a> {
     Attributes(Span, &'a [Span]),
 }
 
-/// Where a pattern is tried: among the children of an element or the values of attributes, or in a list, which contains
-/// no list (RELAX NG Specification, section 7.1.3).
+/// Where a pattern is tried: among the children of an element or the values of attributes, or in a list. A list
+/// contains no list (RELAX NG Specification, section 7.1.3).
 #[derive(Clone, Copy)]
 pub enum Place {
     Content,

@@ -247,9 +247,9 @@ fn begins_with_copies(table: &PatternTable, first: PatternNumber, second: Patter
     unit != first || table.behind_copies(unit, second) != Some(second)
 }
 
-/// Returns the ways of a group to take an item first: those of its first side and, if that is nullable, those by which
-/// the second side takes more. Copies of the first side at the front of the second one add no ways. The first side
-/// takes what they take, with all of them after it.
+/// Returns the ways of a group to take an item first. These are the ways of its first side and, if that is nullable,
+/// those by which the second side takes more. Copies of the first side at the front of the second one add no ways. The
+/// first side takes what they take, with all of them after it.
 #[cycle(ways)]
 fn item_ways_of_group(
     alloc: Global,

@@ -10,9 +10,9 @@ use crate::pattern_table::PatternTable;
 use rng_model::OutOfMemory;
 
 impl PatternTable {
-    /// Returns the sides of a group of these two, after its first side is reassociated to the right down to a first
-    /// copy of its unit: that copy, and everything after it. Fails only when out of memory. The cost is one look-up for
-    /// each group that is opened.
+    /// Returns the sides of a group of these two after its first side is reassociated to the right, down to a first
+    /// copy of its unit. The sides are that copy, and everything after it. Fails only when out of memory. The cost is
+    /// one look-up for each group that is opened.
     pub fn first_copy(
         &mut self,
         first: PatternNumber,

@@ -78,9 +78,9 @@ impl PatternTable {
         }
     }
 
-    /// Returns whether one side of an interleave may cover a pattern alone. This is so if the other side may be left
-    /// out, none of its elements is in the pattern, and the first side has at least as many members as the pattern.
-    /// Allocates nothing.
+    /// Returns whether one side of an interleave may cover a pattern alone. The other side must be one that may be left
+    /// out, and none of its elements may be in the pattern. The first side must have at least as many members as the
+    /// pattern. Allocates nothing.
     fn is_enough(&self, side: PatternNumber, other: PatternNumber, inner: PatternNumber) -> bool
         requires side { side.0 < length self.now }
         requires other { other.0 < length self.now }

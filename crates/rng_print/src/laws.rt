@@ -10,8 +10,8 @@ ghost use Rattle.rncv_model.specs.printed.SchemaText.{IsPrintedForm};
 /// States the laws of the definition of printed texts. It does nothing: its contract is what matters.
 ///
 /// Each grammar has one printed text. Grammars that are the same up to the numbers of their elements have the same text
-/// and the same number of elements, and are simple forms of the same schemas. So a schema has at most one printed form,
-/// whichever of its simple forms is printed.
+/// and the same number of elements. They are simple forms of the same schemas. So a schema has at most one printed
+/// form, whichever of its simple forms is printed.
 #[tactic(auto, using(crate::proofs::OneText::text_there))]
 pub fn printing_laws()
     ensures some { (g : Grammar) → (t : List ℕ) × IsPrinted g t }

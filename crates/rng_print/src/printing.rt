@@ -17,9 +17,9 @@ use std::io::Write;
 ///
 /// RELAX NG Specification, section 5, in the words of the Compact Syntax. First there is a line for each namespace,
 /// then `start = ..`. Then there is a line for each element and for each pattern with parts, in the order in which
-/// their names are first written: `e0`, `e1`, .. for elements, and `p0`, `p1`, .. for patterns. Equal patterns have one
-/// line, whatever their positions. So grammars that differ only in the numbers of their elements have the same text.
-/// Fails only when out of memory. Time and memory are linear in the tables and in the text.
+/// their names are first written. The names are `e0`, `e1`, .. for elements, and `p0`, `p1`, .. for patterns. Equal
+/// patterns have one line, whatever their positions. So grammars that differ only in the numbers of their elements have
+/// the same text. Fails only when out of memory. Time and memory are linear in the tables and in the text.
 pub fn printed_text(alloc: Global, grammar: &SimpleGrammar) -> Result<Vec<u8>, OutOfMemory>
     ensures { IfOk result (λ text. IsPrinted (grammar_of grammar.now) text.items) }
 {

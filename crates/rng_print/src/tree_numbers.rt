@@ -44,8 +44,8 @@ fn number_of_code<'a>(
     Ok(place_of_code(codes, code)?.unwrap_or(last))
 }
 
-/// Returns what distinguishes a pattern from others, if the patterns before it have these numbers: its kind, the
-/// numbers of its parts, and the code of its label.
+/// Returns what distinguishes a pattern from others, if the patterns before it have these numbers. This is its kind,
+/// the numbers of its parts, and the code of its label.
 fn pattern_code<'a>(
     alloc: Global,
     pattern: &'a Simple,

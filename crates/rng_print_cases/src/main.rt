@@ -1,12 +1,12 @@
-//! Prints, for the files in each row of `cases.txt`, the text of their simple grammar, and then whether that text, read
-//! as a schema of one file, is printed as itself again; or the clause that the files break.
+//! Prints the text of the simple grammar of the files in each row of `cases.txt`, or the clause that the files break.
+//! Then it prints whether that text, read as a schema of one file, is printed as itself again.
 //!
 //! A row has a request, and files: the name of each, a text, and how often the text is repeated in it. Consecutive
 //! texts with the same name are one file. In each text `^` is its number, from 0, and `^+` the next one. The first file
-//! is the main one. The request `text` prints the whole text; `end` the number of its lines and the last line; `again`
-//! only whether it is printed as itself again; `written` only the results of printing the grammar to writers. A row of
-//! `table` has no files, but the number of elements of a grammar and its tables, as `written_grammars` reads them. For
-//! it the whole text is printed.
+//! is the main one. The request `text` prints the whole text, and `end` the number of its lines and the last line. The
+//! request `again` only prints whether the text is printed as itself again, and `written` only the results of printing
+//! the grammar to writers. A row of `table` has no files, but the number of elements of a grammar and its tables, as
+//! `written_grammars` reads them. For it the whole text is printed.
 #![tactic(auto)]
 
 mod writers;

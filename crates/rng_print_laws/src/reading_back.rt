@@ -14,7 +14,7 @@ use rnc_text::marks_laws;
 /// Consider the printed text of a printable grammar, if it has at most 1,048,576 bytes. It decodes to characters, which
 /// are cut into tokens. The tokens are a sentence that nests within the limit, and no rule about declarations is
 /// broken. The file tree is a plain `start`, followed by a plain define for each element and for each pattern with
-/// parts, each with the pattern that its line shows. RELAX NG Compact Syntax, "Lexical structure" and "Syntax".
+/// parts. Each has the pattern that its line shows. RELAX NG Compact Syntax, "Lexical structure" and "Syntax".
 pub fn reading_back_laws()
     // The text has the tree of its lines.
     ensures read { (g : Grammar) (text : List ℕ) → IsPrintable g → (p : IsPrinted g text) → length text ≤ 1048576 → IsReadAs text (lines_tree g p.items) }

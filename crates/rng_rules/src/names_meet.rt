@@ -13,14 +13,14 @@ use crate::names_meet_sides::Rows;
 use rng_model::{NameClass, OutOfMemory, Simple, SimpleGrammar};
 use std::alloc::Global;
 
-/// Returns whether some group or interleave of the start, or of the body of a listed element, has attributes on both
-/// sides whose classes have a name in common.
+/// Returns whether two attributes on the two sides of a group or an interleave have a name in common. The group or
+/// interleave is in the start or in the body of a listed element.
 ///
 /// RELAX NG Specification, section 7.3. Fails only when out of memory. Names are looked up by hashing. A class that is
 /// not a name is compared with each other class. An attribute outside every group and interleave adds no further cost.
-/// For a name of a single pattern, the cost is linear in the patterns above the first of them that occurs twice; in a
-/// tree it is nothing. For a name of several patterns, and for a class that is not a name, it is linear in the patterns
-/// above them: in a tree at most their number times the depth.
+/// For a name of a single pattern, the cost is linear in the patterns above the first of them that occurs twice. In a
+/// tree it is nothing. For a name of several patterns, and for a class that is not a name, the cost is linear in the
+/// patterns above them. In a tree these are at most their number times the depth.
 pub(crate) fn attribute_names_meet(
     alloc: Global,
     grammar: &SimpleGrammar,
@@ -31,8 +31,8 @@ pub(crate) fn attribute_names_meet(
     names_meet(alloc, grammar, NamesOf::Attributes)
 }
 
-/// Returns whether some interleave of the start, or of the body of a listed element, has refs on both sides to elements
-/// whose classes have a name in common.
+/// Returns whether refs on the two sides of an interleave lead to elements that have a name in common. The interleave
+/// is in the start or in the body of a listed element.
 ///
 /// RELAX NG Specification, section 7.4. Fails only when out of memory. The cost is that of `attribute_names_meet`.
 pub(crate) fn element_names_meet(

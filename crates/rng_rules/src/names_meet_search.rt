@@ -16,9 +16,9 @@ use crate::names_meet_sides::{Marks, Rows};
 use rng_model::{NameClass, OutOfMemory};
 use std::alloc::Global;
 
-/// Returns whether two rows of one group, or one and itself, occur on the two sides of a row. Linear, plus what each
-/// group of two or more rows reaches, and what each single row reaches from the first row above it that is a part of
-/// two rows.
+/// Returns whether two rows of one group, or one and itself, occur on the two sides of a row. The cost is linear in the
+/// rows and in what each group of two or more rows reaches. For a single row, it is what is reached from the first row
+/// above it that is a part of two rows.
 pub(crate) fn groups_meet(
     alloc: Global,
     rows: &Rows<'_>,
@@ -79,9 +79,9 @@ fn group_meets(
     }
 }
 
-/// Returns whether two rows occur on the two sides of a row, where one has a class that is not a name, and the two
-/// classes have a name in common. The cost is, for each class that is not a name, one `overlap` with each other class
-/// and the time linear in what is reached.
+/// Returns whether two rows occur on the two sides of a row. One of the two must have a class that is not a name, and
+/// the two classes must have a name in common. The cost is, for each class that is not a name, one `overlap` with each
+/// other class and the time linear in what is reached.
 pub(crate) fn others_meet(
     alloc: Global,
     rows: &Rows<'_>,

@@ -57,8 +57,8 @@ impl<'a> Rows<'a> {
         })
     }
 
-    /// Returns whether some row of a part has what is reached from the first rows on one side, and what is reached from
-    /// the second rows on the other. The cost is linear in what is reached.
+    /// Returns whether the two searches meet at some row of a part: one side is reached from the first rows, and the
+    /// other side from the second rows. The cost is linear in what is reached.
     pub(crate) fn meet(
         &self,
         alloc: Global,

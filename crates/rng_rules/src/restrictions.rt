@@ -12,8 +12,9 @@ use std::alloc::Global;
 /// Checks that a simple grammar keeps the restrictions of RELAX NG Specification, section 7: clauses S18 to S27.
 ///
 /// It checks the start and the body of each listed element, whether or not a ref leads to it, and nothing else in the
-/// tables. An error is the least clause that is broken, or out of memory. Apart from S24 and S26, the cost is linear in
-/// the table.
+/// tables. An error is the least clause that is broken, or out of memory. For S24 and S26 names are looked up by
+/// hashing, and each class that is not a name is compared with each other class. For the other clauses the cost is
+/// linear in the table.
 pub fn restrict(alloc: Global, grammar: &SimpleGrammar) -> Result<(), SchemaFault>
     ensures kept { OnOk result (IsRestricted (grammar_of grammar.now)) }
     ensures broken { IfErr result (IsRestrictionFault (grammar_of grammar.now)) }

@@ -38,6 +38,7 @@ impl Model for GrammarBuilder {
 }
 
 impl GrammarBuilder {
+    /// Creates a builder without patterns, for a grammar with this many elements.
     pub fn new(alloc: Global, count: usize) -> Self {
         GrammarBuilder {
             patterns: Vec::new(alloc),
