@@ -6,7 +6,7 @@ use Rattle.rng_model.specs.names.NameViews.{class_of, name_of}
 use Rattle.rng_model.specs.declared.name.NameClass.{NameClass, Choice, Name, AnyExcept, NsExcept, the_lemmas}
 use Rattle.rng_model.specs.declared.name.Name as declared
 
--- the view of a choice is one of the views of its members
+-- the view of a choice is the choice of the views of its members
 pub choice_is : (class : NameClass) (members : Vec NameClass Global) (xs : List NameClass) → class ≡ Choice members → xs ≡ members.items
     → class_of class ≡ some_of (map class_of xs)
 choice_is class members xs e items = ap class_of e ∙ search (rules, the_lemmas, items)

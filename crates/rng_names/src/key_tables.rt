@@ -61,7 +61,7 @@ impl Tables {
         Ok(all)
     }
 
-    /// Adds a name in this namespace with more bytes than these. It represents all names that are not written.
+    /// Adds a name in this namespace with more bytes than these. It represents the names in it that are not written.
     fn add_others(&mut self, alloc: Global, ns: &str, bytes: usize) -> Result<(), OutOfMemory>
         ensures { OnOk result (AddsOthers (keys_in self.old) (keys_in self.new) ns.now bytes) }
     {

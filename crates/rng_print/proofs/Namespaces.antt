@@ -15,7 +15,7 @@ use Rattle.rng_print.proofs.CarriedNumberings.{with_map}
 use Rattle.rng_print.proofs.SameTests.{bytes_exact, bytes_itself}
 use Rattle.rng_print.proofs.Numberings.{and_append}
 
--- the view of a choice is one of the views of its members
+-- the view of a choice is the choice of the views of its members
 pub choice_is : (class : NameClass) (members : Vec NameClass Global) (xs : List NameClass) → class ≡ Choice members → xs ≡ members.items
     → class_of class ≡ some_of (map class_of xs)
 choice_is class members xs e items = ap class_of e ∙ search (rules, the_lemmas, items)

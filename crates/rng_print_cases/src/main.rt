@@ -1,10 +1,10 @@
 //! Prints the text of the simple grammar of the files in each row of `cases.txt`, or the clause that the files break.
-//! Then it prints whether that text, read as a schema of one file, is printed as itself again.
+//! Then it prints whether that text, read as a schema of one file, is printed as the same text.
 //!
 //! A row has a request, and files: the name of each, a text, and how often the text is repeated in it. Consecutive
 //! texts with the same name are one file. In each text `^` is its number, from 0, and `^+` the next one. The first file
 //! is the main one. The request `text` prints the whole text, and `end` the number of its lines and the last line. The
-//! request `again` only prints whether the text is printed as itself again, and `written` only the results of printing
+//! request `again` only prints whether the same text is printed for it, and `written` only the results of printing
 //! the grammar to writers. A row of `table` has no files, but the number of elements of a grammar and its tables, as
 //! `written_grammars` reads them. For it the whole text is printed.
 #![tactic(auto)]
@@ -40,7 +40,7 @@ fn print_case(rt: &(impl Print + AllocGlobal), row: &Row) -> io::Result<()> {
     }
 }
 
-/// Prints the text of the grammar with these tables, and whether it is printed as itself again.
+/// Prints the text of the grammar with these tables, and whether it is printed as the same text.
 fn print_table(rt: &(impl Print + AllocGlobal), count: &str, tables: &str) -> io::Result<()> {
     let Some(grammar) = read_grammar(rt.alloc(), count, tables) else {
         return println!(rt; "no grammar");
@@ -60,7 +60,7 @@ fn print_written(
     }
 }
 
-/// Prints what is requested of the text of files, and whether that text is printed as itself again.
+/// Prints what is requested of the text of files, and whether that text is printed as the same text.
 fn print_asked(
     rt: &(impl Print + AllocGlobal),
     asked: &str,
@@ -70,7 +70,7 @@ fn print_asked(
     print_answer(rt, asked, text_of_files(rt.alloc(), files, main))
 }
 
-/// Prints what is requested of a text, and whether it is printed as itself again; or the fault.
+/// Prints what is requested of a text, and whether it is printed as the same text; or the fault.
 fn print_answer(
     rt: &(impl Print + AllocGlobal),
     asked: &str,
@@ -98,7 +98,7 @@ fn print_text(rt: &impl Print, asked: &str, text: &str) -> io::Result<()> {
     }
 }
 
-/// Prints whether a text is printed as itself again, and if not, what is printed instead.
+/// Prints whether the schema of a text is printed as the same text, and if not, what is printed instead.
 fn print_again(rt: &(impl Print + AllocGlobal), text: &str) -> io::Result<()> {
     let name = String::from_str(rt.alloc(), "s.rnc")?;
     let bytes = Vec::from_slice(rt.alloc(), text.as_bytes())?;
