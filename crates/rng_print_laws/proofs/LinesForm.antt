@@ -142,7 +142,7 @@ module _ (s r : Schema) (g : Grammar) (items : List Item) (good : IsGoodGrammar 
       → IsSimpleFormOf (line_tree_of g items (element_at g k).1) (as_tree (placed g items (element_at g k).1))
   body_is_form k l a = placed_is_form g items numbered (element_at g k).1 (good.elements k l).body.last (body_leaf k a)
 
-  -- what the first schema reaches is an element of the grammar, which has a line, and which the schema of the lines reaches
+  -- The first schema reaches an element of the grammar. It has a line, and the schema of the lines reaches it.
   record IsListed (l : Leaf) : Type 0 where
     pub number : ℕ
     pub below : number < n

@@ -1,4 +1,5 @@
--- The name classes of the lines, read with their namespaces, are the classes of the grammar with their first members taken apart.
+-- The name classes of the lines, read with their namespaces, are those of the grammar with their first members taken
+-- apart.
 use Rattle.std.proofs.Common.{◌≡◌, ◌∙◌, refl, sym, ap, ap₂, List, [], ◌∷◌, ◌++◌, map, ℕ}
 use Rattle.std.proofs.lemmas.List.{map-append}
 use Rattle.rng_model.specs.names.Names as names

@@ -14,7 +14,7 @@ use Rattle.rng_model.specs.declared.method.Method.TheVariants as methods
 use Rattle.rncv_model.specs.printed.PrintedText.{Item, element, pattern, element_at, item_name, IsItemsOf}
 use Rattle.rncv_model.specs.printed.SchemaText.{IsPrintedForm}
 
--- ---- name classes: a choice that is the first member of a choice is written without parentheses, so its members are members
+-- ---- name classes: a choice at the front of a choice is written without parentheses, so its members are members
 
 abbrev pub list_of : NameClasses → List NameClass
 list_of no_classes = []

@@ -1,4 +1,4 @@
--- The tokens of marks as the grammar reads them, each word with its number (RELAX NG Compact Syntax, "Lexical structure").
+-- The tokens of marks, each word with its number (RELAX NG Compact Syntax, "Lexical structure").
 use Rattle.std.specs.Prelude.{ℕ, suc, List, [], ◌∷◌}
 use Rattle.rnc_model.specs.tokens.Tokens.{keyword_of, keyword_or_identifier}
 use Rattle.rnc_model.specs.tokens.Lexeme.{Lexeme, lexeme_at}
