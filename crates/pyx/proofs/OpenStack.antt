@@ -11,7 +11,7 @@ use Rattle.pyx.specs.views.ElementView.{open_of, scope_of, stack_of, written_att
 pub stack_push : (xs : List OpenElement) (x : OpenElement) → stack_of (xs ++ x ∷ []) ≡ open_of x ∷ stack_of xs
 stack_push xs x = ap reverse (map-append open_of xs (x ∷ [])) ∙ reverse-append (map open_of xs) (open_of x ∷ [])
 
--- an element that declares nothing, in front
+-- an element that declares nothing, at the front
 pub passed_over : (stack outer : List Open) (element : Open) (prefix : Option (List ℕ)) → stack ≡ element ∷ outer → length element.declared ≡ 0
     → namespace_of (declared_in outer) prefix ≡ namespace_of (declared_in stack) prefix
 unfolding namespace_of found_in

@@ -1,4 +1,4 @@
-// Elements that are open.
+// Open elements.
 ghost use Rattle.std.specs.Prelude.{◌≡◌, ◌<◌, ◌∷◌, [], IfOk, OnOk, length};
 ghost use Rattle.rng_model.specs.plain.Answers.{Gives};
 ghost use Rattle.rng_model.specs.names.NameViews.{name_of};
@@ -16,18 +16,18 @@ use rng_model::Name;
 use std::alloc::Global;
 use std::marker::Model;
 
-/// The elements that are open, and names that were looked up among them.
+/// The open elements, and the names that have been looked up inside them.
 ///
-/// A name is known as long as the same declarations hold, so a name that stood before among the same elements is not looked up anew. At most
-/// 256 names are kept, and all of them but one have at most 1,024 bytes, as their namespaces have. Contracts see the elements, the
-/// innermost first, and the names in their places.
+/// A name stays known as long as the same declarations hold, so a name that occurs again among the same elements is not
+/// looked up again. At most 256 names are kept, and all except one have at most 1,024 bytes, as have their namespaces.
+/// Contracts see the elements, the innermost first, and the names in their places.
 #[derive(Drop)]
 pub struct OpenElements {
     /// The innermost last.
     opened: Vec<OpenElement>,
-    /// It ends where an element that declares something is opened or closed.
+    /// A round ends where an element with a declaration is opened or closed.
     round: u64,
-    /// Those of earlier rounds are no longer known.
+    /// Names of earlier rounds are unknown.
     known: Vec<KnownName>,
 }
 
@@ -41,7 +41,8 @@ impl Model for OpenElements {
     ghost invariant = { λ e. AreKnown (scope_of e.opened.items) e.round e.known.items };
 }
 
-/// The place of what a name stands for inside these elements, looked up if it is not known. A prefix that is not declared breaks P11.
+/// Returns the place of the expanded name that a name has inside these elements. Looks it up if it is not known. A
+/// prefix that is not declared breaks P11.
 #[tactic(auto, unfolding(crate::specs::plain::TagReader::element_name, crate::specs::plain::LineReader::written_of))]
 #[inline(always)]
 fn place_of_name(
@@ -71,7 +72,7 @@ fn place_of_name(
 }
 
 impl OpenElements {
-    /// None is open. Takes no memory.
+    /// Creates a value with no open element. Allocates nothing.
     pub fn new(alloc: Global) -> Self
         ensures { result.opened ≡ [] }
     {
@@ -82,7 +83,7 @@ impl OpenElements {
         }
     }
 
-    /// The elements, the innermost last.
+    /// Returns the elements, the innermost last.
     #[inline(always)]
     pub fn elements(&self) -> &[OpenElement]
         ensures { stack_of result.now ≡ self.now.opened }
@@ -90,8 +91,8 @@ impl OpenElements {
         self.opened.as_slice()
     }
 
-    /// One more element is open, the innermost, and its name is looked up. It tells the place of the expanded one. A prefix
-    /// that is not declared breaks P11.
+    /// Opens an element inside the innermost one and looks up its name. Returns the place of the expanded name. A
+    /// prefix that is not declared breaks P11.
     pub fn open(&mut self, alloc: Global, element: OpenElement) -> Result<usize, LineFault>
         ensures opened { OnOk result (self.new.opened ≡ open_of element ∷ self.old.opened) }
         ensures inside { IfOk result (λ at. at < length self.new.names) }
@@ -107,7 +108,7 @@ impl OpenElements {
         place_of_name(alloc, opened, self.round, &mut self.known, name)
     }
 
-    /// The name in a place.
+    /// Returns the name in a place.
     #[inline(always)]
     pub fn name(&self, at: usize) -> &Name
         requires { at < length self.now.names }
@@ -116,7 +117,7 @@ impl OpenElements {
         &self.known[at].name
     }
 
-    /// Takes the innermost element away.
+    /// Closes the innermost element.
     #[inline(always)]
     pub fn close(&mut self, spares: &mut Spares)
         ensures { self.new.opened ≡ around self.old.opened }
