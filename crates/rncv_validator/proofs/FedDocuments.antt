@@ -1,5 +1,5 @@
 -- What is known of the bytes that were fed, and of the verdict on the document.
-use Rattle.std.proofs.Common.{◌≡◌, ◌⊎◌, inl, inr, ℕ, List, [], ◌∷◌, ◌++◌, Option, Some, None, Result, Ok, Err, IfOk, IfSome, refl, ap, sym, subst, ◌∙◌, append_assoc}
+use Rattle.std.proofs.Common.{◌≡◌, ◌⊎◌, inl, inr, ℕ, List, [], ◌∷◌, ◌++◌, All, Option, Some, None, Result, Ok, Err, IfOk, IfSome, refl, ap, sym, subst, ◌∙◌, append_assoc}
 use Rattle.std.proofs.lemmas.List.{append-nil}
 use Rattle.rng_model.specs.documents.Lines.{lines}
 use Rattle.rng_model.specs.datatypes.DatatypeTests.{text_tests}
@@ -15,7 +15,7 @@ use Rattle.rng_model.specs.documents.PyxClauses.{IsFirstFault}
 use Rattle.rng_model.specs.documents.PyxFaults.{Fault}
 use Rattle.rng_model.specs.documents.PyxTrees.{Event, Placed, IsPyxDocument, events_of, item_of}
 use Rattle.rng_model.specs.matching.GrammarReading.{reading_of}
-use Rattle.rng_model.specs.matching.Outcomes.{FailsAt, IsOutcome}
+use Rattle.rng_model.specs.matching.Outcomes.{FailsAt, IsOutcome, KnowsName}
 use Rattle.rng_model.specs.matching.SchemaMatching.{IsValidBySchema}
 use Rattle.rng_model.specs.schema.Schema.{Schema}
 use Rattle.rng_model.specs.simple.Table.{IsValidBy, Table, grammar_of}
@@ -38,11 +38,11 @@ use Rattle.rng_deriv.specs.declared.progress.Progress.{Progress}
 use Rattle.rng_deriv.specs.declared.progress.Progress.TheVariants as progress
 use Rattle.rng_deriv.specs.views.Positions.{IsKnown}
 use Rattle.rng_pattern_table.specs.views.Trees.{trees}
-use Rattle.rng_deriv.specs.views.Matchers.{HasFailedAt, HasGoneOn, IsStateBy, Knows, Matching, failed_line, judges_by, matching_in}
+use Rattle.rng_deriv.specs.views.Matchers.{HasFailedAt, HasGoneOn, HasRunOut, IsStateBy, Knows, Matching, failed_line, judges_by, matching_in}
 use Rattle.rncv_validator.specs.plain.Judging.{IsUnknownTo, verdict_of}
 use Rattle.rncv_validator.specs.declared.fault.DocumentFault.{DocumentFault}
 use Rattle.rncv_validator.specs.declared.fault.DocumentFault.TheVariants as faults
-use Rattle.rncv_validator.specs.views.Documents.{HasBeenFed, IsFaultOfFed, IsFaultOfReader, IsKeptFault, Judging, UnlessMemory, failed_since, matching_of, told_by, verdict_by}
+use Rattle.rncv_validator.specs.views.Documents.{HasBeenFed, HasNotRunOut, IsFaultOfFed, IsFaultOfReader, IsKeptFault, Judging, KnowsAllNames, UnlessMemory, failed_since, matching_of, told_by, verdict_by}
 use Rattle.rncv_validator.specs.views.Validators.{Judges}
 use Rattle.rncv_validator.proofs.DocumentVerdict.{one_verdict, outcome_verdict, same_verdict}
 use Rattle.rncv_validator.proofs.UnknownNames.{unknown_to_grammar}
@@ -87,7 +87,7 @@ Says m o = (bytes : List ℕ) (t : Placed) → IsPyxDocument bytes t → Knows m
 
 -- a taker that was given the events has taken them
 pub gone : (a b : Matching) (es : List Event) → Hands HasGoneOn a b es → HasGoneOn a b es
-gone a b es h = h a [] (record { grammar = refl; knows = λ before k. subst (Knows a) (sym (append-nil before)) k; failed = λ line f. f })
+gone a b es h = h a [] (record { grammar = refl; knows = λ before k. subst (Knows a) (sym (append-nil before)) k; failed = λ line f. f; kept = λ lost. lost })
 
 module _ (d : Judging) (old new : Matching) (there : old ≡ d.matching) (s : Schema) (judges : Judges d.grammar s) (bytes : List ℕ)
     (fed : HasBeenFed d bytes) where
@@ -163,6 +163,10 @@ pub resumed : (g now : Table) (o : Option MatcherState) (s : MatcherState) (m : 
 resumed g now o s m k f d view there same is =
     is ∙ ap (λ t. matching_in t s) same ∙ ap (matching_of g) (sym there) ∙ ap (λ (d : Judging). d.matching) view
 
+-- what holds of the state that there is
+pub state_there : (o : Option MatcherState) (s : MatcherState) (P : MatcherState → Type 0) → o ≡ Some s → IfSome o P → P s
+state_there o s P there is = subst (λ o. IfSome o P) there is
+
 -- what the matcher leaves is a state for the grammar
 module _ (g now : Table) (s kept : MatcherState) (old new : Matching) (same : now ≡ g) (is : old ≡ matching_in now s) (on : new.grammar ≡ old.grammar) where
   grammar_kept : new.grammar ≡ g
@@ -177,6 +181,13 @@ module _ (g now : Table) (s kept : MatcherState) (old new : Matching) (same : no
 
     pub known_put : matching_in new.grammar kept ≡ new → new ≡ matching_of g place
     known_put e = sym e ∙ ap (λ t. matching_in t kept) grammar_kept ∙ ap (matching_of g) (sym put)
+
+    pub kept_put : matching_in new.grammar kept ≡ new → (HasRunOut new → HasRunOut old) → HasNotRunOut g s → IfSome place (HasNotRunOut g)
+    kept_put e lost had =
+        let there : matching_in g kept ≡ new = ap (λ t. matching_in t kept) (sym grammar_kept) ∙ e in
+        let was : old ≡ matching_in g s = is ∙ ap (λ t. matching_in t s) same in
+        subst (λ o. IfSome o (HasNotRunOut g)) (sym put)
+        (λ out. had (subst (λ (m : Matching). HasRunOut m) was (lost (subst (λ (m : Matching). HasRunOut m) there out))))
 
     pub grammar_put : (matching_of g place).grammar ≡ g
     grammar_put = ap (λ o. (matching_of g o).grammar) put
@@ -217,6 +228,20 @@ none_begins d line s bytes rest f judges fed valid =
     let by_grammar = (judges.documents (item_of t)).1 valid.2 in
     fails.cannot (fails.behind ++ begins.0) (bytes ++ rest) t valid.1 parts
     (subst (λ (g : Table). IsValidBy (grammar_of g) (texts_of text_tests) (item_of t)) (sym fed.by_grammar) by_grammar)
+
+-- where none is known and memory was there, the grammar has all names of the starts
+pub names_known : (d : Judging) (bytes : List ℕ) (fed : HasBeenFed d bytes) → failed_since d ≡ None → ¬ (HasRunOut d.matching) → KnowsAllNames d bytes fed
+names_known d bytes fed none kept = subst (λ (t : Table). All (λ (e : Event). KnowsName (grammar_of t) e.kind) fed.events) fed.by_grammar
+    (by_progress d.matching.progress refl none)
+  where
+    by_progress : (p : Progress) → d.matching.progress ≡ p → failed_line p ≡ None → All (λ (e : Event). KnowsName (grammar_of d.matching.grammar) e.kind) fed.events
+    by_progress (progress.Going q line) e none =
+        let m = d.matching in
+        let come : IsKnown (judges_by m) (trees m.grammar m.patterns) (progress.Going q line) fed.events =
+        subst (λ p. IsKnown (judges_by m) (trees m.grammar m.patterns) p fed.events) e fed.knows in
+        come.known
+    by_progress (progress.Failed line) e none = absurd (cc)
+    by_progress progress.Lost e none = absurd (kept e)
 
 -- ---- what a document keeps
 

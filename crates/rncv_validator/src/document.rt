@@ -7,7 +7,7 @@ ghost use Rattle.rncv_model.specs.answers.Verdict.{IsMalformed, IsValidDocument}
 ghost use Rattle.rng_model.specs.matching.SchemaMatching.{IsValidBySchema};
 ghost use Rattle.rncv_model.specs.declared.verdict.Verdict.{Verdict};
 ghost use Rattle.rncv_validator.specs.views.Validators.{Judges};
-ghost use Rattle.rncv_validator.specs.views.Documents.{HasBeenFed, IsFaultOfFed, IsFaultOfReader, UnlessMemory, failed_since, told_by, verdict_by};
+ghost use Rattle.rncv_validator.specs.views.Documents.{HasBeenFed, IsFaultOfFed, IsFaultOfReader, KnowsAllNames, UnlessMemory, failed_since, told_by, verdict_by};
 ghost use Rattle.pyx.specs.views.Calls.{Extends};
 ghost use Rattle.rng_model.specs.documents.Handing.{Hands};
 ghost use Rattle.rng_deriv.specs.views.Matchers.{HasGoneOn};
@@ -44,7 +44,7 @@ impl Model for Document {
     ghost use Rattle.rng_model.specs.simple.Table.{grammar_of};
     ghost use Rattle.rng_model.specs.restrictions.BreaksNone.{BreaksNone};
     ghost use Rattle.rng_deriv.specs.views.Matchers.{IsStateBy};
-    ghost use Rattle.rncv_validator.specs.views.Documents.{IsKeptFault, Judging, matching_of};
+    ghost use Rattle.rncv_validator.specs.views.Documents.{HasNotRunOut, IsKeptFault, Judging, matching_of};
     ghost use Rattle.rng_model.specs.contracts.name.NameClass as classes;
     ghost use Rattle.std.specs.Coded.{codes};
 
@@ -54,7 +54,7 @@ impl Model for Document {
 
     ghost view = { λ d. record { grammar = d.grammar.value; reader = d.reader; matching = matching_of d.grammar.value d.state; fault = d.fault } };
 
-    ghost invariant = { λ d. (BreaksNone (grammar_of d.grammar.value)) × (IfSome d.state (IsStateBy d.grammar.value)) × (IsKeptFault d.reader d.state d.fault) };
+    ghost invariant = { λ d. (BreaksNone (grammar_of d.grammar.value)) × (IfSome d.state (IsStateBy d.grammar.value)) × (IsKeptFault d.reader d.state d.fault) × (IfSome d.state (HasNotRunOut d.grammar.value)) };
 }
 
 impl Document {
@@ -102,11 +102,13 @@ impl Document {
     /// Returns the line after which no continuation is valid, counted from 1, once it is known. Then no document that
     /// begins with the bytes fed so far is valid, and `finish` returns `Invalid` with this line, or `Malformed`.
     ///
-    /// The line is known once the pattern that is left matches nothing. Allocates nothing.
+    /// The line is known once the pattern that is left matches nothing. A start tag with a name that no element of the
+    /// schema's simple form may have always makes it known. Allocates nothing.
     pub fn invalid_since(&self) -> Option<u64>
         ensures value { result ≡ failed_since self.now }
         ensures hopeless { IfSome result (λ line. (s : Schema) (bytes rest : List ℕ) → Judges self.now.grammar s → HasBeenFed self.now bytes
             → ¬ (IsValidDocument (IsValidBySchema s) (bytes ++ rest))) }
+        ensures known { result ≡ None → self.now.fault ≡ None → (bytes : List ℕ) (fed : HasBeenFed self.now bytes) → KnowsAllNames self.now bytes fed }
     {
         self.state.as_ref()?.failed_at()
     }

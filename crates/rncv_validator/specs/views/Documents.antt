@@ -1,6 +1,7 @@
 -- What a document represents after each piece.
-use Rattle.std.specs.Prelude.{◌≡◌, ℕ, List, [], ◌++◌, Option, Some, None, Result, Ok, Err, IfSome}
-use Rattle.rng_model.specs.simple.Table.{Table}
+use Rattle.std.specs.Prelude.{◌≡◌, ℕ, List, [], ◌++◌, All, Option, Some, None, Result, Ok, Err, IfSome}
+use Rattle.rng_model.specs.simple.Table.{Table, grammar_of}
+use Rattle.rng_model.specs.matching.Outcomes.{KnowsName}
 use Rattle.rng_model.specs.documents.Lines.{lines}
 use Rattle.rng_model.specs.documents.PyxClauses.{IsFirstFault}
 use Rattle.rng_model.specs.documents.PyxTrees.{Event}
@@ -52,6 +53,14 @@ IsFaultOfReader k (faults.Malformed clause line) = k.fault ≡ Some (pyx.At clau
 abbrev pub IsKeptFault : Kept → Option MatcherState → Option DocumentFault → Type 0
 IsKeptFault k None f = f ≡ Some faults.Memory
 IsKeptFault k (Some s) f = IfSome f (IsFaultOfReader k)
+
+-- the state is not that of a matcher that has run out of memory
+abbrev pub HasNotRunOut : Table → MatcherState → Type 0
+HasNotRunOut t s = ¬ (HasRunOut (matching_in t s))
+
+-- no start of an element is among the events that were read if its name is one that no element of the grammar may have
+abbrev pub KnowsAllNames : (d : Judging) (bytes : List ℕ) → HasBeenFed d bytes → Type 0
+KnowsAllNames d bytes fed = All (λ (e : Event). KnowsName (grammar_of d.grammar) e.kind) fed.events
 
 -- the line after which no continuation is valid, if it is known
 abbrev pub failed_since : Judging → Option ℕ

@@ -33,16 +33,18 @@ Knows m es = IsKnown (judges_by m) (trees m.grammar m.patterns) m.progress es
 abbrev pub HasFailedAt : Matching → ℕ → Type 0
 HasFailedAt m line = IsFailed line m.progress
 
+-- a call ran out of memory
+abbrev pub HasRunOut : Matching → Type 0
+HasRunOut m = IsLost m.progress
+
 -- These events lead from the first to the second. They have the same grammar. What the second knows represents the
--- events that the first had, followed by these. If the first has failed, so has the second.
+-- events that the first had, followed by these. If the first has failed, so has the second. The second has run out of
+-- memory only if the first had.
 pub record HasGoneOn (first m : Matching) (es : List Event) : Type 0 where
   pub grammar : m.grammar ≡ first.grammar
   pub knows : (before : List Event) → Knows first before → Knows m (before ++ es)
   pub failed : (line : ℕ) → HasFailedAt first line → HasFailedAt m line
-
--- a call ran out of memory
-abbrev pub HasRunOut : Matching → Type 0
-HasRunOut m = IsLost m.progress
+  pub kept : HasRunOut m → HasRunOut first
 
 -- the line after which no continuation is valid, if it is known
 abbrev pub failed_line : Progress → Option ℕ
