@@ -32,10 +32,12 @@ python3 -B "$here/edits/test.py" >"$room/edits" 2>&1 & edits=$!
 RNCV_REQUIRED=$built "$here/xml/test.sh" "$program" >"$room/xml" 2>&1 & xml=$!
 RNCV_REQUIRED=$built "$here/package/test.sh" "$program" >"$room/package" 2>&1 & package=$!
 RNCV_REQUIRED=$built "$here/lsp/test.sh" >"$room/lsp" 2>&1 & lsp=$!
-for part in "$schema" "$transcripts" "$believed" "$pages" "$edits" "$xml" "$package" "$lsp"; do
+"$here/refused_growths/test.sh" "$program" >"$room/growths" 2>&1 & growths=$!
+"$here/streams/test.sh" "$program" >"$room/streams" 2>&1 & streams=$!
+for part in "$schema" "$transcripts" "$believed" "$pages" "$edits" "$xml" "$package" "$lsp" "$growths" "$streams"; do
   wait "$part" || status=1
 done
-for part in schema transcripts believed pages edits xml package lsp; do
+for part in schema transcripts believed pages edits xml package lsp growths streams; do
   cat "$room/$part"
 done
 
