@@ -1,16 +1,15 @@
 -- The namespaces of the names of a class.
-use Rattle.std.proofs.Common.{◌≡◌, refl, sym, ap, ap₂, ◌∙◌, ℕ, ◌+◌, ◌<◌, ◌≤◌, List, [], ◌∷◌, length, take, get_or, map, Bool, true, false, ◌&&◌, ◌||◌, cond}
+use Rattle.std.proofs.Common.{◌≡◌, refl, sym, ap, ap₂, ◌∙◌, ℕ, ◌+◌, ◌<◌, ◌≤◌, List, [], ◌∷◌, length, take, get_or, map, Bool, true, false, ◌||◌, cond}
 use Rattle.std.proofs.Common.{bytes_eq, Bor, rules}
 use Rattle.std.specs.List.{list_any}
 use Rattle.std.proofs.lemmas.List.{take_all}
 use Rattle.std.proofs.lemmas.List.Folds.{list_any_more}
 use Rattle.std.proofs.lemmas.Slice.Eq.{bytes_eq-Decides}
-use Rattle.rng_model.specs.names.Names.{Name, NameClass, AreApart, some_of, ns_except, ns_name, name_is}
+use Rattle.rng_model.specs.names.Names.{Name, NameClass, AreApart, some_of}
 use Rattle.rng_names.specs.plain.Holding.{holds}
 use Rattle.rng_names.specs.views.Namespaces.{Covers, has_ns}
 use Rattle.rng_names.specs.declared.namespaces.Namespaces.{Namespaces}
 use Rattle.rng_names.proofs.ClassChoices.{holds-members}
-use Rattle.rng_names.proofs.FreshTexts.{or_left, or_right}
 use Rattle.rng_names.proofs.HeldByAlternatives.{or-assoc}
 use Rattle.rng_names.proofs.Holding.{holds-Decides}
 use Rattle.rng_names.proofs.NameSets.{one_more}
@@ -40,34 +39,6 @@ module _ {A : Type 0} (f : A → NameClass) (xs : List A) where
   pub covers_all : (all : Namespaces) (n : ℕ) (c : NameClass) → length xs ≤ n → c ≡ some_of (map f xs) → CoversFirst all n → Covers all c
   covers_all all n c past whole first q e =
       first q (ap (list_any (λ x. holds (f x) q)) (take_all n xs past) ∙ sym (holds-members f xs q) ∙ ap (λ k. holds k q) (sym whole) ∙ e)
-
--- ---- a class in a namespace
-
-and-first : (x y : Bool) → (x && y) ≡ true → x ≡ true
-and-first true y e = refl
-and-first false y e = e
-
-and-last : (x y : Bool) → (x && y) ≡ true → y ≡ true
-and-last true y e = e
-and-last false y e = search rules
-
--- a class with names of one namespace alone is covered after this namespace is added
-pub covers_ns : (old new : Namespaces) (u : List ℕ) (c : NameClass) → ((v : List ℕ) → has_ns new v ≡ (has_ns old v || bytes_eq u v))
-    → ((q : Name) → holds c q ≡ true → bytes_eq u q.ns ≡ true) → Covers new c
-covers_ns old new u c more inside q e = more q.ns ∙ or_right (has_ns old q.ns) _ (inside q e)
-
-pub still_there : (old new : Namespaces) (u : List ℕ) → ((v : List ℕ) → has_ns new v ≡ (has_ns old v || bytes_eq u v))
-    → (v : List ℕ) → has_ns old v ≡ true → has_ns new v ≡ true
-still_there old new u more v e = more v ∙ or_left (has_ns old v) _ e
-
-pub inside_except : (u : List ℕ) (c d : NameClass) → c ≡ ns_except u d → (q : Name) → holds c q ≡ true → bytes_eq u q.ns ≡ true
-inside_except u c d is q e = and-first (bytes_eq u q.ns) _ (ap (λ k. holds k q) (sym is) ∙ e)
-
-pub inside_ns : (u : List ℕ) (c : NameClass) → c ≡ ns_name u → (q : Name) → holds c q ≡ true → bytes_eq u q.ns ≡ true
-inside_ns u c is q e = ap (λ k. holds k q) (sym is) ∙ e
-
-pub inside_name : (n : Name) (c : NameClass) → c ≡ name_is n → (q : Name) → holds c q ≡ true → bytes_eq n.ns q.ns ≡ true
-inside_name n c is q e = and-last (bytes_eq n.local q.local) _ (ap (λ k. holds k q) (sym is) ∙ e)
 
 -- ---- namespaces that are apart
 

@@ -42,9 +42,6 @@ linked_kept xs ys all grows = below_kept xs ys grows.kept (length xs) (length ys
 pub linked_same : (xs : List Alternatives) (old new : Alternatives) → new.excepted.items ≡ old.excepted.items → Linked xs old → Linked xs new
 linked_same xs old new same linked j e at = linked j e (ap (λ es. slice_get es j) (sym same) ∙ at)
 
-pub grows_same : (xs : List Alternatives) → Grows xs xs
-grows_same xs = record { longer = omega arith; kept = λ k all e. e; tables = λ are. are }
-
 pub grows_more : (xs ys zs : List Alternatives) → Grows xs ys → Grows ys zs → Grows xs zs
 grows_more xs ys zs a b =
     let first = a.longer in

@@ -107,14 +107,6 @@ adds_except old new e class any written put =
           ∙ ap (λ x. excepted_hold old q || x) (or-false (test e) ∙ sym (as_excepted q e.ns c));
     }
 
--- it is its only alternative
-pub adds_alone : (old new : Alternatives) (ns : Option (List ℕ)) (d c : NameClass) → c ≡ excepting ns d → Adds old new (λ test. test (excepting ns d))
-    → Adds old new (λ test. has_alternative test c)
-adds_alone old new ns d c is a = subst (λ k. Adds old new (λ test. has_alternative test k)) (sym is) (alone ns a) where
-  alone : (ns : Option (List ℕ)) → Adds old new (λ test. test (excepting ns d)) → Adds old new (λ test. has_alternative test (excepting ns d))
-  alone None a = a
-  alone (Some u) a = a
-
 -- ---- a class holds what one of its alternatives holds
 
 module _ (q : Name) where

@@ -68,15 +68,3 @@ measured_more old new most more u l measured grown less inside v m e = by (has o
       let there : same_parts u l v m ≡ true = ap (λ b. b || same_parts u l v m) (sym f) ∙ sym (grown v m) ∙ e in
       let same : bytes_of l ≡ bytes_of m = same_bytes l m (and-second (bytes_eq u v) _ there) in
       omega (arith, same, inside)
-
--- a greater number is a bound too
-pub still_measured : (keys : List (List ℕ × Option (List ℕ))) (most more : ℕ) → IsMeasured keys most → most ≤ more → IsMeasured keys more
-still_measured keys most more measured less u l e = let below = measured u l e in omega (arith, below, less)
-
--- a longer local name is not in the set
-pub not_there : (keys : List (List ℕ × Option (List ℕ))) (most : ℕ) (u : List ℕ) (l : Option (List ℕ)) → IsMeasured keys most
-    → (bytes_of l ≤ most → ⊥) → has keys u l ≡ false
-not_there keys most u l measured past = by (has keys u l) refl where
-  by : (b : Bool) → has keys u l ≡ b → has keys u l ≡ false
-  by false e = e
-  by true e = absurd (past (measured u l e))
