@@ -12,11 +12,15 @@
 #![tactic(auto)]
 
 mod alternatives;
+mod class_table;
 mod common_name;
 mod grammar_classes;
 mod key_tables;
 mod membership;
 mod name_keys;
+mod name_set;
+mod namespaces;
+mod prepared_class;
 mod texts;
 mod written;
 mod written_names;
@@ -24,4 +28,5 @@ mod written_names;
 pub use common_name::overlap;
 pub use membership::contains;
 pub use name_keys::{NameKey, NameKeys};
+pub use prepared_class::PreparedClass;
 pub use written::{fresh_text, longest};

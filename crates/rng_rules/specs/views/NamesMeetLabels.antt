@@ -9,12 +9,16 @@ use Rattle.rng_model.specs.declared.name.NameClass.{NameClass}
 use Rattle.rng_model.specs.declared.name.NameClass.TheVariants as class
 use Rattle.rng_rules.specs.declared.names_meet.NamesOf.{NamesOf}
 use Rattle.rng_rules.specs.declared.names_meet_labels.Label as declared
+use Rattle.rng_rules.specs.declared.names_meet_labels.ReadyLabel.{ReadyLabel}
 use Rattle.rng_rules.specs.declared.names_meet_groups.PlainName.{PlainName}
 use Rattle.rng_rules.specs.views.NamesMeetRows.{IsLabelled, class_in}
 use Rattle.rng_rules.specs.views.NamesMeetSides.{IsUnder}
 
 abbrev pub label_of : declared.Label → ℕ × NameClass
 label_of l = (l.row, l.class.now)
+
+abbrev pub ready_label_of : ReadyLabel → ℕ × NameClass
+ready_label_of l = (l.row, l.class)
 
 -- the row with its class, if it has one
 abbrev pub label_list : ℕ → Option NameClass → List (ℕ × NameClass)
