@@ -20,6 +20,7 @@ pub mod TagDeclarations
 pub mod TagNamespaces
 pub mod TagRepeats
 pub mod TagSlots
+pub mod DeclarationSlots
 pub mod TagParts
 pub mod TagAnswers
 pub mod TagUnique

@@ -148,7 +148,7 @@ impl State {
         if any_forbidden(declarations.as_slice()) {
             return Err(LineFault::Clause(11));
         }
-        let twice = is_written_twice(declarations.as_slice());
+        let twice = declarations.len() > 1 && is_written_twice(declarations.as_slice());
         self.in_tag = false;
         let at = self
             .elements

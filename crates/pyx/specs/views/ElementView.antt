@@ -28,6 +28,10 @@ resolved (Some a) = Ok a
 abbrev pub written_attribute : written.WrittenAttribute → WrittenAttribute
 written_attribute a = record { name = written_of (string_bytes a.name); content = string_bytes a.value }
 
+-- the name of one of its lines, as it is written
+abbrev pub written_bytes : written.WrittenAttribute → List ℕ
+written_bytes a = string_bytes a.name
+
 abbrev pub open_of : OpenElement → Open
 open_of e = record { name = written_of (string_bytes e.name); declared = map written_attribute e.declarations.items }
 
