@@ -3,6 +3,8 @@ pub mod TextCuts
 pub mod ReplacedEscapes
 pub mod WrittenNames
 pub mod OpenStack
+pub mod OpenNames
+pub mod JudgedNames
 pub mod KnownNames
 pub mod ExpandedAttributes
 pub mod LineCounts

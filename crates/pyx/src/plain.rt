@@ -61,7 +61,12 @@ fn may_follow(byte: u8) -> bool
 fn all_follow(bytes: &[u8]) -> bool
     ensures { result ≡ list_all may_follow bytes.now }
 {
-    bytes.iter().all(|byte| may_follow(*byte))
+    'bytes: for byte in bytes {
+        if !may_follow(*byte) {
+            return false;
+        }
+    }
+    true
 }
 
 /// A name without a colon, of characters of ASCII.
