@@ -61,12 +61,7 @@ fn may_follow(byte: u8) -> bool
 fn all_follow(bytes: &[u8]) -> bool
     ensures { result ≡ list_all may_follow bytes.now }
 {
-    'bytes: for byte in bytes {
-        if !may_follow(*byte) {
-            return false;
-        }
-    }
-    true
+    bytes.iter().all(|byte| may_follow(*byte))
 }
 
 /// A name without a colon, of characters of ASCII.
