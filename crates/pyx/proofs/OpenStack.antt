@@ -14,7 +14,7 @@ stack_push xs x = ap reverse (map-append open_of xs (x ∷ [])) ∙ reverse-appe
 pub stack_length : (xs : List OpenElement) → length (stack_of xs) ≡ length xs
 stack_length xs = length-reverse (map open_of xs) ∙ length-map xs open_of
 
--- an element that declares nothing, in front
+-- an element that declares nothing, at the front
 pub passed_over : (stack outer : List Open) (element : Open) (prefix : Option (List ℕ)) → stack ≡ element ∷ outer → length element.declared ≡ 0
     → namespace_of (declared_in outer) prefix ≡ namespace_of (declared_in stack) prefix
 unfolding namespace_of found_in

@@ -1,4 +1,4 @@
-// Elements that are open.
+// Open elements.
 ghost use Rattle.std.specs.Prelude.{◌≡◌, ◌<◌, ◌∷◌, ◌&&◌, [], IfOk, OnOk, length, map, true};
 ghost use Rattle.rng_model.specs.plain.Answers.{Gives};
 ghost use Rattle.rng_model.specs.names.NameViews.{name_of};
@@ -19,20 +19,20 @@ use std::alloc::Global;
 use std::marker::Model;
 use std::mem;
 
-/// The elements that are open, and names that were looked up among them.
+/// The open elements, and the names that have been looked up inside them.
 ///
-/// A name is known as long as the same declarations hold, so a name that stood before among the same elements is not looked up anew. At most
-/// 256 names are kept, and all of them but one have at most 1,024 bytes, as their namespaces have. Contracts see the elements, the
-/// innermost first, and the names in their places.
+/// A name stays known as long as the same declarations hold, so a name that occurs again among the same elements is not
+/// looked up again. At most 256 names are kept, and all except one have at most 1,024 bytes, as have their namespaces.
+/// Contracts see the elements, the innermost first, and the names in their places.
 #[derive(Drop)]
 pub struct OpenElements {
     /// The innermost last.
     opened: Vec<OpenElement>,
-    /// The name of the tag that is being read.
+    /// The name of the tag that is being read. It is a name or empty, as those of the open elements.
     begun: String,
-    /// It ends where an element that declares something is opened or closed.
+    /// A round ends where an element with a declaration is opened or closed.
     round: u64,
-    /// Those of earlier rounds are no longer known.
+    /// Names of earlier rounds are unknown.
     known: Vec<KnownName>,
 }
 
@@ -47,7 +47,8 @@ impl Model for OpenElements {
     ghost invariant = { λ e. AreKept e.opened.items (string_bytes e.begun) e.round e.known.items };
 }
 
-/// The place of what a name stands for inside these elements, looked up if it is not known. A prefix that is not declared breaks P11.
+/// Returns the place of the expanded name that a name has inside these elements. Looks it up if it is not known. A
+/// prefix that is not declared breaks P11.
 #[tactic(auto, unfolding(crate::specs::plain::TagReader::element_name, crate::specs::plain::LineReader::written_of))]
 #[inline(always)]
 fn place_of_name(
@@ -77,7 +78,7 @@ fn place_of_name(
 }
 
 impl OpenElements {
-    /// None is open. Takes no memory.
+    /// Creates a value with no open element. Allocates nothing.
     pub fn new(alloc: Global) -> Self
         ensures { result.opened ≡ [] }
     {
@@ -89,7 +90,7 @@ impl OpenElements {
         }
     }
 
-    /// The elements, the innermost last.
+    /// Returns the elements, the innermost last.
     #[inline(always)]
     pub fn elements(&self) -> &[OpenElement]
         ensures { stack_of result.now ≡ self.now.opened }
@@ -97,7 +98,7 @@ impl OpenElements {
         self.opened.as_slice()
     }
 
-    /// A tag begins, if this is a name.
+    /// Begins a tag if this is a name, and returns whether it is one.
     #[inline(always)]
     pub fn begin(
         &mut self,
@@ -116,8 +117,8 @@ impl OpenElements {
         Ok(true)
     }
 
-    /// The element of the tag that has begun is open, the innermost, with these declarations, and its name is looked up. It returns the place of
-    /// the expanded one. A prefix that is not declared breaks P11.
+    /// Opens the element of the tag that has begun, inside the innermost one, with these declarations. Looks up its name
+    /// and returns the place of the expanded name. A prefix that is not declared breaks P11.
     pub fn open(
         &mut self,
         alloc: Global,
@@ -138,7 +139,8 @@ impl OpenElements {
         place_of_name(alloc, opened, self.round, &mut self.known, name)
     }
 
-    /// The innermost element has this name. The names of open elements are names, so this is one if it is equal to that of the innermost.
+    /// Returns whether this is a name and that of the innermost element. The names of open elements are names, so it is
+    /// enough to compare them.
     #[inline(always)]
     pub fn is_innermost(&self, name: &str) -> bool
         ensures { result ≡ is_name name.now && is_innermost (written_of name.now) self.now.opened }
@@ -149,7 +151,7 @@ impl OpenElements {
         }
     }
 
-    /// The name in a place.
+    /// Returns the name in a place.
     #[inline(always)]
     pub fn name(&self, at: usize) -> &Name
         requires { at < length self.now.names }
@@ -158,7 +160,7 @@ impl OpenElements {
         &self.known[at].name
     }
 
-    /// Takes the innermost element away.
+    /// Closes the innermost element.
     #[inline(always)]
     pub fn close(&mut self, spares: &mut Spares)
         ensures opened { self.new.opened ≡ around self.old.opened }

@@ -1,4 +1,4 @@
--- What a table of names and namespaces has after one more is put there.
+-- The contents of a table of names and namespaces after one more is inserted.
 use Rattle.std.proofs.Common.{◌≡◌, refl, sym, ap, ap₂, ◌∙◌, ℕ, List, [], ◌∷◌, Bool, true, false, cond, ◌&&◌, ◌||◌, Option, Some, None, Bor, bytes_eq}
 use Rattle.std.specs.HashSet.{HashSet, contains}
 use Rattle.std.specs.List.{list_any}
@@ -8,7 +8,7 @@ use Rattle.rng_names.specs.views.Alternatives.{has, is_key, same_parts, seen}
 use Rattle.rng_names.specs.declared.alternatives.NameOrNs.{NameOrNs}
 use Rattle.rng_names.specs.contracts.alternatives.NameOrNsPartialEq.TheImpl as same
 
--- ---- keys are compared by what is seen of them
+-- ---- keys are compared by their views
 
 same_seen : (a b : Option (Bor (List ℕ))) → option_eq (λ x y. bytes_eq x.now y.now) a b ≡ option_eq bytes_eq (seen a) (seen b)
 same_seen None None = refl

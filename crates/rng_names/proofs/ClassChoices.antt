@@ -1,4 +1,4 @@
--- A choice, from its members.
+-- A choice, in terms of its members.
 use Rattle.std.proofs.Common.{◌≡◌, ℕ, ◌<◌, ◌≤◌, max, List, [], ◌∷◌, length, map, take, fold, get_or, Bool, true, false, ◌||◌, refl, ap, sym, ◌∙◌, arith}
 use Rattle.std.specs.List.{list_any}
 use Rattle.std.proofs.lemmas.List.{take_all}
@@ -18,7 +18,7 @@ module _ {A : Type 0} where
   pub any_here : (p : A → Bool) (xs : List A) (i : ℕ) (x : A) → i < length xs → x ≡ get_or xs i x → p x ≡ true → list_any p xs ≡ true
   any_here p xs i x inside at passes = list_any_at p xs i x inside (ap p (sym at) ∙ passes)
 
-  -- a test that passes at no place in front of the end passes nowhere
+  -- a test that passes at no place before the end passes nowhere
   pub none_before : (p : A → Bool) (xs : List A) (i : ℕ) → length xs ≤ i → list_any p (take i xs) ≡ false → list_any p xs ≡ false
   none_before p xs i past none = ap (list_any p) (sym (take_all i xs past)) ∙ none
 

@@ -1,4 +1,4 @@
--- The alternatives of a class answer as the class does.
+-- The alternatives of a class hold the names that the class holds.
 use Rattle.std.proofs.Common.{◌≡◌, refl, sym, subst, ap, ap₂, ◌∙◌, arith, ℕ, ◌<◌, List, [], ◌∷◌, length, map, Bool, true, false, ◌&&◌, ◌||◌, Option, Some, None}
 use Rattle.std.proofs.Common.{bytes_eq, ◌++◌, Bor, Vec, Global}
 use Rattle.std.specs.List.{list_any}
@@ -53,7 +53,7 @@ adds_none old = record {
   excepted = λ q. sym (or-false (excepted_hold old q));
 }
 
--- one thing after another
+-- one thing after the other
 pub adds_more : (old between new : Alternatives) (first more both : (NameClass → Bool) → Bool) → Adds old between first → Adds between new more
     → ((test : NameClass → Bool) → both test ≡ (first test || more test)) → Adds old new both
 adds_more old between new first more both a b joined = record {
@@ -67,7 +67,7 @@ adds_more old between new first more both a b joined = record {
       ∙ ap (λ x. excepted_hold old q || x) (sym (joined t));
 }
 
--- a choice, from its members
+-- a choice, in terms of its members
 pub adds_choice : {A : Type 0} (f : A → NameClass) (xs : List A) (c : NameClass) (old new : Alternatives) → c ≡ some_of (map f xs)
     → Adds old new (λ test. list_any (λ x. has_alternative test (f x)) xs) → Adds old new (λ test. has_alternative test c)
 adds_choice f xs c old new is a =
@@ -157,7 +157,7 @@ module _ (q : Name) where
         ap₂ (λ x y. x || y) (held_by_alternatives c) (some_held_by_alternatives cs)
         ∙ parts_of_both (λ test. has_alternative test c) (λ test. some_has_alternative test cs)
 
--- ---- a local name that is not written is none of the names
+-- ---- a local name that is not written is not among the names
 
 neither : (x y : Bool) → x ≡ false → y ≡ false → (x || y) ≡ false
 neither true y e f = e
@@ -182,7 +182,7 @@ module _ (q : Name) where
     none_of_some_named no_classes less = refl
     none_of_some_named (class_and c cs) less = neither _ _ (none_named c (omega (arith, less))) (none_of_some_named cs (omega (arith, less)))
 
--- ---- a table of all alternatives, made from none, stands for the class
+-- ---- a table of all alternatives, built from an empty one, represents the class
 
 pub stands : (old all : Alternatives) → old.any ≡ false → ((u : List ℕ) (l : Option (List ℕ)) → has old.written u l ≡ false)
     → ((q : Name) → excepted_hold old q ≡ false) → Adds old all (λ test. has_alternative test (class_of old.class.now)) → Stands all

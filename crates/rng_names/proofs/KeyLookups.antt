@@ -1,4 +1,4 @@
--- Where names stand in a row, and which number a text has.
+-- Positions of names, and numbers of texts.
 use Rattle.std.proofs.Common.{◌≡◌, refl, sym, ap, ◌∙◌, ℕ, zero, suc, ◌+◌, Bool, true, false, not, cond, nat_lt}
 use Rattle.std.proofs.Common.{List, [], ◌∷◌, ◌++◌, Some, None, option_map, map, length, position, slice_get, string_bytes, String, bytes_eq}
 use Rattle.std.specs.List.{list_any, prefix_len, position_or_len}

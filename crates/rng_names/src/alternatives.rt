@@ -9,27 +9,27 @@ use rng_model::{NameClass, OutOfMemory};
 use std::alloc::Global;
 use std::collections::HashSet;
 
-/// A name, or all names of a namespace where there is no local name.
+/// A name, or all names of a namespace if there is no local name.
 #[derive(Clone, Copy, PartialEq, Eq, Hash)]
 struct NameOrNs<'a> {
     ns: &'a str,
     local: Option<&'a str>,
 }
 
-/// The alternatives of a class: what its choices are between, at any depth, or the class itself.
+/// The alternatives of a class: the members of its choices, at any depth, or the class itself.
 #[derive(Drop)]
 pub(crate) struct Alternatives<'a> {
     pub(crate) class: &'a NameClass,
     /// Whether `*` is one of them.
     any: bool,
-    /// The names and the namespaces that are.
+    /// The names and the namespaces among them.
     written: HashSet<NameOrNs<'a>>,
     /// Those with an except.
     excepted: Vec<&'a NameClass>,
 }
 
 impl<'a> Alternatives<'a> {
-    /// Those of a class. Linear in its size, but for hashing.
+    /// Collects the alternatives of a class. Linear in its size, apart from hashing.
     pub(crate) fn of_class(alloc: Global, class: &'a NameClass) -> Result<Self, OutOfMemory>
         ensures class { IfOk result (λ all. class_of all.class.now ≡ class_of class.now) }
         ensures stands { IfOk result Stands }
@@ -44,7 +44,7 @@ impl<'a> Alternatives<'a> {
         Ok(all)
     }
 
-    /// Adds those of a class.
+    /// Adds the alternatives of a class.
     fn add(&mut self, class: &'a NameClass) -> Result<(), OutOfMemory>
         ensures { OnOk result (Adds self.old self.new (λ test. has_alternative test (class_of class.now))) }
     {
@@ -77,28 +77,28 @@ impl<'a> Alternatives<'a> {
         Ok(())
     }
 
-    /// Whether the name, or all names of the namespace, are an alternative.
+    /// Returns whether the name, or all names of the namespace, is an alternative.
     fn has(&self, ns: &str, local: Option<&str>) -> bool
         ensures { result ≡ has self.now.written ns.now (seen local.entry) }
     {
         self.written.contains(&NameOrNs { ns, local })
     }
 
-    /// Whether one of them holds the name of this namespace and this local name.
+    /// Returns whether an alternative holds the name with this namespace and this local name.
     pub(crate) fn hold(&self, ns: &str, local: &str) -> bool
         ensures { result ≡ hold self.now (pair ns.now local.now) }
     {
         self.has(ns, Some(local)) || self.hold_fresh(ns, local)
     }
 
-    /// Whether one of them holds a name with a local name that is not written in them.
+    /// Returns whether an alternative holds the name, if its local name is not written in them.
     pub(crate) fn hold_fresh(&self, ns: &str, local: &str) -> bool
         ensures { result ≡ hold_fresh self.now (pair ns.now local.now) }
     {
         self.any || self.has(ns, None) || self.excepted_hold(ns, local)
     }
 
-    /// Whether one of those with an except holds the name.
+    /// Returns whether an alternative with an except holds the name.
     fn excepted_hold(&self, ns: &str, local: &str) -> bool
         ensures { result ≡ excepted_hold self.now (pair ns.now local.now) }
     {

@@ -14,13 +14,13 @@ use crate::written::{fresh_text, longest};
 use rng_model::{NameClass, OutOfMemory};
 use std::alloc::Global;
 
-/// Whether some name lies in both classes, a name being any pair of texts.
+/// Returns whether some name is in both classes, where any pair of texts is a name.
 ///
-/// RELAX NG Specification, section 7.3. Whichever of the two comes first, the answer is the same. Only want of memory is
-/// an error. Where one of the two is a plain name, the cost is one `contains` of the other, and no memory is taken. Else
-/// memory and cost are linear in the size of the two classes, but for hashing, where no alternative of them has an except;
-/// and for each alternative that has one, the cost is at most two comparisons of each name and each namespace of the
-/// classes with each that is written in it.
+/// RELAX NG Specification, section 7.3. The order of the two classes does not change the result. Fails only when out of
+/// memory. If one of the two is a plain name, the cost is one `contains` of the other, and nothing is allocated.
+/// Otherwise memory and cost are linear in the size of the two classes, apart from hashing, if no alternative of them
+/// has an except. For each alternative with an except, each name and each namespace of the classes is compared at most
+/// twice with each that is written in the alternative.
 pub fn overlap(alloc: Global, a: &NameClass, b: &NameClass) -> Result<bool, OutOfMemory>
     ensures common { IfOk result (λ yes. IsTrue yes → Overlap (class_of a.now) (class_of b.now)) }
     ensures apart { IfOk result (λ yes. IsFalse yes → AreApart (class_of a.now) (class_of b.now)) }
@@ -37,7 +37,7 @@ pub fn overlap(alloc: Global, a: &NameClass, b: &NameClass) -> Result<bool, OutO
     }
 }
 
-/// Whether some name lies in both classes, told by a text that is longer than each that is written in them.
+/// Returns whether some name is in both classes, by means of a text that is longer than each text written in them.
 fn overlap_with(
     alloc: Global,
     fresh: &str,
@@ -54,7 +54,8 @@ fn overlap_with(
     Ok(meet(&first, &second, fresh))
 }
 
-/// Whether some name lies in both classes, looked for among those that are written in them and those of the fresh text.
+/// Returns whether some name is in both classes. It tries the names that are written in them and those with the fresh
+/// text.
 fn meet(a: &Alternatives, b: &Alternatives, fresh: &str) -> bool
     requires first { Stands a.now }
     requires second { Stands b.now }
@@ -66,7 +67,7 @@ fn meet(a: &Alternatives, b: &Alternatives, fresh: &str) -> bool
     both_hold(a, b, fresh, fresh) || is_met(a.class, fresh, a, b) || is_met(b.class, fresh, a, b)
 }
 
-/// Whether both classes hold the name of this namespace and this local name.
+/// Returns whether both classes hold the name with this namespace and this local name.
 fn both_hold(a: &Alternatives, b: &Alternatives, ns: &str, local: &str) -> bool
     requires first { Stands a.now }
     requires second { Stands b.now }
@@ -76,7 +77,8 @@ fn both_hold(a: &Alternatives, b: &Alternatives, ns: &str, local: &str) -> bool
     a.hold(ns, local) && b.hold(ns, local)
 }
 
-/// Whether both classes hold the name of this namespace and a local name that is longer than each that is written in them.
+/// Returns whether both classes hold the name with this namespace and a local name that is longer than each text
+/// written in them.
 fn both_hold_fresh(a: &Alternatives, b: &Alternatives, ns: &str, fresh: &str) -> bool
     requires first { Stands a.now }
     requires second { Stands b.now }
@@ -88,7 +90,7 @@ fn both_hold_fresh(a: &Alternatives, b: &Alternatives, ns: &str, fresh: &str) ->
     a.hold_fresh(ns, fresh) && b.hold_fresh(ns, fresh)
 }
 
-/// Whether both classes hold a name that is written in the first one, or the fresh local name in a namespace of it.
+/// Returns whether both classes hold a name that is written in `written`, or the fresh local name in a namespace of it.
 fn is_met(written: &NameClass, fresh: &str, a: &Alternatives, b: &Alternatives) -> bool
     requires first { Stands a.now }
     requires second { Stands b.now }

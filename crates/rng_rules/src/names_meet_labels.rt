@@ -13,14 +13,14 @@ use rng_model::{NameClass, OutOfMemory, PatternId};
 use rng_names::overlap;
 use std::alloc::Global;
 
-/// A row that has a name class by itself.
+/// A row that itself has a name class.
 #[derive(Clone, Copy)]
 pub(crate) struct Label<'a> {
     pub row: usize,
     pub class: &'a NameClass,
 }
 
-/// The rows that have name classes by themselves, of those that stand in a row between whose sides names must not meet.
+/// Returns the rows that have name classes themselves, of those inside a row between whose sides names must not meet.
 /// Linear.
 pub(crate) fn labels<'a>(alloc: Global, rows: &Rows<'a>) -> Result<Vec<Label<'a>>, OutOfMemory>
     requires { AreRows rows.now }
@@ -51,7 +51,7 @@ fn add_label<'a>(
     Ok(())
 }
 
-/// The name class that a row has by itself, if it is marked.
+/// Returns the name class that a row itself has, if the row is marked.
 fn judged_class<'a>(rows: &Rows<'a>, under: &[usize], row: usize) -> Option<&'a NameClass>
     requires { row < length under.now }
     ensures { option_copied result ≡ judged_class rows.now.of rows.now.grammar.now under.now row }
@@ -65,7 +65,7 @@ fn judged_class<'a>(rows: &Rows<'a>, under: &[usize], row: usize) -> Option<&'a 
     }
 }
 
-/// The rows whose classes have a name in common with this one.
+/// Returns the rows whose classes have a name in common with this one.
 pub(crate) fn overlapping(
     alloc: Global,
     labels: &[Label<'_>],

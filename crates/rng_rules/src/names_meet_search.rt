@@ -16,8 +16,9 @@ use crate::names_meet_sides::{Marks, Rows};
 use rng_model::{NameClass, OutOfMemory};
 use std::alloc::Global;
 
-/// Whether two rows of one group, or one and itself, stand on the two sides of a row. Linear, and takes time in proportion
-/// to what each group of two or more reaches, and to what each row alone reaches behind the first that stands in two rows.
+/// Returns whether two rows of one group, or one and itself, occur on the two sides of a row. The cost is linear in the
+/// rows and in what each group of two or more rows reaches. For a single row, it is what is reached from the first row
+/// above it that is a part of two rows.
 pub(crate) fn groups_meet(
     alloc: Global,
     rows: &Rows<'_>,
@@ -49,7 +50,8 @@ pub(crate) fn groups_meet(
     Ok(false)
 }
 
-/// Whether two of these rows, or one and itself, stand on the two sides of a row. For a row alone, its head is asked.
+/// Returns whether two of these rows, or one and itself, occur on the two sides of a row. For a single row the search
+/// starts at its head.
 fn group_meets(
     alloc: Global,
     rows: &Rows<'_>,
@@ -77,8 +79,9 @@ fn group_meets(
     }
 }
 
-/// Whether two rows stand on the two sides of a row, of which one has a class that is no name, and both have a name in
-/// common. Takes, for each class that is no name, one `overlap` for each other, and time in proportion to what is reached.
+/// Returns whether two rows occur on the two sides of a row. One of the two must have a class that is not a name, and
+/// the two classes must have a name in common. The cost is, for each class that is not a name, one `overlap` with each
+/// other class and the time linear in what is reached.
 pub(crate) fn others_meet(
     alloc: Global,
     rows: &Rows<'_>,
@@ -101,7 +104,7 @@ pub(crate) fn others_meet(
     Ok(false)
 }
 
-/// Whether this row, if its class is no name, stands with another one on the two sides of a row.
+/// Returns whether this row, if its class is not a name, and another one occur on the two sides of a row.
 fn one_meets(
     alloc: Global,
     rows: &Rows<'_>,
@@ -127,7 +130,7 @@ fn one_meets(
     rows.meet(alloc, marks, round, alone.as_slice(), others.as_slice())
 }
 
-/// Whether the class is a name.
+/// Returns whether the class is a name.
 fn is_name(class: &NameClass) -> bool
     ensures { IsTrue result ↔ IsPlain class.now }
 {

@@ -12,7 +12,7 @@ use Rattle.rng_names.specs.plain.Written.{longest}
 use Rattle.rng_names.specs.declared.alternatives.NameOrNs.{NameOrNs}
 use Rattle.rng_names.specs.declared.alternatives.Alternatives.{Alternatives}
 
--- the test passes for a class that is none of a choice, or for one of the members of a choice, at any depth
+-- the test passes for a class that is not a choice, or for one of the members of a choice, at any depth
 abbrev mutual
   pub has_alternative : (NameClass → Bool) → NameClass → Bool
   has_alternative test any_name = test any_name
@@ -41,7 +41,7 @@ is_any (ns_except u c) = false
 is_any (name_is n) = false
 is_any (one_of c d cs) = false
 
--- the name of a namespace and a local name, or all names of a namespace where there is no local name
+-- the name with a namespace and a local name, or all names of a namespace if there is no local name
 abbrev pub is_written : List ℕ → Option (List ℕ) → NameClass → Bool
 is_written u l any_name = false
 is_written u l (any_except c) = false
@@ -50,7 +50,7 @@ is_written u l (ns_except v c) = false
 is_written u l (name_is n) = same_parts n.ns (Some n.local) u l
 is_written u l (one_of c d cs) = false
 
--- one with an except, which holds the name
+-- a class with an except that holds the name
 abbrev pub is_excepted : Name → NameClass → Bool
 is_excepted q any_name = false
 is_excepted q (any_except c) = not (holds c q)
@@ -61,7 +61,7 @@ is_excepted q (one_of c d cs) = false
 
 -- ---- the table
 
--- a local name, if there is one, as it is seen
+-- the view of an optional local name
 abbrev pub seen : Option (Bor (List ℕ)) → Option (List ℕ)
 seen l = option_map (λ x. x.now) l
 
@@ -72,7 +72,7 @@ module _ {S : Type 0} where
   abbrev pub has : HashSet NameOrNs S → List ℕ → Option (List ℕ) → Bool
   has table u l = contains_by (is_key u l) table
 
--- one with an except holds the name
+-- an alternative with an except holds the name
 abbrev pub excepted_hold : Alternatives → Name → Bool
 excepted_hold all q = list_any (λ c. holds (class_of c.now) q) all.excepted.items
 
@@ -84,18 +84,18 @@ hold_fresh all q = all.any || (has all.written q.ns None || excepted_hold all q)
 abbrev pub hold : Alternatives → Name → Bool
 hold all q = has all.written q.ns (Some q.local) || hold_fresh all q
 
--- the second table has the alternatives of the first and others, given by which tests pass for one of them
+-- the second table has the alternatives of the first one, and others, given by the tests that pass for one of them
 pub record Adds (old : Alternatives) (new : Alternatives) (others : (NameClass → Bool) → Bool) : Type 0 where
   pub class : new.class ≡ old.class
   pub any : new.any ≡ (old.any || others is_any)
   pub written : (u : List ℕ) (l : Option (List ℕ)) → has new.written u l ≡ (has old.written u l || others (is_written u l))
   pub excepted : (q : Name) → excepted_hold new q ≡ (excepted_hold old q || others (is_excepted q))
 
--- the table answers as its class does, for a local name that is not written without its names
+-- the table holds the names that its class holds; a local name that is not written needs no look-up among the names
 pub record Stands (all : Alternatives) : Type 0 where
   pub held : (q : Name) → hold all q ≡ holds (class_of all.class.now) q
   pub fresh : (q : Name) → longest (class_of all.class.now) < length q.local → hold_fresh all q ≡ holds (class_of all.class.now) q
 
--- the text is longer than each that is written in the class
+-- the text is longer than each text written in the class
 abbrev pub IsFresh : List ℕ → Alternatives → Type 0
 IsFresh fresh all = longest (class_of all.class.now) < length fresh
