@@ -13,7 +13,7 @@ use Rattle.pyx.proofs.WrittenNames.{same_bytes, bytes_same, written_same}
 pub true_false : true ≡ false → ⊥
 true_false e = cc
 
-both : (a b : Bool) → (a && b) ≡ true → (a ≡ true) × (b ≡ true)
+pub both : (a b : Bool) → (a && b) ≡ true → (a ≡ true) × (b ≡ true)
 both true b e = (refl, e)
 both false b e = absurd cc
 

@@ -1,5 +1,5 @@
 // Names looked up inside the open elements.
-ghost use Rattle.std.specs.Prelude.{◌≡◌, ◌<◌, ◌≤◌, ℕ, List, Option, [], ◌∷◌, MatchOption, IfSome, map, length, string_bytes};
+ghost use Rattle.std.specs.Prelude.{◌≡◌, ◌++◌, ◌<◌, ◌≤◌, ℕ, List, Option, [], ◌∷◌, MatchOption, IfSome, map, length, string_bytes};
 ghost use Rattle.std.specs.Option.{option_map};
 ghost use Rattle.rng_model.specs.plain.Answers.{Gives};
 ghost use Rattle.rng_model.specs.names.NameViews.{name_of};
@@ -30,6 +30,7 @@ pub struct OpenElement {
 pub fn innermost(opened: &[OpenElement]) -> Option<(&OpenElement, &[OpenElement])>
     ensures stack { MatchOption result (stack_of opened.now ≡ []) (λ x. stack_of opened.now ≡ open_of x.0.now ∷ stack_of x.1.now) }
     ensures shorter { IfSome result (λ x. length x.1.now < length opened.now) }
+    ensures parts { IfSome result (λ x. opened.now ≡ x.1.now ++ x.0.now ∷ []) }
 {
     opened.split_last()
 }

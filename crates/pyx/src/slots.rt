@@ -11,7 +11,7 @@ use rng_model::{Attr, Name};
 const PAIRED_LIMIT: usize = 8;
 
 /// The number of slots.
-const SLOT_COUNT: usize = 4_096;
+pub const SLOT_COUNT: usize = 4_096;
 
 /// Returns a hash of the bytes of a text.
 #[tactic(auto, unfolding(crate::specs::plain::Slots::hash_of))]
@@ -39,14 +39,14 @@ fn is_named_in(name: &Name, attrs: &[Attr]) -> bool
     }
 }
 
-/// Sets the slot of a local name, and returns whether it was set already.
+/// Sets the slot of a name, and returns whether it was set already.
 #[inline(always)]
-fn mark(slots: &mut [bool; SLOT_COUNT], local: &str) -> bool
-    ensures met { result ≡ is_met slots.old local.now }
-    ensures set { is_met slots.new local.now ≡ true }
+pub fn mark(slots: &mut [bool; SLOT_COUNT], name: &str) -> bool
+    ensures met { result ≡ is_met slots.old name.now }
+    ensures set { is_met slots.new name.now ≡ true }
     ensures kept { (other : List ℕ) → is_met slots.old other ≡ true → is_met slots.new other ≡ true }
 {
-    let at = hash_of(local) % SLOT_COUNT;
+    let at = hash_of(name) % SLOT_COUNT;
     let met = slots[at];
     slots[at] = true;
     met

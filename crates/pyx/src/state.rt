@@ -1,5 +1,5 @@
 // Documents line by line.
-ghost use Rattle.std.specs.Prelude.{◌≡◌, ◌+◌, ◌<◌, ◌^◌, length, is_some, IfOk, OnOk, string_bytes, true};
+ghost use Rattle.std.specs.Prelude.{◌≡◌, ◌+◌, ◌<◌, ◌^◌, ℕ, List, length, map, is_some, IfOk, OnOk, string_bytes, true};
 ghost use Rattle.rng_model.specs.plain.Answers.{Gives};
 ghost use Rattle.rng_model.specs.documents.PyxLines as lines;
 ghost use Rattle.pyx.specs.plain.DocumentReader as reader;
@@ -17,10 +17,10 @@ use crate::escapes::append;
 use crate::fault::LineFault;
 use crate::line::{Line, is_name, line_text};
 use crate::opened::OpenElements;
-use crate::scope::{OpenElement, expand_attributes, innermost, opened_len};
+use crate::scope::{expand_attributes, opened_len};
 use crate::slots::is_named_twice;
 use crate::spares::Spares;
-use crate::written::{WrittenAttribute, any_forbidden, declared_by, is_same, is_written_twice};
+use crate::written::{WrittenAttribute, any_forbidden, declared_by, is_written_twice};
 use rng_model::{Attr, Event, EventKind, Events, OutOfMemory, PyxFault};
 use std::alloc::Global;
 use std::mem;
@@ -34,10 +34,9 @@ const OPEN_LIMIT: usize = 512;
 /// The most bytes that a joined text may have.
 const TEXT_LIMIT: usize = 1_048_576;
 
-/// A tag whose lines are being read. Names are as they are written.
+/// What the lines of a tag say behind its name. Names are as they are written.
 #[derive(Drop)]
 pub struct Tag {
-    name: String,
     declarations: Vec<WrittenAttribute>,
     /// The `A` lines that declare nothing.
     others: Vec<WrittenAttribute>,
@@ -75,7 +74,7 @@ impl Tag {
     ) -> Result<(), OutOfMemory>
         requires room { self.old.bytes + bytes < 2 ^ 64 }
         requires declares { declares ≡ is_some (declared_by (written_attribute attribute).name) }
-        ensures { OnOk result (tag_of self.new ≡ reader.with_attribute bytes (written_attribute attribute) (tag_of self.old)) }
+        ensures { OnOk result ((name : List ℕ) → tag_of name self.new ≡ reader.with_attribute bytes (written_attribute attribute) (tag_of name self.old)) }
     {
         self.bytes += bytes;
         if declares {
@@ -96,7 +95,6 @@ impl State {
             alloc,
             in_tag: false,
             tag: Tag {
-                name: String::new(alloc),
                 declarations: Vec::new(alloc),
                 others: Vec::new(alloc),
                 bytes: 0,
@@ -138,21 +136,19 @@ impl State {
     #[inline(always)]
     fn open_tag(&mut self) -> Result<usize, LineFault>
         ensures element { Gives clause_of (element_at self.new.elements.names self.new.attrs.items) result
-            (tag_read (declared_in self.old.elements.opened) (tag_of self.old.tag).name (tag_of self.old.tag).declared (tag_of self.old.tag).others) }
+            (tag_read (declared_in self.old.elements.opened) (written_of self.old.elements.begun) (map written_attribute self.old.tag.declarations.items)
+            (map written_attribute self.old.tag.others.items)) }
         ensures inside { IfOk result (λ at. at < length self.new.elements.names) }
-        ensures opened { OnOk result (state_of self.new ≡ reader.opened_by (tag_of self.old.tag) (state_of self.old)) }
+        ensures opened { OnOk result (state_of self.new ≡ reader.opened_by (tag_of self.old.elements.begun self.old.tag) (state_of self.old)) }
         ensures lines { self.new.lines ≡ self.old.lines }
     {
-        let name = mem::replace(&mut self.tag.name, String::new(self.alloc));
         let declarations = mem::replace(&mut self.tag.declarations, Vec::new(self.alloc));
         if any_forbidden(declarations.as_slice()) {
             return Err(LineFault::Clause(11));
         }
-        let twice = is_written_twice(declarations.as_slice());
+        let twice = declarations.len() > 1 && is_written_twice(declarations.as_slice());
         self.in_tag = false;
-        let at = self
-            .elements
-            .open(self.alloc, OpenElement { name, declarations })?;
+        let at = self.elements.open(self.alloc, declarations)?;
         expand_attributes(
             self.alloc,
             self.elements.elements(),
@@ -210,7 +206,8 @@ impl State {
     #[tactic(auto, unfolding(crate::specs::plain::DocumentReader::text_ended))]
     #[inline(always)]
     fn end_text<E: Events>(&mut self, events: &mut E) -> Result<(), PyxFault>
-        ensures { Takes result (state_of self.new) (Hands E.stands events.old events.new) (reader.text_ended (state_of self.old)) }
+        ensures text { Takes result (state_of self.new) (Hands E.stands events.old events.new) (reader.text_ended (state_of self.old)) }
+        ensures begun { self.new.elements.begun ≡ self.old.elements.begun }
     {
         if !self.joined.is_empty() {
             let kind = EventKind::Text(self.joined.as_str());
@@ -230,7 +227,7 @@ impl State {
         ensures { Takes result (state_of self.new) (Hands E.stands events.old events.new)
             (reader.judged bytes (named lines.start name.now) (state_of self.old)) }
     {
-        if !is_name(name) {
+        if !self.elements.begin(self.alloc, &mut self.spares, name)? {
             return Err(self.fault(6));
         }
         if self.root && self.elements.elements().is_empty() {
@@ -240,7 +237,6 @@ impl State {
             return Err(self.fault(10));
         }
         self.end_text(events)?;
-        self.tag.name = self.spares.copy(self.alloc, name)?;
         self.tag.declarations.clear();
         self.tag.others.clear();
         self.tag.bytes = bytes;
@@ -315,14 +311,9 @@ impl State {
         ensures { Takes result (state_of self.new) (Hands E.stands events.old events.new)
             (reader.judged bytes (named lines.end name.now) (state_of self.old)) }
     {
-        if !is_name(name) {
-            return Err(self.fault(6));
-        }
-        let Some((element, _)) = innermost(self.elements.elements()) else {
-            return Err(self.fault(8));
-        };
-        if !is_same(element.name.as_str(), name) {
-            return Err(self.fault(8));
+        if !self.elements.is_innermost(name) {
+            let clause = if is_name(name) { 8 } else { 6 };
+            return Err(self.fault(clause));
         }
         self.end_text(events)?;
         let kind = EventKind::End;

@@ -1,14 +1,16 @@
 // Names as they are written, and `A` lines.
-ghost use Rattle.std.specs.Prelude.{◌≡◌, map};
+ghost use Rattle.std.specs.Prelude.{◌≡◌, false, map};
 ghost use Rattle.std.specs.Option.{option_map};
 ghost use Rattle.std.specs.Str.{bytes_eq};
 ghost use Rattle.pyx.specs.plain.LineReader.{written_of};
 ghost use Rattle.pyx.specs.plain.TagReader.{declared_by, declares, found_in, is_forbidden, any_forbidden, is_written_in, is_written_twice, same_written};
 ghost use Rattle.rng_model.specs.documents.PyxHeld.{name_length};
 ghost use Rattle.pyx.specs.views.Held.{declarations_held};
-ghost use Rattle.pyx.specs.views.ElementView.{written_attribute};
+ghost use Rattle.pyx.specs.plain.Slots.{AreAllMet};
+ghost use Rattle.pyx.specs.views.ElementView.{written_attribute, written_bytes};
 
 use crate::cuts::cut_at;
+use crate::slots::{SLOT_COUNT, mark};
 
 /// The namespace of declarations.
 pub const XMLNS_URI: &str = "http://www.w3.org/2000/xmlns/";
@@ -130,15 +132,31 @@ fn is_written_in(name: &str, attributes: &[WrittenAttribute]) -> bool
     }
 }
 
-/// Returns whether two of these have the same name.
+/// Returns whether two of these have the same name. If not, it has set the slots of all. A name is compared with those
+/// behind it only if one of them has set its slot.
 #[tactic(auto, unfolding(crate::specs::plain::TagReader::is_written_twice))]
+fn is_repeated(attributes: &[WrittenAttribute], slots: &mut [bool; SLOT_COUNT]) -> bool
+    ensures twice { result ≡ is_written_twice (map written_attribute attributes.now) }
+    ensures met { result ≡ false → AreAllMet slots.new (map written_bytes attributes.now) }
+{
+    match attributes {
+        [first, rest @ ..] => {
+            if is_repeated(rest, slots) {
+                return true;
+            }
+            let name = first.name.as_str();
+            mark(slots, name) && is_written_in(name, rest)
+        }
+        [] => false,
+    }
+}
+
+/// Returns whether two of these have the same name. It is not inlined, so a tag of one declaration clears no slots.
+#[inline(never)]
 pub fn is_written_twice(attributes: &[WrittenAttribute]) -> bool
     ensures { result ≡ is_written_twice (map written_attribute attributes.now) }
 {
-    match attributes {
-        [first, rest @ ..] => is_written_in(first.name.as_str(), rest) || is_written_twice(rest),
-        [] => false,
-    }
+    is_repeated(attributes, &mut [false; SLOT_COUNT])
 }
 
 /// Returns the number of bytes in a name.

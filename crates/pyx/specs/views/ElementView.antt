@@ -1,5 +1,6 @@
 -- The view of the open elements, and the names that are known among them.
 use Rattle.std.specs.Prelude.{◌≡◌, ◌<◌, ◌≤◌, ℕ, List, [], map, reverse, slice_index_or, Result, Ok, Err, Option, Some, None, string_bytes}
+use Rattle.std.specs.Prelude.{Bool, false, true, ◌∷◌, length}
 use Rattle.std.specs.List.{All}
 use Rattle.rng_model.specs.names.Names.{Name}
 use Rattle.rng_model.specs.documents.PyxNamespaces.{WrittenAttribute}
@@ -11,8 +12,9 @@ use Rattle.pyx.specs.declared.fault.LineFault.TheVariants as faults
 use Rattle.pyx.specs.declared.written.WrittenAttribute as written
 use Rattle.pyx.specs.declared.scope.OpenElement.{OpenElement}
 use Rattle.pyx.specs.declared.known.KnownName.{KnownName}
-use Rattle.pyx.specs.plain.LineReader.{written_of}
-use Rattle.pyx.specs.plain.TagReader.{Declared, Element, element_name}
+use Rattle.rng_model.specs.documents.PyxLines.{WrittenName}
+use Rattle.pyx.specs.plain.LineReader.{is_name, written_of}
+use Rattle.pyx.specs.plain.TagReader.{Declared, Element, element_name, same_written}
 use Rattle.pyx.specs.plain.DocumentReader.{Open, declared_in}
 
 -- the clause of a fault of a tag; none if memory ran out
@@ -28,8 +30,15 @@ resolved (Some a) = Ok a
 abbrev pub written_attribute : written.WrittenAttribute → WrittenAttribute
 written_attribute a = record { name = written_of (string_bytes a.name); content = string_bytes a.value }
 
+-- the name of one of its lines, as it is written
+abbrev pub written_bytes : written.WrittenAttribute → List ℕ
+written_bytes a = string_bytes a.name
+
+abbrev pub open_as : List ℕ → List written.WrittenAttribute → Open
+open_as name declarations = record { name = written_of name; declared = map written_attribute declarations }
+
 abbrev pub open_of : OpenElement → Open
-open_of e = record { name = written_of (string_bytes e.name); declared = map written_attribute e.declarations.items }
+open_of e = open_as (string_bytes e.name) e.declarations.items
 
 -- the open elements, the innermost first
 abbrev pub stack_of : List OpenElement → List Open
@@ -59,7 +68,26 @@ IsKnown scope round k = (k.round ≤ round) × (k.round ≡ round → element_na
 abbrev pub AreKnown : Declared → ℕ → List KnownName → Type 0
 AreKnown scope round known = (0 < round) × All (IsKnown scope round) known
 
--- the open elements, the innermost first, and the names that were looked up inside them, in their places
+-- a name, or nothing
+abbrev pub IsJudged : List ℕ → Type 0
+IsJudged bytes = 0 < length bytes → is_name bytes ≡ true
+
+abbrev pub IsNamed : OpenElement → Type 0
+IsNamed e = IsJudged (string_bytes e.name)
+
+-- what is kept: the open elements, the name of the tag that has begun, and the names that are known
+pub record AreKept (opened : List OpenElement) (begun : List ℕ) (round : ℕ) (names : List KnownName) : Type 0 where
+  pub known : AreKnown (scope_of opened) round names
+  pub judged : IsJudged begun
+  pub all_judged : All IsNamed opened
+
+-- the open elements, the innermost first, the name of the tag that has begun, and the names that were looked up, in their places
 pub record Elements : Type 0 where
   pub opened : List Open
+  pub begun : List ℕ
   pub names : List Name
+
+-- the innermost element has this name
+abbrev pub is_innermost : WrittenName → List Open → Bool
+is_innermost name [] = false
+is_innermost name (o ∷ outer) = same_written o.name name

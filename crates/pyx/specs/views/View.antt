@@ -1,5 +1,5 @@
 -- The views of the values of the code, and the results of calls that may run out of memory.
-use Rattle.std.specs.Prelude.{◌≡◌, List, [], map, if◌then◌else◌}
+use Rattle.std.specs.Prelude.{◌≡◌, ℕ, List, [], map, if◌then◌else◌}
 use Rattle.std.specs.Prelude.{Result, Ok, Err, Option, Some, None, string_bytes}
 use Rattle.rng_model.specs.documents.Lines as lines
 use Rattle.rng_model.specs.documents.PyxFaults.{Fault}
@@ -19,9 +19,9 @@ use Rattle.pyx.specs.plain.Pieces.{Progress}
 abbrev pub line_of : Line → lines.Line
 line_of l = record { bytes = l.bytes.now; ended = l.ended }
 
-abbrev pub tag_of : Tag → reader.Tag
-tag_of t = record {
-  name = written_of (string_bytes t.name);
+abbrev pub tag_of : List ℕ → Tag → reader.Tag
+tag_of name t = record {
+  name = written_of name;
   declared = map written_attribute t.declarations.items;
   others = map written_attribute t.others.items;
   bytes = t.bytes;
@@ -29,7 +29,7 @@ tag_of t = record {
 
 abbrev pub state_of : State → reader.State
 state_of s = record {
-  tag = if s.in_tag then Some (tag_of s.tag) else None;
+  tag = if s.in_tag then Some (tag_of s.elements.begun s.tag) else None;
   opened = s.elements.opened;
   joined = string_bytes s.joined;
   root = s.root;
