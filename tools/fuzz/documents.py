@@ -331,6 +331,37 @@ def verdict(patterns, lines):
     return "valid" if reader.judging.left.nullable else "invalid"
 
 
+class Building:
+    """Takes the place of `matching.Judging`, and builds the tree."""
+
+    def __init__(self):
+        self.opened = [("", [], [])]
+
+    def open(self, name, attributes):
+        self.opened.append((name, attributes, []))
+
+    def close_tag(self):
+        pass
+
+    def text(self, text):
+        self.opened[-1][2].append(text)
+
+    def end(self):
+        done = self.opened.pop()
+        self.opened[-1][2].append(done)
+
+
+def tree_of(lines):
+    """The root of a document; nothing where it is malformed."""
+    reader = LineReader(Building())
+    try:
+        for line in lines:
+            reader.take(line)
+    except Malformed:
+        return None
+    return reader.judging.opened[0][2][0] if reader.is_done else None
+
+
 # ---- XML
 
 MARKUP = {"&": "&amp;", "<": "&lt;", ">": "&gt;", '"': "&quot;", "\r": "&#13;", "\n": "&#10;", "\t": "&#9;"}
@@ -347,7 +378,7 @@ def as_xml(lines):
             continue
         written.append(tag + ">" if tag else "")
         tag = f"<{rest}" if kind == "(" else None
-        written.append({"(": "", ")": f"</{rest}>", "-": marked(unescaped(rest)), "?": f"<?{rest}?>"}[kind])
+        written.append({"(": "", ")": f"</{rest}>", "-": marked(unescaped(rest)), "?": f"<?go {rest}?>"}[kind])
     return "".join(written)
 
 

@@ -1,7 +1,10 @@
 """Makes a trial that shows a fault smaller, for as long as it shows it."""
+import random
 import time
 
-from schemas import EMPTY, NOT_ALLOWED, TEXT, Schema, children, count, with_children, without_unused
+import documents
+from matching import in_class
+from schemas import EMPTY, NAMESPACES, NOT_ALLOWED, TEXT, Schema, children, count, with_children, without_unused
 
 SECONDS = 60
 
@@ -12,7 +15,7 @@ def reduced(trial, fails):
     size = None
     while size != size_of(trial) and time.monotonic() < end:
         size = size_of(trial)
-        for variants in (fewer_features, fewer_lines, fewer_patterns, simpler_names):
+        for variants in (fewer_features, inner_elements, fewer_namespaces, fewer_lines, fewer_patterns, simpler_names):
             trial = first_that_fails(trial, variants, fails, end)
     return trial
 
@@ -34,6 +37,44 @@ def fewer_features(trial):
     yield trial.but(features=())
     for name in trial.features:
         yield trial.but(features=tuple(it for it in trial.features if it != name))
+
+
+def lines_of(root):
+    return documents.lines_of(root, random.Random(1))
+
+
+def below(pattern):
+    """All patterns in a pattern."""
+    for it in children(pattern):
+        yield it
+        yield from below(it)
+
+
+def inner_elements(trial):
+    """An element of the schema as the start, and one of the document as the root."""
+    root = documents.tree_of(trial.lines)
+    patterns = [it for body in (trial.schema.start, *trial.schema.definitions.values()) for it in (body, *below(body)) if it[0] == "element"]
+    for element in list(documents.elements(root))[1:] if root else []:
+        for pattern in patterns:
+            if in_class(pattern[1], element[0]):
+                yield trial.but(schema=without_unused(Schema(pattern, trial.schema.definitions)), lines=lines_of(element))
+
+
+def fewer_namespaces(trial):
+    """Without a namespace, in the schema and in the document."""
+    root = documents.tree_of(trial.lines)
+    if root is None:
+        return
+    for uri in NAMESPACES[1:]:
+        schema = Schema(without(trial.schema.start, uri), {name: without(it, uri) for name, it in trial.schema.definitions.items()})
+        yield trial.but(schema=schema, lines=lines_of(without(root, uri)))
+
+
+def without(value, uri):
+    """A pattern or an element in which another uri is the empty one."""
+    if isinstance(value, (tuple, list)):
+        return type(value)(without(it, uri) for it in value)
+    return "" if value == uri else value
 
 
 def fewer_lines(trial):

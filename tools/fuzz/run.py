@@ -149,6 +149,8 @@ def search(given, bench):
             folder, wrong = write_found(given.found, bench, check, trial, wrong, again)
             print(f"{folder}: {check}: {wrong}\n  again: {again}", flush=True)
             found += 1
+            if found == given.most:
+                break
         number += 1
     return found
 
