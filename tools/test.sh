@@ -31,10 +31,11 @@ python3 -B "$here/pages/test.py" >"$room/pages" 2>&1 & pages=$!
 RNCV_REQUIRED=$built "$here/xml/test.sh" "$program" >"$room/xml" 2>&1 & xml=$!
 RNCV_REQUIRED=$built "$here/package/test.sh" "$program" >"$room/package" 2>&1 & package=$!
 RNCV_REQUIRED=$built "$here/lsp/test.sh" >"$room/lsp" 2>&1 & lsp=$!
-for part in "$schema" "$transcripts" "$believed" "$pages" "$xml" "$package" "$lsp"; do
+python3 -B "$here/fuzz/test.py" "$program" >"$room/fuzz" 2>&1 & fuzz=$!
+for part in "$schema" "$transcripts" "$believed" "$pages" "$xml" "$package" "$lsp" "$fuzz"; do
   wait "$part" || status=1
 done
-for part in schema transcripts believed pages xml package lsp; do
+for part in schema transcripts believed pages xml package lsp fuzz; do
   cat "$room/$part"
 done
 

@@ -3,6 +3,7 @@ import random
 
 import documents
 import matching
+from schemas import NAMESPACES, children
 from writing import FEATURES, ORDER, UNDEFINED, written
 
 
@@ -33,7 +34,7 @@ class Bench:
 
     def __init__(self, program, jing=None, library=None):
         self.program, self.jing, self.library = program, jing, library
-        self.counts = dict.fromkeys(["schemas", "refused", "valid", "invalid", "malformed", "least", "continuations", "by jing"], 0)
+        self.counts = dict.fromkeys(["schemas", "refused", "valid", "invalid", "told at once", "malformed", "continuations", "by jing"], 0)
 
 
 def check_answers(bench, trial):
@@ -186,7 +187,6 @@ class Watching:
 
 
 def all_patterns(schema):
-    from schemas import children
     waiting = [schema.start, *schema.definitions.values()]
     while waiting:
         it = waiting.pop()
@@ -254,11 +254,13 @@ def completed(schema, prefix, chance, with_text):
     sampler, added = documents.Sampler(patterns, chance), []
     judging = reader.judging
     if reader.tag:
+        added = missing_declarations(reader, chance)
+        reader.tag[1].extend((it[1:].split(" ")[0], it.split(" ")[1]) for it in added)
         try:
             judging.open(*reader.begin_tag())
         except documents.Malformed:
             return None
-    if with_text and reader.opened:
+    elif with_text and reader.opened:
         added.append("-" + chance.choice(["1", "t", " ", "true"]))
         judging.text(added[0][1:])
     left = judging.left if reader.tag else after_text(judging)
@@ -273,6 +275,14 @@ def completed(schema, prefix, chance, with_text):
             return None
         added += lines
     return prefix + added
+
+
+def missing_declarations(reader, chance):
+    """Declarations of the prefixes that a tag uses and that are declared nowhere yet."""
+    name, attributes = reader.tag
+    used = [it.split(":")[0] for it in (name, *(it for it, _ in attributes)) if ":" in it]
+    known = {"xmlns", *reader.scopes[-1], *(it[6:] for it, _ in attributes if it.startswith("xmlns:"))}
+    return [f"Axmlns:{it} {chance.choice(NAMESPACES[1:])}" for it in dict.fromkeys(used) if it not in known]
 
 
 def after_text(judging):

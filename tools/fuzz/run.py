@@ -51,7 +51,8 @@ def raw_changed(lines, chance):
 
 
 def case_documents(schema, chance):
-    """Pairs of a document's lines and those of the document that it was made from."""
+    """Pairs of a document's lines and those of the document that it was made from. Where both have an element, both mostly write it alike."""
+    written = chance.random()
     patterns = matching.Patterns(schema)
     sampler = documents.Sampler(patterns, chance)
     start = patterns.of(schema.start)
@@ -59,23 +60,32 @@ def case_documents(schema, chance):
     if not roots:
         roots = [(("", "a"), [], [])]
     for root in roots:
-        lines = documents.lines_of(root, chance)
+        lines = documents.lines_of(root, random.Random(written))
         yield lines, lines
     for _ in range(3):
-        yield documents.lines_of(documents.changed(roots[0], chance), chance), lines
+        yield documents.lines_of(documents.changed(roots[-1], chance), random.Random(written)), lines
     yield raw_changed(lines, chance), lines
 
 
+def before_event(lines):
+    """The lines without the tag or the text at their end, which the line after them tells."""
+    end = len(lines)
+    last = lines[-1][:1] if lines else ""
+    while end and lines[end - 1][:1] in ("-?" if last in "-?" else "A" if last in "(A" else " "):
+        end -= 1
+    return lines[:end - 1] if end and last in "(A" else lines[:end]
+
+
 def count(bench, trial, said):
-    """Counts an answer, and whether the line of an invalid one is known to be the least."""
+    """Counts an answer, and whether an invalid one is known to be told at the first event that no valid document has."""
     bench.counts[said.kind] = bench.counts.get(said.kind, 0) + 1
     if said.kind != "invalid":
         return
-    prefix = trial.lines[:int(said.line.split()[-1]) - 1]
+    prefix = before_event(trial.lines[:int(said.line.split()[-1]) - 1])
     chance = random.Random(repr(prefix))
-    completions = (completed(trial.schema, prefix, chance, number > 3) for number in range(8))
+    completions = (completed(trial.schema, prefix, chance, number > 5) for number in range(8))
     patterns = matching.Patterns(trial.schema)
-    bench.counts["least"] += any(it and documents.verdict(patterns, it) == "valid" for it in completions)
+    bench.counts["told at once"] += any(it and documents.verdict(patterns, it) == "valid" for it in completions)
 
 
 def one_case(bench, name):

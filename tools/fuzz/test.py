@@ -12,7 +12,7 @@ import unittest
 
 HERE = pathlib.Path(__file__).resolve().parent
 PROGRAM = HERE.parents[1] / "crates/rncv/out/rncv"
-# It says of a document with a text in it that it is invalid, where the schema has an interleave.
+# It says of a valid document that it is invalid, where the schema has an interleave.
 FAULTY = """#!/bin/sh
 answer=$("$REAL_PROGRAM" "$@")
 status=$?
@@ -21,6 +21,13 @@ if [ "$answer" = valid ] && grep -q '&' "$2"; then
   exit 1
 fi
 printf '%s\\n' "$answer"
+exit $status
+"""
+# It tells each invalid document at its first line.
+HASTY = """#!/bin/sh
+answer=$("$REAL_PROGRAM" "$@")
+status=$?
+printf '%s\\n' "$answer" | sed 's/^invalid line .*/invalid line 1/'
 exit $status
 """
 
@@ -37,17 +44,26 @@ class FuzzTest(unittest.TestCase):
         self.assertEqual(status, 0, told)
         self.assertIn("0 faults found", told)
 
-    def test_that_a_planted_fault_is_found_and_made_small(self):
+    def found(self, text, check):
+        """What is found in a program with a fault: the schema, the document and the report."""
         with tempfile.TemporaryDirectory() as room:
             faulty = pathlib.Path(room, "faulty")
-            faulty.write_text(FAULTY)
+            faulty.write_text(text)
             faulty.chmod(0o755)
             status, told = fuzz("--seed", "test", "--minutes", 1, "--most", 1, "--found", pathlib.Path(room, "found"), faulty)
             self.assertEqual(status, 1, told)
-            case = next(pathlib.Path(room, "found").iterdir())
-            self.assertLess(len((case / "plain" / "s.rnc").read_text()), 80, told)
-            self.assertLess(len((case / "document.pyx").read_text().splitlines()), 6, told)
-            self.assertIn("again: tools/fuzz/run.py --seed test --from ", (case / "report.txt").read_text())
+            case = pathlib.Path(room, "found", check + "-0")
+            return tuple((case / it).read_text() for it in ("plain/s.rnc", "document.pyx", "report.txt"))
+
+    def test_that_a_wrong_answer_is_found_and_made_small(self):
+        schema, document, report = self.found(FAULTY, "matcher")
+        self.assertLess(len(schema), 80, report)
+        self.assertLess(len(document.splitlines()), 6, report)
+        self.assertIn("again: tools/fuzz/run.py --seed test --from ", report)
+
+    def test_that_a_hasty_line_is_found(self):
+        schema, _, report = self.found(HASTY, "continuations")
+        self.assertLess(len(schema), 80, report)
 
 
 if __name__ == "__main__":
