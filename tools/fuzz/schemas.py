@@ -100,6 +100,45 @@ class Maker:
         one = self.element(place)
         return ("choice", (one, self.element(place))) if self.chance.random() < 0.15 else one
 
+    # ---- dense schemas: few elements and attributes, in deep content models of many ways
+
+    def dense(self):
+        names = self.elements[:4]
+        definitions = {f"D{at}": ("element", it, self.chance.choice([EMPTY, EMPTY, TEXT, self.value()])) for at, it in enumerate(names)}
+        content = self.ways(list(definitions), self.chance.randrange(2, 6))
+        if self.chance.random() < 0.3:
+            content = ("mixed", content)
+        if self.chance.random() < 0.5:
+            content = (self.chance.choice(["group", "interleave"]), (self.attribute_ways(self.attributes[:4]), content))
+        return without_unused(Schema(("element", self.chance.choice(self.elements), content), definitions))
+
+    def ways(self, names, depth):
+        pick = self.chance.random()
+        if depth == 0 or pick < 0.1:
+            return ("ref", self.chance.choice(names)) if self.chance.random() < 0.95 else EMPTY
+        if pick < 0.45:
+            return (self.chance.choice(["plus", "star", "optional"]), self.ways(names, depth - 1))
+        if pick < 0.6 and len(names) > 1:
+            cut = self.chance.randrange(1, len(names))
+            mixed = self.chance.sample(names, len(names))
+            return ("interleave", (self.ways(mixed[:cut], depth - 1), self.ways(mixed[cut:], depth - 1)))
+        return (self.chance.choice(["group", "choice"]), tuple(self.ways(names, depth - 1) for _ in range(self.chance.choice([2, 2, 3, 4]))))
+
+    def attribute_ways(self, names):
+        """Attributes of these names in all kinds of patterns; the members of a group or an interleave share none."""
+        pick = self.chance.random()
+        if len(names) == 1 or pick < 0.2:
+            made = self.attribute(self.chance.choice(names))
+            return (self.chance.choice(["star", "optional"]), made) if self.chance.random() < 0.3 else made
+        if pick < 0.3:
+            return ("star", ("choice", (self.attribute(names[0]), ("attribute", ("any", ("alternatives", tuple(self.attributes))), TEXT))))
+        if pick < 0.5:
+            return ("choice", (self.attribute_ways(names), self.attribute_ways(names)))
+        if pick < 0.6:
+            return ("optional", self.attribute_ways(names))
+        cut = self.chance.randrange(1, len(names))
+        return (self.chance.choice(["group", "interleave"]), (self.attribute_ways(names[:cut]), self.attribute_ways(names[cut:])))
+
     # ---- elements
 
     def name_class(self, place):
@@ -270,5 +309,8 @@ def without_unused(schema):
 
 
 def made(seed):
+    """The schema of a seed: a dense one, a wild one, or neither."""
     chance = random.Random(seed)
-    return Maker(chance, wild=chance.random() < 0.12).schema()
+    pick = chance.random()
+    maker = Maker(chance, wild=pick < 0.12)
+    return maker.dense() if pick > 0.7 else maker.schema()
