@@ -47,6 +47,38 @@ def check_answers(bench, trial):
     return None
 
 
+ODD = ["{", "}", "(", ")", "[", "]", "|", "&", ",", "=", "?", "*", "-", "~", '"', "'", "#", "\\", "\\x{61}", "\\x{0}", ">>", "start", "grammar", "parent x", "x",
+       "include", "external", "mixed", "text", "\x00", "\x01", "\u00e9", "inherit", "xsd:", "p:*", "list", "empty", "div", "\n"]
+
+
+def broken(text, chance):
+    """The bytes of a text with something left out, doubled or put in, perhaps with a byte that is no UTF-8."""
+    at, length = chance.randrange(len(text) + 1), chance.choice([0, 1, 1, 2, 5, 20])
+    put = chance.choice([chance.choice(ODD), "", text[at:at + length] * 2])
+    changed_text = (text[:at] + put + text[at + length:]).encode()
+    if chance.random() < 0.05:
+        at = chance.randrange(len(changed_text) + 1)
+        changed_text = changed_text[:at] + bytes([chance.choice([0x80, 0xC3, 0xED, 0xF5, 0xFF])]) + changed_text[at:]
+    return changed_text
+
+
+def check_broken(bench, trial):
+    """Broken schemas and documents get an answer, all commands refuse alike, and pieces change nothing."""
+    chance = random.Random(f"{trial.seed}/{trial.lines!r}")
+    files, document = trial.dressed, broken("".join(it + "\n" for it in trial.lines), chance)
+    if chance.random() < 0.7:
+        at = chance.randrange(len(files))
+        files[at] = (files[at][0], broken(files[at][1], chance))
+    answers = {command: bench.program.run(command, files, document if command == "valid" else b"") for command in ("check", "simple", "valid")}
+    for answer in answers.values():
+        if answer.fault:
+            return f"{answer.fault}: {files!r} {document!r}"
+    if len({answer.kind == "refused" and answer.line for answer in answers.values()}) > 1:
+        return f"{[it.line[:80] for it in answers.values()]}: {files!r}"
+    said = bench.program.run("valid", files, document, piece=1).line
+    return None if said == answers["valid"].line else f"`{answers['valid'].line}`, and in pieces of a byte `{said}`: {files!r} {document!r}"
+
+
 def check_matcher(bench, trial):
     """The plain matcher agrees."""
     said = bench.program.run("valid", trial.plain, trial.document)
@@ -310,6 +342,6 @@ def one_more(left, sampler, reader, chance):
     return way.parts[1], writer.lines
 
 
-CHECKS = {"answers": check_answers, "matcher": check_matcher, "simple": check_simple, "clothes": check_clothes, "order": check_order,
+CHECKS = {"answers": check_answers, "broken": check_broken, "matcher": check_matcher, "simple": check_simple, "clothes": check_clothes, "order": check_order,
           "pieces": check_pieces, "continuations": check_continuations, "known": check_known, "jing": check_jing}
 ALL_FEATURES = FEATURES

@@ -11,6 +11,7 @@ externals, nested grammars, prefixes, annotations, comments, another order), and
 - a document in pieces of 1, 2, 3 and 4,096 bytes gives the same answer (by the C library where RNCV_LIBRARY names it, else through a pipe);
 - after `invalid line N` no continuation of the first N lines that is tried is valid;
 - a plain matcher (`matching.py`) agrees, and jing where it and a Java compiler are installed;
+- a schema or a document with broken text gets the same refusal by all commands, in whatever pieces;
 - no run ends by a signal, takes more than 10 seconds or 200 MB, or prints anything but an answer.
 
 What breaks one of these is made smaller and written to a folder of `tools/fuzz/found`. Its `report.txt` says how to repeat it. The status is 0 where

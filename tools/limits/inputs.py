@@ -86,6 +86,11 @@ def two_excepts(factor):
     return [f"element a {{ element * - ({names(count)}) {{ empty }}* & element * - ({names(count)}) {{ text }}* }}"], ""
 
 
+def excepts_and_names(factor):
+    count = int(20_000 * factor)
+    return [f"element a {{ attribute * - ({names(count)}) {{ text }}+, attribute {names(count)} {{ text }}+ }}"], ""
+
+
 def any_other(factor):
     count = int(20_000 * factor)
     beside = lists("&", (f"element {short(i)} {{ empty }}" for i in range(count)))
@@ -215,6 +220,7 @@ ROWS = [
     ("a uri of 100 KiB, and 100,000 names under it", "check", None, long_uri(100_000, 100_000)),
     ("a uri of 500 KiB, and 20,000 names under it", "check", None, long_uri(512_000, 20_000)),
     ("two classes `* - (20,000 names)`, interleaved", "check", None, two_excepts),
+    ("attributes of `* - (20,000 names)`, and of these names", "check", None, excepts_and_names),
     ("20,000 elements, and one of any other name, interleaved", "check", None, any_other),
     ("8,000 names in two choices, both in 100 interleaves in one another", "check", None, names_in_two_choices),
     ("100 components, included 4,000 times", "check", None, included_often(4_000, 100)),
