@@ -34,10 +34,11 @@ RNCV_REQUIRED=$built "$here/package/test.sh" "$program" >"$room/package" 2>&1 & 
 RNCV_REQUIRED=$built "$here/lsp/test.sh" >"$room/lsp" 2>&1 & lsp=$!
 "$here/refused_growths/test.sh" "$program" >"$room/growths" 2>&1 & growths=$!
 "$here/streams/test.sh" "$program" >"$room/streams" 2>&1 & streams=$!
-for part in "$schema" "$transcripts" "$believed" "$pages" "$edits" "$xml" "$package" "$lsp" "$growths" "$streams"; do
+python3 -B "$here/fuzz/test.py" "$program" >"$room/fuzz" 2>&1 & fuzz=$!
+for part in "$schema" "$transcripts" "$believed" "$pages" "$edits" "$xml" "$package" "$lsp" "$growths" "$streams" "$fuzz"; do
   wait "$part" || status=1
 done
-for part in schema transcripts believed pages edits xml package lsp growths streams; do
+for part in schema transcripts believed pages edits xml package lsp growths streams fuzz; do
   cat "$room/$part"
 done
 
