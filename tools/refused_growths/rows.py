@@ -100,7 +100,7 @@ def refuse_each(runner, row, count):
         answer, letter = runner.run(row, growth)
         if letter:
             count.take(row, growth, answer, letter)
-        elif answer != row.wanted or growth == 1:
+        elif answer != row.wanted or (growth == 1 and row.wanted != USAGE):
             count.wrong += 1
             print(f"{row}: {answer} with no growth refused, of {growth - 1}")
 

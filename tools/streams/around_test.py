@@ -66,7 +66,7 @@ class Streams(InC):
         for told, streams in (("standard output is closed", {"closed": [1]}), ("No space left on device", {"stdout": self.full()}),
                               ("Bad file descriptor", {"stdout": self.device("d.pyx", "rb")})):
             for words in FORMATS:
-                self.assertEqual(self.judge("-j1", *words, "a.rnc", "d.xml", **streams)[::2], (4, self.last(f"rncv-xml: {told}", words)), words)
+                self.assertEqual(self.judge("-j1", *words, "a.rnc", "d.xml", "b.xml", **streams)[::2], (4, self.last(f"rncv-xml: {told}", words)), words)
             self.assertEqual(self.judge("a.rnc", "b.xml", **streams), (4, None, f"rncv-xml: {told}\n".encode()))
             self.assertEqual(self.convert("d.xml", **streams), (4, None, f"xml2pyx: {told}\n".encode()))
             self.assertEqual(self.judge("--help", **streams), (4, None, f"rncv-xml: {told}\n".encode()))
@@ -79,7 +79,7 @@ class Streams(InC):
     def test_closed_pipe(self):
         for before in (closed_pipe_kills, closed_pipe_is_told):
             for words in FORMATS[:-1]:
-                self.assertEqual(self.judge(*words, "a.rnc", "d.xml", stdout=self.pipe_end(1), before=before), (CLOSED_PIPE, None, b""))
+                self.assertEqual(self.judge(*words, "a.rnc", "d.xml", "b.xml", stdout=self.pipe_end(1), before=before), (CLOSED_PIPE, None, b""))
             self.assertEqual(self.convert("d.xml", stdout=self.pipe_end(1), before=before), (CLOSED_PIPE, None, b""))
 
     def test_no_errors(self):
