@@ -9,15 +9,16 @@ use rng_types::{Builtin, Datatype as _};
 use std::alloc::Global;
 use std::collections::HashMap;
 
-/// For each position of a grammar whose pattern names a datatype that is known, this datatype, so that it is looked up by its
-/// library and name once.
+/// For each position of a grammar whose pattern names a known datatype, this datatype. So each is looked up by its
+/// library and name only once.
 #[derive(Drop)]
 pub struct Datatypes {
     by_position: HashMap<PatternId, Builtin>,
 }
 
 impl Datatypes {
-    /// Those of a grammar. The error is want of memory. Costs a search for each data and each value.
+    /// Creates the map of a grammar. Fails only when out of memory. The cost is one look-up for each data and each
+    /// value.
     pub fn new(alloc: Global, grammar: &SimpleGrammar) -> Result<Self, OutOfMemory>
         ensures { IfOk result (AreDatatypesOf grammar.now) }
     {
@@ -33,7 +34,7 @@ impl Datatypes {
         Err(OutOfMemory)
     }
 
-    /// Adds the datatype that the pattern at a position names, if it names one that is known. The error is want of memory.
+    /// Adds the datatype that the pattern at a position names, if it names a known one. Fails only when out of memory.
     fn add(&mut self, position: PatternId, pattern: &Simple) -> Result<(), OutOfMemory>
         requires { type_at self.old position.0 ≡ None }
         ensures own { OnOk result (type_at self.new position.0 ≡ type_named_by pattern.now) }
@@ -45,9 +46,9 @@ impl Datatypes {
         Ok(())
     }
 
-    /// Whether the datatype that the pattern at a position names allows a text. Takes no memory.
+    /// Returns whether the datatype that the pattern at a position names allows a text. Allocates nothing.
     ///
-    /// RELAX NG Specification, section 6.2.8. A datatype that is not known allows nothing.
+    /// RELAX NG Specification, section 6.2.8. An unknown datatype allows nothing.
     pub fn allow(&self, position: PatternId, text: &str) -> bool
         ensures { result ≡ known_allows (type_at self.now position.0) text.now }
     {
@@ -57,9 +58,10 @@ impl Datatypes {
         }
     }
 
-    /// Whether a text is equal to a value, by the datatype that the pattern at a position names. Takes no memory.
+    /// Returns whether a text is equal to a value, by the datatype that the pattern at a position names. Allocates
+    /// nothing.
     ///
-    /// RELAX NG Specification, sections 6.2.8 and 6.2.9. A datatype that is not known takes no texts for equal.
+    /// RELAX NG Specification, sections 6.2.8 and 6.2.9. In an unknown datatype no texts are equal.
     pub fn equate(&self, position: PatternId, value: &str, text: &str) -> bool
         ensures { result ≡ known_equates (type_at self.now position.0) value.now text.now }
     {
@@ -70,7 +72,7 @@ impl Datatypes {
     }
 }
 
-/// The datatype that a pattern names, if it names one that is known.
+/// Returns the datatype that a pattern names, if it names a known one.
 fn named(pattern: &Simple) -> Option<Builtin>
     ensures { option_map built_in_type_of result ≡ type_named_by pattern.now }
 {
@@ -85,7 +87,7 @@ fn named(pattern: &Simple) -> Option<Builtin>
     }
 }
 
-/// The datatype of this library and name with these parameters, if it is known.
+/// Returns the datatype of this library and name with these parameters, if it is known.
 fn found(library: &str, name: &str, parameters: &[(String, String)]) -> Option<Builtin>
     ensures { option_map built_in_type_of result ≡ type_of (datatype_at library.now name.now parameters.now) }
 {

@@ -1,4 +1,4 @@
--- What `eq` of two iterators answers, by the lists that they give.
+-- What `eq` of two iterators returns, in terms of their lists.
 use Rattle.std.proofs.Common.{◌≡◌, List, [], ◌∷◌, Bool, true, false, ◌&&◌, Option, Some, None, ap, ap₂, sym, ◌∙◌, subst, MatchOption, IfSome}
 use Rattle.std.specs.Iterator.{AlwaysYields, YieldsThen, ComparesItemsByEq}
 use Rattle.std.specs.List.{AllZip}

@@ -12,7 +12,7 @@ use Rattle.rng_model.specs.contracts.simple.PatternIdPartialEq.TheImpl as same_p
 use Rattle.rng_types.specs.views.View.{built_in_type_of}
 use Rattle.rng_pattern_derivatives.specs.declared.datatypes.Datatypes.{Datatypes}
 
--- the type that a pattern names, if it names one that is known (RELAX NG Specification, sections 6.2.8 and 6.2.9)
+-- the type that a pattern names, if it names a known one (RELAX NG Specification, sections 6.2.8 and 6.2.9)
 abbrev pub type_named_by : Simple → Option BuiltInType
 type_named_by simple.NotAllowed = None
 type_named_by simple.Empty = None
@@ -32,6 +32,6 @@ type_named_by (simple.Choice a b) = None
 abbrev pub type_at : Datatypes → ℕ → Option BuiltInType
 type_at datatypes k = option_map built_in_type_of (get same_position.ghosts.eq datatypes.by_position (record { 0 = k }))
 
--- at the position of each pattern of the grammar the type is kept that it names
+-- for each pattern of the grammar the type that it names is kept at its position
 abbrev pub AreDatatypesOf : Table → Datatypes → Type 0
 AreDatatypesOf t datatypes = (k : ℕ) (row : Simple) → slice_get t.patterns k ≡ Some row → type_at datatypes k ≡ type_named_by row
