@@ -1,9 +1,8 @@
 -- Declarations whose slots are not set are not there.
-use Rattle.std.proofs.Common.{◌≡◌, Bool, true, false, ◌||◌, ℕ, ◌≤◌, ◌-◌, List, [], ◌∷◌, map, refl, sym, ap, ◌∙◌, length, get_or, take, drop, arith}
+use Rattle.std.proofs.Common.{◌≡◌, Bool, true, false, ◌||◌, ℕ, ◌≤◌, ◌-◌, List, [], ◌∷◌, map, refl, sym, ap, ◌∙◌, length, get_or, take, drop}
 use Rattle.std.proofs.Common.{string_bytes}
 use Rattle.std.specs.List.{between}
 use Rattle.std.proofs.lemmas.Slice.{first_rest}
-use Rattle.rng_model.specs.documents.PyxNamespaces as model
 use Rattle.pyx.specs.declared.written.WrittenAttribute.{WrittenAttribute}
 use Rattle.pyx.specs.plain.LineReader.{written_of}
 use Rattle.pyx.specs.plain.Slots.{AreAllMet, is_met}
@@ -34,10 +33,3 @@ unmet_written a slots more e met t = rw (not_written (string_bytes a.name) slots
 pub first_written : (attributes : List WrittenAttribute) (first : WrittenAttribute) → 1 ≤ length attributes → first ≡ get_or attributes 0 first
     → attributes ≡ first ∷ take (length attributes - 1) (drop 1 attributes)
 first_written attributes first some e = first_rest attributes first some ∙ ap (λ (a : WrittenAttribute). a ∷ between 1 (length attributes) attributes) (sym e)
-
--- one declaration is no two
-pub written_once : (all : List model.WrittenAttribute) → length all ≤ 1 → is_written_twice all ≡ false
-unfolding is_written_twice is_written_in
-written_once [] h = refl
-written_once (a ∷ []) h = refl
-written_once (a ∷ b ∷ more) h = absurd (omega (arith, h))

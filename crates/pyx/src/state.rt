@@ -146,7 +146,7 @@ impl State {
         if any_forbidden(declarations.as_slice()) {
             return Err(LineFault::Clause(11));
         }
-        let twice = declarations.len() > 1 && is_written_twice(declarations.as_slice());
+        let twice = is_written_twice(declarations.as_slice());
         self.in_tag = false;
         let at = self.elements.open(self.alloc, declarations)?;
         expand_attributes(

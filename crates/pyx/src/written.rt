@@ -18,6 +18,9 @@ pub const XMLNS_URI: &str = "http://www.w3.org/2000/xmlns/";
 /// The namespace of the prefix `xml`.
 pub const XML_URI: &str = "http://www.w3.org/XML/1998/namespace";
 
+/// The most declarations that are compared in pairs. For more it costs less to clear the slots.
+const PAIRED_LIMIT: usize = 24;
+
 /// The content of an `A` line: a name as it is written, and its value with escapes replaced.
 #[derive(Drop)]
 pub struct WrittenAttribute {
@@ -151,12 +154,27 @@ fn is_repeated(attributes: &[WrittenAttribute], slots: &mut [bool; SLOT_COUNT]) 
     }
 }
 
-/// Returns whether two of these have the same name. It is not inlined, so a tag of one declaration clears no slots.
+/// Returns whether two of these have the same name. Only this function holds the slots, so few declarations do not clear
+/// them.
 #[inline(never)]
-pub fn is_written_twice(attributes: &[WrittenAttribute]) -> bool
+fn is_written_twice_by_slots(attributes: &[WrittenAttribute]) -> bool
     ensures { result ≡ is_written_twice (map written_attribute attributes.now) }
 {
     is_repeated(attributes, &mut [false; SLOT_COUNT])
+}
+
+/// Returns whether two of these have the same name.
+#[tactic(auto, unfolding(crate::specs::plain::TagReader::is_written_twice))]
+pub fn is_written_twice(attributes: &[WrittenAttribute]) -> bool
+    ensures { result ≡ is_written_twice (map written_attribute attributes.now) }
+{
+    if attributes.len() > PAIRED_LIMIT {
+        return is_written_twice_by_slots(attributes);
+    }
+    match attributes {
+        [first, rest @ ..] => is_written_in(first.name.as_str(), rest) || is_written_twice(rest),
+        [] => false,
+    }
 }
 
 /// Returns the number of bytes in a name.
