@@ -53,6 +53,13 @@ def schemas():
         f"start = element a {{ element * - ({names('n', COUNT)}) {{ empty }}* & ({lists('&', elements('n', COUNT))}) }}",
     )
     yield (
+        "100 elements of any name of a namespace but 900, interleaved",
+        "".join(f'namespace p{i} = "u{i}"\n' for i in range(100))
+        + "start = element a { "
+        + " & ".join(f"element p{i}:* - (" + "|".join(f"p{i}:n{j}" for j in range(900)) + ") { empty }" for i in range(100))
+        + " }",
+    )
+    yield (
         "500 namespaces of attributes, each repeated",
         "".join(f'namespace p{i} = "u{i}"\n' for i in range(500))
         + "start = element a { " + ", ".join(f"attribute p{i}:* {{ text }}*" for i in range(500)) + " }",
