@@ -1,5 +1,5 @@
 pub mod OnePiece
-pub mod SameItems
+pub mod CollapsedBytes
 pub mod TextValues
 pub mod Decimals
 pub mod Finding

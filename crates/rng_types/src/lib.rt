@@ -11,6 +11,7 @@ mod lengths;
 mod numerals;
 mod parameters;
 mod plain;
+mod runs;
 mod texts;
 mod values;
 

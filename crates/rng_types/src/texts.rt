@@ -5,9 +5,10 @@ ghost use Rattle.rng_model.specs.datatypes.Datatypes.{xsd_string, xsd_token, xsd
 ghost use Rattle.rng_model.proofs.ValueLaws as laws;
 ghost use Rattle.rng_types.specs.views.View.{lengths_of};
 
-use crate::collapsed::{char_count, collapsed_char_count, is_same_collapsed, only_piece};
+use crate::collapsed::{char_count, collapsed_char_count, only_piece};
 use crate::datatype::Datatype;
 use crate::lengths::Lengths;
+use crate::runs::is_same_collapsed;
 use rng_model::{is_name_char, is_ncname};
 
 /// `string`: every text whose characters are as many as allowed, and each is equal to itself alone.
@@ -32,7 +33,7 @@ impl Datatype for XsdString {
     ghost equal_transitive = { λ d u v w e f. laws.equal_transitive (xsd_string (lengths_of d.lengths)) u v w e f };
 
     fn allows(&self, text: &str) -> bool {
-        self.lengths.allow(char_count(text))
+        self.lengths.allow_all() || self.lengths.allow(char_count(text))
     }
 
     fn equal(&self, a: &str, b: &str) -> bool {
@@ -63,7 +64,7 @@ impl Datatype for XsdToken {
     ghost equal_transitive = { λ d u v w e f. laws.equal_transitive (xsd_token (lengths_of d.lengths)) u v w e f };
 
     fn allows(&self, text: &str) -> bool {
-        self.lengths.allow(collapsed_char_count(text))
+        self.lengths.allow_all() || self.lengths.allow(collapsed_char_count(text))
     }
 
     fn equal(&self, a: &str, b: &str) -> bool {
