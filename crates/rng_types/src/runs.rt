@@ -10,7 +10,7 @@ ghost use Rattle.rng_types.specs.plain.Runs.{past_blanks, from_run};
 fn is_blank_byte(byte: u8) -> bool
     ensures { result ≡ is_blank_byte byte }
 {
-    matches!(byte, b' ' | b'\t' | b'\n' | b'\r')
+    byte <= b' ' && matches!(byte, b' ' | b'\t' | b'\n' | b'\r')
 }
 
 // whether all bytes are blanks
