@@ -14,6 +14,7 @@ mod plain;
 mod runs;
 mod texts;
 mod values;
+mod words;
 
 pub use builtin::{Builtin, TypeFault};
 pub use datatype::{Datatype, are_all_equal};

@@ -9,6 +9,7 @@ use crate::collapsed::{char_count, collapsed_char_count, only_piece};
 use crate::datatype::Datatype;
 use crate::lengths::Lengths;
 use crate::runs::is_same_collapsed;
+use crate::words::{ascii_word, starts_name};
 use rng_model::{is_name_char, is_ncname};
 
 /// `string`: every text whose characters are as many as allowed, and each is equal to itself alone.
@@ -95,6 +96,11 @@ impl Datatype for NcName {
     ghost equal_transitive = { λ d u v w e f. laws.equal_transitive (xsd_ncname (lengths_of d.lengths)) u v w e f };
 
     fn allows(&self, text: &str) -> bool {
+        if let Some(word) = ascii_word(text)
+            && starts_name(word)
+        {
+            return self.lengths.allow(word.len());
+        }
         match only_piece(text) {
             Some(name) => is_ncname(name) && self.lengths.allow(char_count(name)),
             None => false,
@@ -129,6 +135,9 @@ impl Datatype for NmToken {
     ghost equal_transitive = { λ d u v w e f. laws.equal_transitive (xsd_nmtoken (lengths_of d.lengths)) u v w e f };
 
     fn allows(&self, text: &str) -> bool {
+        if let Some(word) = ascii_word(text) {
+            return self.lengths.allow(word.len());
+        }
         match only_piece(text) {
             Some(token) => is_nmtoken(token) && self.lengths.allow(char_count(token)),
             None => false,
